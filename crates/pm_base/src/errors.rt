@@ -1,0 +1,41 @@
+//! The two faults that carry nothing.
+
+use std::alloc::{AllocError, AllocFailed};
+use std::error::Error;
+use std::fmt;
+
+/// Memory ran out.
+#[derive(Clone, Copy, Debug, PartialEq, Eq)]
+pub struct NoMemory;
+
+impl fmt::Display for NoMemory {
+    fn fmt<W: fmt::Write>(&self, f: &mut fmt::Formatter<W>) -> fmt::Result {
+        f.write_str("out of memory")
+    }
+}
+
+impl Error for NoMemory {}
+
+impl From<AllocError> for NoMemory {
+    fn from(_error: AllocError) -> NoMemory {
+        NoMemory
+    }
+}
+
+impl<T: Drop> From<AllocFailed<T>> for NoMemory {
+    fn from(_failed: AllocFailed<T>) -> NoMemory {
+        NoMemory
+    }
+}
+
+/// A file or a stream failed.
+#[derive(Clone, Copy, Debug, PartialEq, Eq)]
+pub struct Failed;
+
+impl fmt::Display for Failed {
+    fn fmt<W: fmt::Write>(&self, f: &mut fmt::Formatter<W>) -> fmt::Result {
+        f.write_str("reading or writing failed")
+    }
+}
+
+impl Error for Failed {}
