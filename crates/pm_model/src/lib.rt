@@ -1,0 +1,17 @@
+//! Plans and lines, and the definitions that every promise of the product is a sentence over.
+//!
+//! The types stand here; `specs/` says in plain lists and numbers what they mean.
+#![tactic(auto)]
+
+mod event;
+mod items;
+mod named;
+mod rows;
+
+pub use event::{Command, Event, Fields, Helper, Line, TimerAct, Word, WorkAct};
+pub use items::Items;
+pub use named::{Named, NamedList};
+pub use rows::{
+    CallerList, CallerRow, Codes, DeviceList, DeviceRow, DomainList, DomainRow, LinkList, LinkRow,
+    Name, Script,
+};
