@@ -42,6 +42,18 @@ pub enum Helper {
     LinkDel,
 }
 
+/// What a helper takes besides its device.
+#[derive(Clone, Copy, Debug, PartialEq, Eq)]
+pub enum Operand {
+    Nothing,
+    /// A number of milliseconds.
+    Milliseconds,
+    /// `on` or `off`.
+    Switch,
+    /// A second device, the supplier of a link.
+    Supplier,
+}
+
 /// One command of a script.
 #[derive(Clone, Copy, Debug, PartialEq, Eq)]
 pub struct Command {

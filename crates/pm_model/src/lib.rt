@@ -8,7 +8,7 @@ mod items;
 mod named;
 mod rows;
 
-pub use event::{Command, Event, Fields, Helper, Line, TimerAct, Word, WorkAct};
+pub use event::{Command, Event, Fields, Helper, Line, Operand, TimerAct, Word, WorkAct};
 pub use items::Items;
 pub use named::{Named, NamedList};
 pub use rows::{
