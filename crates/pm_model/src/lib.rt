@@ -6,12 +6,21 @@
 mod event;
 mod items;
 mod named;
+mod plan;
 mod rows;
+mod stage;
+mod views;
 
 pub use event::{Command, Event, Fields, Helper, Line, Operand, TimerAct, Word, WorkAct};
 pub use items::Items;
 pub use named::{Named, NamedList};
+pub use plan::Plan;
 pub use rows::{
     CallerList, CallerRow, Codes, DeviceList, DeviceRow, DomainList, DomainRow, LinkList, LinkRow,
     Name, Script,
 };
+pub use stage::{
+    Await, ControlStage, Handed, HelperStage, IdleStage, Move, Purpose, ResumeCall, ResumeStage,
+    Stage, Stages, SuspendStage, Then,
+};
+pub use views::Device;

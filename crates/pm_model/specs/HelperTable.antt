@@ -1,0 +1,148 @@
+-- The rows of the helpers that no control function is, of work items and of timers (runtime_pm.rst, section 4).
+use Rattle.std.specs.Prelude.{ℕ, Bool, true, false, not, ◌&&◌, List, [], ◌∷◌, Option, Some, None, ℤ, pos, nat_abs, nat_eq, ◌+◌, if◌then◌else◌}
+use Rattle.std.specs.Option.{option_map_or}
+use Rattle.pm_base.specs.declared.DevId.{DevId}
+use Rattle.pm_base.specs.declared.Req.{Req}
+use Rattle.pm_base.specs.declared.Req.TheVariants as req
+use Rattle.pm_base.specs.declared.Why.TheVariants as why
+use Rattle.pm_base.specs.declared.codes.TheConstants.{EINVAL}
+use Rattle.pm_model.specs.declared.event.Command.{Command}
+use Rattle.pm_model.specs.declared.event.Event.TheVariants as event
+use Rattle.pm_model.specs.declared.event.Helper.{Helper}
+use Rattle.pm_model.specs.declared.event.Helper.TheVariants as helper
+use Rattle.pm_model.specs.declared.event.TimerAct.TheVariants.{Fire}
+use Rattle.pm_model.specs.declared.event.WorkAct.TheVariants.{Run}
+use Rattle.pm_model.specs.declared.plan.Plan.{Plan}
+use Rattle.pm_model.specs.declared.stage.Await.TheVariants as await
+use Rattle.pm_model.specs.declared.stage.ControlStage.TheVariants as control
+use Rattle.pm_model.specs.declared.stage.HelperStage.{HelperStage}
+use Rattle.pm_model.specs.declared.stage.HelperStage.TheVariants as at
+use Rattle.pm_model.specs.declared.stage.IdleStage.TheVariants as idle
+use Rattle.pm_model.specs.declared.stage.Purpose.TheVariants.{Plain}
+use Rattle.pm_model.specs.declared.stage.ResumeStage.TheVariants as resume
+use Rattle.pm_model.specs.declared.stage.Stage.{Stage}
+use Rattle.pm_model.specs.declared.stage.Stage.TheVariants as stage
+use Rattle.pm_model.specs.declared.stage.SuspendStage.TheVariants as suspend
+use Rattle.pm_model.specs.declared.stage.Then.{Then}
+use Rattle.pm_model.specs.Views.{Views, device, pending_of, timer}
+use Rattle.pm_model.specs.Changes.{same, has_auto_timer}
+use Rattle.pm_model.specs.Derived.{fields, is_active, is_disabled, is_in_use, first_of}
+use Rattle.pm_model.specs.Row.{Row, writes, ret, suspends, goes, calls, back}
+
+-- the flags of a helper (runtime_pm.rst, section 4; RPM_ASYNC 1, RPM_GET_PUT 4, RPM_AUTO 8)
+abbrev pub flags_of : Helper → ℕ
+flags_of helper.GetSync = 4
+flags_of helper.Get = 5
+flags_of helper.RequestResume = 1
+flags_of helper.Put = 5
+flags_of helper.PutSync = 4
+flags_of helper.PutAutosuspend = 13
+flags_of helper.PutSyncSuspend = 4
+flags_of helper.PutSyncAutosuspend = 12
+flags_of helper.RequestIdle = 1
+flags_of helper.Autosuspend = 8
+flags_of helper.RequestAutosuspend = 9
+flags_of helper.ScheduleSuspend = 1
+flags_of _ = 0
+
+-- the first stages of idle, of suspend and of a resume for the device itself
+abbrev pub to_idle : DevId → ℕ → Stage
+to_idle d f = stage.Idle (idle.Enter d f)
+
+abbrev pub to_suspend : DevId → ℕ → Stage
+to_suspend d f = stage.Suspend (suspend.Enter d f)
+
+abbrev pub to_resume : DevId → ℕ → Stage
+to_resume d f = stage.Resume (resume.Enter (record { dev = d; flags = f; held = false; purpose = Plain }))
+
+-- where a command goes on after its call line, written at t
+abbrev pub begins : Command → ℕ → Then
+begins c t =
+    let its_code = await.Return c.helper c.dev in
+    let f = flags_of c.helper in
+    elim c.helper as (λ _. Then) [
+      | helper.Resume ↦ calls (to_resume c.dev f) its_code
+      | helper.RequestResume ↦ calls (to_resume c.dev f) its_code
+      | helper.Idle ↦ calls (to_idle c.dev f) its_code
+      | helper.RequestIdle ↦ calls (to_idle c.dev f) its_code
+      | helper.Suspend ↦ calls (to_suspend c.dev f) its_code
+      | helper.Autosuspend ↦ calls (to_suspend c.dev f) its_code
+      | helper.RequestAutosuspend ↦ calls (to_suspend c.dev f) its_code
+      | helper.Delay ↦ goes (stage.Helper (at.Delay c.number t))
+      | helper.GetSync ↦ goes (stage.Helper (at.Start c))
+      | helper.Get ↦ goes (stage.Helper (at.Start c))
+      | helper.GetNoresume ↦ goes (stage.Helper (at.Start c))
+      | helper.GetIfInUse ↦ goes (stage.Helper (at.Start c))
+      | helper.GetIfActive ↦ goes (stage.Helper (at.Start c))
+      | helper.Put ↦ goes (stage.Helper (at.Start c))
+      | helper.PutSync ↦ goes (stage.Helper (at.Start c))
+      | helper.PutNoidle ↦ goes (stage.Helper (at.Start c))
+      | helper.PutAutosuspend ↦ goes (stage.Helper (at.Start c))
+      | helper.PutSyncSuspend ↦ goes (stage.Helper (at.Start c))
+      | helper.PutSyncAutosuspend ↦ goes (stage.Helper (at.Start c))
+      | _ ↦ goes (stage.Control (control.Start c))
+    ]
+
+abbrev pub returning : Helper → DevId → ℤ → Then
+returning h d c = goes (stage.Helper (at.Ret h d c))
+
+-- a get that may not resume
+abbrev pub gets_if : Views → Command → Bool → Row
+gets_if v c holds =
+    first_of (
+    (is_disabled v c.dev, ret c.helper c.dev EINVAL same)
+    ∷ (is_active v c.dev && holds, writes (event.Get c.dev why.Caller) same (returning c.helper c.dev (pos 1)))
+    ∷ []) (ret c.helper c.dev (pos 0) same)
+
+-- a put finds a count that a caller took
+abbrev pub puts : Views → Command → Then → Row
+puts v c next =
+    first_of ((nat_eq (device v c.dev).share 0, ret c.helper c.dev EINVAL same) ∷ []) (writes (event.Put c.dev why.Caller) same next)
+
+-- the line after the call line; of the other helpers none comes here
+unfoldable pub helper_starts : Views → Command → Row
+helper_starts v c =
+    let h = c.helper in
+    let d = c.dev in
+    let f = flags_of h in
+    elim h as (λ _. Row) [
+      | helper.GetSync ↦ writes (event.Get d why.Caller) same (calls (to_resume d f) (await.Return h d))
+      | helper.Get ↦ writes (event.Get d why.Caller) same (calls (to_resume d f) (await.Return h d))
+      | helper.GetNoresume ↦ writes (event.Get d why.Caller) same (returning h d (pos 0))
+      | helper.GetIfInUse ↦ gets_if v c (is_in_use v d)
+      | helper.GetIfActive ↦ gets_if v c true
+      | helper.Put ↦ puts v c (calls (stage.Idle (idle.Given d f)) (await.Return h d))
+      | helper.PutSync ↦ puts v c (calls (stage.Idle (idle.Given d f)) (await.Return h d))
+      | helper.PutAutosuspend ↦ puts v c (goes (stage.Helper (at.Given c)))
+      | helper.PutSyncSuspend ↦ puts v c (goes (stage.Helper (at.Given c)))
+      | helper.PutSyncAutosuspend ↦ puts v c (goes (stage.Helper (at.Given c)))
+      | helper.PutNoidle ↦ puts v c (returning h d (pos 0))
+      | _ ↦ ret h d (pos 0) same
+    ]
+
+-- a put that goes on to suspend where nothing else counts
+unfoldable pub put_suspends : Plan → Views → Command → Row
+put_suspends plan v c =
+    let f = flags_of c.helper in
+    first_of ((is_in_use v c.dev, writes (event.Usage c.dev (fields plan v c.dev f)) same (returning c.helper c.dev (pos 0))) ∷ [])
+    (suspends plan v c.dev f (stage.Await (await.Return c.helper c.dev) ∷ []))
+
+-- what a work item carries out
+abbrev pub carries_out : DevId → Req → Then
+carries_out d req.Nothing = back (pos 0)
+carries_out d req.Idle = goes (to_idle d 2)
+carries_out d req.Suspend = goes (to_suspend d 2)
+carries_out d req.Autosuspend = goes (to_suspend d 10)
+carries_out d req.Resume = goes (to_resume d 2)
+
+unfoldable pub timer_fires : Views → DevId → Row
+timer_fires v d = writes (event.Timer d (Fire (has_auto_timer v d))) same (goes (to_suspend d (if has_auto_timer v d then 9 else 1)))
+
+abbrev pub helper_row : Plan → Views → HelperStage → ℕ → Row
+helper_row plan v (at.Call c) t = writes (event.Call c) same (begins c t)
+helper_row plan v (at.Work d) t = writes (event.Work d (Run (pending_of v d).request)) same (carries_out d (pending_of v d).request)
+helper_row plan v (at.Timer d) t = timer_fires v d
+helper_row plan v (at.Start c) t = helper_starts v c
+helper_row plan v (at.Given c) t = put_suspends plan v c
+helper_row plan v (at.Delay ms since) t = ret helper.Delay (record { 0 = 0 }) (pos 0) same
+helper_row plan v (at.Ret h d c) t = ret h d c same
