@@ -65,12 +65,18 @@ was_disabled_at_entry plan (line ∷ h) d p =
     let v = (world plan h).views in
     if is_entry plan v d line.event then is_disabled v p else was_disabled_at_entry plan h d p
 
+-- some line is an entry of d
+abbrev pub has_entered : Plan → List Line → DevId → Bool
+has_entered plan [] d = false
+has_entered plan (line ∷ h) d = is_entry plan (world plan h).views d line.event || has_entered plan h d
+
 -- p ignored its children at the entry line of d or at a line after it
 abbrev pub ignored_since_entry : Plan → List Line → DevId → DevId → Bool
 ignored_since_entry plan [] d p = false
 ignored_since_entry plan (line ∷ h) d p =
     let v = (world plan h).views in
-    if (device v p).ignores then true else if is_entry plan v d line.event then false else ignored_since_entry plan h d p
+    if (device v p).ignores then has_entered plan (line ∷ h) d
+    else if is_entry plan v d line.event then false else ignored_since_entry plan h d p
 
 -- some line passes the test, on the world before it, since d was last Suspended
 abbrev pub since_suspended : Plan → (World → Line → Bool) → List Line → DevId → Bool
@@ -94,14 +100,15 @@ is_answer l (await.ResumeSupplier r link) = nat_eq l link
 is_answer l (await.ActiveSupplier d link) = nat_eq l link
 is_answer l _ = false
 
-abbrev pub handed_further : Handed → ℤ → (ℤ → Bool) → Bool
-handed_further (handed.Goes s) c further = false
-handed_further (handed.Back k) c further = further k
+-- what comes of a code that is handed on
+abbrev pub handed_further : Handed → (ℤ → Bool) → Bool
+handed_further (handed.Goes s) further = false
+handed_further (handed.Back k) further = further k
 
 -- the code that is handed down this stack comes to the resume of link l's supplier as -13
 abbrev pub denies : ℕ → List Stage → ℤ → Bool
 denies l [] c = false
-denies l (stage.Await a ∷ rest) c = (is_answer l a && int_eq c EACCES) || handed_further (take_code a c) c (denies l rest)
+denies l (stage.Await a ∷ rest) c = (is_answer l a && int_eq c EACCES) || handed_further (take_code a c) (denies l rest)
 denies l (s ∷ rest) c = false
 
 abbrev pub denies_back : ℕ → List Stage → Option ℤ → Bool
