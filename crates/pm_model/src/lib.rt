@@ -4,14 +4,17 @@
 #![tactic(auto)]
 
 mod event;
+mod handing;
 mod items;
 mod named;
 mod plan;
 mod rows;
+mod same;
 mod stage;
 mod views;
 
 pub use event::{Command, Event, Fields, Helper, Line, Operand, TimerAct, Word, WorkAct};
+pub use handing::{is_supplied, take_code};
 pub use items::Items;
 pub use named::{Named, NamedList};
 pub use plan::Plan;
