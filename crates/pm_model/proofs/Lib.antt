@@ -1,2 +1,3 @@
 pub mod NameSearch
 pub mod PlaceNamed
+pub mod CommonLen

@@ -1,12 +1,12 @@
 -- What a search in an order of names finds.
-use Rattle.std.proofs.Common.{◌≡◌, ◌≢◌, ℕ, ◌<◌, ◌≤◌, true, false, List, [], length, get_or, Some, None, Ordering, Less, Equal, Greater, refl, sym, ap, ◌∙◌, inl, inr, zero-add, arith}
+use Rattle.std.proofs.Common.{◌≡◌, ◌≢◌, ℕ, ◌<◌, ◌≤◌, Bool, true, false, List, [], length, get_or, Some, None, Ordering, Less, Equal, Greater, refl, sym, ap, ◌∙◌, inl, inr, zero-add, arith}
 use Rattle.std.specs.Cmp.{IsTotalOrder, IsStrictWeakOrder}
 use Rattle.std.specs.Cmp.Lexicographic.{slice_cmp}
 use denote.Param.Members.{Mut}
 use denote.Ref.{Bor}
-use Rattle.std.specs.Fn.{Called, ComparesAs}
+use Rattle.std.specs.Fn.{Called, ComparesAs, ComputesKey}
 use Rattle.std.specs.List.{All, Contains, range_with_len}
-use Rattle.std.specs.List.Sorted.{IsPartitionedBy, IsSorted, IsSortedByClosure}
+use Rattle.std.specs.List.Sorted.{IsPartitionPoint, IsPartitionedBy, IsSorted, IsSortedByClosure}
 use Rattle.std.specs.Ordering.{is_lt, is_eq, nat_cmp, ordering_reverse, ordering_then}
 use Rattle.std.specs.Str.{bytes_eq}
 use Rattle.std.proofs.lemmas.Bool.{cases_lt, false≢true, true≢false}
@@ -15,11 +15,12 @@ use Rattle.std.proofs.lemmas.Cmp.{nat_cmp_total, nat_list_cmp_total, on_total, t
 use Rattle.std.proofs.lemmas.Fn.{always_returns_same}
 use Rattle.std.proofs.lemmas.List.{get_or_default}
 use Rattle.std.proofs.lemmas.List.FromFn.{get_or-range_with_len, length-range_with_len}
-use Rattle.std.proofs.lemmas.List.Sorted.{All-permutation, Contains-permutation, ranks_by, sorted_far}
+use Rattle.std.proofs.lemmas.List.Sorted.{All-permutation, Contains-permutation, IsPartitionPoint-from_clause, ranks_by, sorted_far}
 use Rattle.std.proofs.lemmas.Map.Text.{is_eq-slice_cmp}
 use Rattle.std.proofs.lemmas.Slice.Eq.{bytes_eq-Decides}
 use Rattle.pm_model.proofs.PlaceNamed.{not_same, position-first, position-none}
-use Rattle.pm_model.specs.NameOrder.{IsNameOrder, IsPlaceInOrder, by_name, is_before, name_at, place_named}
+use Rattle.pm_model.specs.NameOrder.{IsNameOrder, IsPlaceInOrder, by_name, is_before, name_at}
+use Rattle.pm_model.specs.NamedList.{place_named}
 
 -- the order by name is an order
 by_name_total : (names : List (List ℕ)) → IsTotalOrder (by_name names)
@@ -52,7 +53,7 @@ stands_in_order names order is place below =
     Contains-permutation range order place is.places here
 
 -- texts in the order of bytes
-names_rank : IsStrictWeakOrder (λ (x y : List ℕ). is_lt (slice_cmp nat_cmp x y))
+pub names_rank : IsStrictWeakOrder (λ (x y : List ℕ). is_lt (slice_cmp nat_cmp x y))
 names_rank = ranks_by nat_list_cmp_total (λ name. name)
 
 -- what stands before no earlier text, stands before what that one stands before
@@ -83,11 +84,22 @@ second_decides o p tied h = rw tied at h
 not_less : (a b : ℕ) → is_lt (nat_cmp a b) ≡ false → b ≤ a
 not_less a b h = grind (arith, nat_tests)
 
+-- names do not fall along the order
+pub in_order : (names : List (List ℕ)) (order : List ℕ) → IsNameOrder names order → (i j : ℕ) → i ≤ j → j < length order → is_lt (slice_cmp nat_cmp (name_at names (get_or order j 0)) (name_at names (get_or order i 0))) ≡ false
+in_order names order is i j le below = first_decides _ _ (sorted_far (λ a b. is_lt (by_name names a b)) (by_name_ranks names) order is.sorted i j 0 le below)
+
 -- those before a name stand before the others in the order
-pub partitioned_by_name : (names : List (List ℕ)) (order : List ℕ) → IsNameOrder names order → (name : List ℕ) → IsPartitionedBy (is_before names name) order
+partitioned_by_name : (names : List (List ℕ)) (order : List ℕ) → IsNameOrder names order → (name : List ℕ) → IsPartitionedBy (is_before names name) order
 partitioned_by_name names order is name i j d le below before =
     let up = sorted_far (λ a b. is_lt (by_name names a b)) (by_name_ranks names) order is.sorted i j d le below in
     before_last (name_at names (get_or order i d)) (name_at names (get_or order j d)) name (first_decides _ _ up) before
+
+-- what a search by a closure gives, where each call tests a place by name
+pub split_by_name : (names : List (List ℕ)) (order : List ℕ) → IsNameOrder names order → (name : List ℕ) {F : Type 0} {g : Mut F (Bor ℕ × Unit {0}) Bool} {f : F} (n : ℕ) → n ≤ length order → ((p : ℕ → Bool) → ComputesKey g p f → IsPartitionedBy p order → IsPartitionPoint (λ place. p place ≡ true) (λ place. p place ≡ false) order n) → ((a : Bor ℕ × Unit {0}) (r : Bool) (f' : F) → Called g f a r f' → (r ≡ is_before names name a.0.now) × (f' ≡ f)) → IsPlaceInOrder names order name n
+split_by_name names order is name n in_range split tests = record {
+  in_range = in_range;
+  split = IsPartitionPoint-from_clause (is_before names name) order n split (partitioned_by_name names order is name) tests;
+}
 
 -- a row of a name, or an earlier one, stands where the name's place in the order is
 pub record IsFound (names : List (List ℕ)) (order : List ℕ) (name : List ℕ) (at place : ℕ) : Type 0 where

@@ -1,15 +1,10 @@
--- The row that a name names, and the order of names by which it is found.
-use Rattle.std.specs.Prelude.{◌≡◌, ℕ, ◌≤◌, List, [], Bool, true, false, Option, length, position, slice_index_or}
+-- The order of names by which a row is found.
+use Rattle.std.specs.Prelude.{◌≡◌, ℕ, ◌≤◌, List, [], Bool, true, false, length, nat_eq, slice_index_or, if◌then◌else◌, nat_lt}
 use Rattle.std.specs.declared.cmp.Ordering.{Ordering}
 use Rattle.std.specs.Cmp.Lexicographic.{slice_cmp}
-use Rattle.std.specs.List.{range_with_len}
+use Rattle.std.specs.List.{common_prefix_len, range_with_len}
 use Rattle.std.specs.List.Sorted.{IsPartitionPoint, IsPermutation, IsSorted}
 use Rattle.std.specs.Ordering.{is_lt, nat_cmp, ordering_then}
-use Rattle.std.specs.Str.{bytes_eq}
-
--- the first place at which this name stands
-abbrev pub place_named : List ℕ → List (List ℕ) → Option ℕ
-place_named name names = position (bytes_eq name) names
 
 -- the name at a place, and no bytes past the end
 abbrev pub name_at : List (List ℕ) → ℕ → List ℕ
@@ -32,3 +27,7 @@ is_before names name place = is_lt (slice_cmp nat_cmp (name_at names place) name
 pub record IsPlaceInOrder (names : List (List ℕ)) (order : List ℕ) (name : List ℕ) (n : ℕ) : Type 0 where
   pub in_range : n ≤ length order
   pub split : IsPartitionPoint (λ place. is_before names name place ≡ true) (λ place. is_before names name place ≡ false) order n
+
+-- how many bytes these and the name at an index of the order have in common from the front, and 0 past the end
+abbrev pub common_at : List (List ℕ) → List ℕ → List ℕ → ℕ → ℕ
+common_at names order bytes at = if nat_lt at (length order) then common_prefix_len nat_eq bytes (name_at names (slice_index_or order at 0)) else 0

@@ -1,11 +1,10 @@
 //! A list whose rows have names.
 
-ghost use Rattle.std.specs.Prelude.{◌≡◌, ◌↔◌, List, [], ℕ, ◌<◌, ◌^◌, Contains, IfNone, IfOk, IfSome, IsTrue, length, map, slice_get, vec_len};
-ghost use Rattle.std.specs.List.{range_with_len};
+ghost use Rattle.std.specs.Prelude.{◌≡◌, ◌↔◌, List, [], ℕ, ◌<◌, ◌^◌, Contains, IfNone, IfOk, IfSome, IsTrue, length, map, slice_get, nat_eq, vec_len};
+ghost use Rattle.std.specs.List.{common_prefix_len, range_with_len};
 ghost use Rattle.std.specs.Option.{option_copied};
-ghost use Rattle.std.specs.Ordering.{is_lt, nat_cmp};
-ghost use Rattle.std.specs.Cmp.Lexicographic.{slice_cmp};
-ghost use Rattle.pm_model.specs.NameOrder.{IsNameOrder, IsPlaceInOrder, by_name, name_at, place_named};
+ghost use Rattle.pm_model.specs.NameOrder.{IsNameOrder, IsPlaceInOrder, by_name, common_at, is_before, name_at};
+ghost use Rattle.pm_model.specs.NamedList.{common_len, place_named};
 
 use crate::rows::Name;
 use pm_base::NoMemory;
@@ -27,6 +26,7 @@ pub trait Named {
 #[derive(Debug, Drop)]
 pub struct NamedList<T: Named> {
     rows: Vec<T>,
+    // The places of the rows, sorted by name, and rows of one name by place.
     order: Vec<u32>,
 }
 
@@ -95,6 +95,14 @@ impl<T: Named> NamedList<T> {
         find(&self.rows, &self.order, name)
     }
 
+    /// How many first bytes of these are the first bytes of some row's name, at most, and 0 where
+    /// there is no row. It compares a logarithmic number of names and takes no memory.
+    pub fn common_len(&self, bytes: &[u8]) -> usize
+        ensures { result ≡ common_len bytes.now (map T.name_of self.now) }
+    {
+        common_len(&self.rows, &self.order, bytes)
+    }
+
     /// The rows, in the plan's order.
     pub fn as_slice(&self) -> &[T]
         ensures { result.now ≡ self.now }
@@ -122,7 +130,7 @@ fn compare<T: Named>(rows: &[T], a: u32, b: u32) -> Ordering
 
 // Whether the name at a place stands before this name.
 fn is_before<T: Named>(rows: &[T], place: u32, name: &[u8]) -> bool
-    ensures { result ≡ is_lt (slice_cmp nat_cmp (name_at (map T.name_of rows.now) place) name.now) }
+    ensures { result ≡ is_before (map T.name_of rows.now) name.now place }
 {
     name_at(rows, place).cmp(&name).is_lt()
 }
@@ -163,6 +171,41 @@ fn find<T: Named>(rows: &[T], order: &[u32], name: &[u8]) -> Option<usize>
     } else {
         None
     }
+}
+
+// How many bytes two texts have in common from the front.
+fn common_prefix_len(a: &[u8], b: &[u8]) -> usize
+    ensures { result ≡ common_prefix_len nat_eq a.now b.now }
+{
+    for (i, x) in a.iter().enumerate() {
+        if b.get(i) != Some(x) {
+            return i;
+        }
+    }
+    a.len()
+}
+
+// How many bytes these and the name at an index of the order have in common from the front, and 0
+// past the end of the order.
+fn common_at<T: Named>(rows: &[T], order: &[u32], at: usize, bytes: &[u8]) -> usize
+    ensures { result ≡ common_at (map T.name_of rows.now) order.now bytes.now at }
+{
+    match order.get(at) {
+        Some(place) => common_prefix_len(bytes, name_at(rows, *place)),
+        None => 0,
+    }
+}
+
+// The most that these bytes and a name have in common from the front. Sorted among the names, the
+// bytes stand between two of them that no other name exceeds. Where they stand before all names,
+// the first one is asked twice.
+fn common_len<T: Named>(rows: &[T], order: &[u32], bytes: &[u8]) -> usize
+    requires { IsNameOrder (map T.name_of rows.now) order.now }
+    ensures { result ≡ common_len bytes.now (map T.name_of rows.now) }
+{
+    let at = count_before(rows, order, bytes);
+    let before = common_at(rows, order, at.saturating_sub(1), bytes);
+    common_at(rows, order, at, bytes).max(before)
 }
 
 #[cfg(test)]
@@ -235,6 +278,30 @@ mod tests {
         let rows = list.into_vec();
         assert_eq!(rt; rows.len(), 2);
         assert_eq!(rt; rows[0].name.as_slice(), b"b".as_slice());
+        Ok(())
+    }
+
+    #[test]
+    fn the_longest_common_start_is_counted(rt: HostRuntime) -> Result<(), Fail> {
+        let list = listed(&rt, &[b"gpu", b"beta", b"alps", b"alpha", b"bet"])?;
+        let cases: [(&[u8], usize); 12] = [
+            (b"", 0),
+            (b"Al", 0),
+            (b"zeta", 0),
+            (b"a", 1),
+            (b"alarm", 2),
+            (b"alpine", 3),
+            (b"alpz", 3),
+            (b"alpha", 5),
+            (b"alphabet", 5),
+            (b"bez", 2),
+            (b"betas", 4),
+            (b"gpu\0", 3),
+        ];
+        for (bytes, len) in cases {
+            assert_eq!(rt; list.common_len(bytes), len, "{bytes:?}");
+        }
+        assert_eq!(rt; listed(&rt, &[])?.common_len(b"a"), 0);
         Ok(())
     }
 

@@ -1,5 +1,5 @@
 use Rattle.std.proofs.Common.{◌≡◌, map}
-use Rattle.pm_model.specs.NameOrder.{place_named}
+use Rattle.pm_model.specs.NamedList.{place_named}
 use Rattle.pm_model.proofs.PlaceNamed.{place_named-found, place_named-missing}
 use Rattle.pm_model.proofs.named.NamedList.find.Goals as goal
 
