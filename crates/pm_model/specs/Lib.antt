@@ -17,3 +17,5 @@ pub mod World
 pub mod Lawful
 pub mod Serial
 pub mod Excuse
+pub mod NameOrder
+pub mod NamedList

@@ -1,8 +1,15 @@
 //! A list whose rows have names.
 
-ghost use Rattle.std.specs.Prelude.{◌≡◌, List, ℕ};
+ghost use Rattle.std.specs.Prelude.{◌≡◌, ◌↔◌, List, [], ℕ, ◌<◌, ◌^◌, Contains, IfNone, IfOk, IfSome, IsTrue, length, map, slice_get, nat_eq, vec_len};
+ghost use Rattle.std.specs.List.{common_prefix_len, range_with_len};
+ghost use Rattle.std.specs.Option.{option_copied};
+ghost use Rattle.pm_model.specs.NameOrder.{IsNameOrder, IsPlaceInOrder, by_name, common_at, is_before, name_at};
+ghost use Rattle.pm_model.specs.NamedList.{common_len, place_named};
 
 use crate::rows::Name;
+use pm_base::NoMemory;
+use std::alloc::{AllocError, Global};
+use std::cmp::Ordering;
 use std::marker::Model;
 
 /// A row of a plan that has a name.
@@ -19,21 +26,302 @@ pub trait Named {
 #[derive(Debug, Drop)]
 pub struct NamedList<T: Named> {
     rows: Vec<T>,
+    // The places of the rows, sorted by name, and rows of one name by place.
+    order: Vec<u32>,
 }
 
 impl<T: Named> Model for NamedList<T> {
-    ghost use Rattle.std.specs.Prelude.{List};
+    ghost use Rattle.std.specs.Prelude.{List, map};
+    ghost use Rattle.pm_model.specs.NameOrder.{IsNameOrder};
 
     ghost Value = { List T };
 
     ghost view = { λ list. list.rows.items };
+
+    ghost invariant = { λ list. IsNameOrder (map T.name_of list.rows.items) list.order.items };
 }
 
 impl<T: Named> NamedList<T> {
+    /// The list of these rows, of which there are fewer than 2^32. Fails where memory runs out.
+    pub fn new(alloc: Global, rows: Vec<T>) -> Result<NamedList<T>, NoMemory>
+    where
+        T: Drop,
+        requires { vec_len rows < 2 ^ 32 }
+        ensures { IfOk result (λ list. list ≡ rows.items) }
+    {
+        let order = name_order(alloc, &rows)?;
+        Ok(NamedList { rows, order })
+    }
+
+    /// The rows as the `Vec` that holds them.
+    pub fn into_vec(self) -> Vec<T>
+        ensures { result.items ≡ self }
+    {
+        let NamedList { rows, order: _ } = self;
+        rows
+    }
+
+    /// How many rows there are.
+    pub fn len(&self) -> usize
+        ensures { result ≡ length self.now }
+    {
+        self.rows.len()
+    }
+
+    /// Whether there is no row.
+    pub fn is_empty(&self) -> bool
+        ensures { IsTrue result ↔ (self.now ≡ []) }
+    {
+        self.rows.is_empty()
+    }
+
+    /// The row at a place, counted from 0.
+    pub fn get(&self, place: usize) -> Option<&T>
+        ensures { option_copied result ≡ slice_get self.now place }
+    {
+        self.rows.get(place)
+    }
+
+    /// The place of the first row that has exactly this name, counted from 0. It compares a
+    /// logarithmic number of names and takes no memory.
+    pub fn find(&self, name: &[u8]) -> Option<usize>
+        ensures first { result ≡ place_named name.now (map T.name_of self.now) }
+
+        // What this says, in two words of the library and as an index.
+        ensures found { IfSome result (λ place. slice_get (map T.name_of self.now) place ≡ Some name.now) }
+        ensures missing { IfNone result (¬ Contains (map T.name_of self.now) name.now) }
+        ensures in_range { IfSome result (λ place. place < length self.now) }
+    {
+        find(&self.rows, &self.order, name)
+    }
+
+    /// How many first bytes of these are the first bytes of some row's name, at most, and 0 where
+    /// there is no row. It compares a logarithmic number of names and takes no memory.
+    pub fn common_len(&self, bytes: &[u8]) -> usize
+        ensures { result ≡ common_len bytes.now (map T.name_of self.now) }
+    {
+        common_len(&self.rows, &self.order, bytes)
+    }
+
     /// The rows, in the plan's order.
     pub fn as_slice(&self) -> &[T]
         ensures { result.now ≡ self.now }
     {
         &self.rows
+    }
+}
+
+// The name of the row at a place, and no bytes past the last row.
+fn name_at<T: Named>(rows: &[T], place: u32) -> &[u8]
+    ensures { result.now ≡ name_at (map T.name_of rows.now) place }
+{
+    match rows.get(place as usize) {
+        Some(row) => row.name().as_slice(),
+        None => &[],
+    }
+}
+
+// How two places stand in the order of names.
+fn compare<T: Named>(rows: &[T], a: u32, b: u32) -> Ordering
+    ensures { result ≡ by_name (map T.name_of rows.now) a b }
+{
+    name_at(rows, a).cmp(&name_at(rows, b)).then(a.cmp(&b))
+}
+
+// Whether the name at a place stands before this name.
+fn is_before<T: Named>(rows: &[T], place: u32, name: &[u8]) -> bool
+    ensures { result ≡ is_before (map T.name_of rows.now) name.now place }
+{
+    name_at(rows, place).cmp(&name).is_lt()
+}
+
+// The numbers from 0 up to this one.
+fn places(alloc: Global, count: u32) -> Result<Vec<u32>, AllocError>
+    ensures { IfOk result (λ v. v.items ≡ range_with_len 0 count) }
+{
+    (0..count).collect(alloc)
+}
+
+// The places of the rows in the order of names.
+fn name_order<T: Named>(alloc: Global, rows: &[T]) -> Result<Vec<u32>, NoMemory>
+    requires { length rows.now < 2 ^ 32 }
+    ensures { IfOk result (λ order. IsNameOrder (map T.name_of rows.now) order.items) }
+{
+    let mut order = places(alloc, rows.len() as u32)?;
+    order.sort_unstable_by(|a, b| compare(rows, *a, *b));
+    Ok(order)
+}
+
+// How many names stand before this one in the order of names.
+fn count_before<T: Named>(rows: &[T], order: &[u32], name: &[u8]) -> usize
+    requires { IsNameOrder (map T.name_of rows.now) order.now }
+    ensures { IsPlaceInOrder (map T.name_of rows.now) order.now name.now result }
+{
+    order.partition_point(|place| is_before(rows, *place, name))
+}
+
+// The place of the first row of this name.
+fn find<T: Named>(rows: &[T], order: &[u32], name: &[u8]) -> Option<usize>
+    requires { IsNameOrder (map T.name_of rows.now) order.now }
+    ensures { result ≡ place_named name.now (map T.name_of rows.now) }
+{
+    let place = *order.get(count_before(rows, order, name))?;
+    if name_at(rows, place) == name {
+        Some(place as usize)
+    } else {
+        None
+    }
+}
+
+// How many bytes two texts have in common from the front.
+fn common_prefix_len(a: &[u8], b: &[u8]) -> usize
+    ensures { result ≡ common_prefix_len nat_eq a.now b.now }
+{
+    for (i, x) in a.iter().enumerate() {
+        if b.get(i) != Some(x) {
+            return i;
+        }
+    }
+    a.len()
+}
+
+// How many bytes these and the name at an index of the order have in common from the front, and 0
+// past the end of the order.
+fn common_at<T: Named>(rows: &[T], order: &[u32], at: usize, bytes: &[u8]) -> usize
+    ensures { result ≡ common_at (map T.name_of rows.now) order.now bytes.now at }
+{
+    match order.get(at) {
+        Some(place) => common_prefix_len(bytes, name_at(rows, *place)),
+        None => 0,
+    }
+}
+
+// The most that these bytes and a name have in common from the front. Sorted among the names, the
+// bytes stand between two of them that no other name exceeds. Where they stand before all names,
+// the first one is asked twice.
+fn common_len<T: Named>(rows: &[T], order: &[u32], bytes: &[u8]) -> usize
+    requires { IsNameOrder (map T.name_of rows.now) order.now }
+    ensures { result ≡ common_len bytes.now (map T.name_of rows.now) }
+{
+    let at = count_before(rows, order, bytes);
+    let before = common_at(rows, order, at.saturating_sub(1), bytes);
+    common_at(rows, order, at, bytes).max(before)
+}
+
+#[cfg(test)]
+mod tests {
+    use super::*;
+    use crate::items::Items;
+    use crate::rows::DomainRow;
+    use std::process::Abort;
+    use std::test::Fail;
+
+    fn row(alloc: Global, name: &[u8]) -> Result<DomainRow, Fail> {
+        Ok(DomainRow {
+            name: Items::new(Vec::from_slice(alloc, name)?),
+            parent: None,
+            always_on: false,
+        })
+    }
+
+    fn listed(
+        rt: &(impl Abort + AllocGlobal),
+        names: &[&[u8]],
+    ) -> Result<NamedList<DomainRow>, Fail> {
+        let mut rows = Vec::new(rt.alloc());
+        for name in names {
+            rows.push(row(rt.alloc(), *name)?)?;
+        }
+        assert!(rt; rows.len() <= 1_000);
+        Ok(NamedList::new(rt.alloc(), rows)?)
+    }
+
+    #[test]
+    fn names_are_found_whole(rt: HostRuntime) -> Result<(), Fail> {
+        let names: [&[u8]; 5] = [b"b", b"ab", b"a", b"a\0b", b"abc"];
+        let list = listed(&rt, &names)?;
+        for (place, name) in names.iter().enumerate() {
+            assert_eq!(rt; list.find(*name), Some(place), "{name:?}");
+        }
+        let others: [&[u8]; 8] = [b"", b"a\0", b"ab\0", b"abcd", b"b\0", b"c", b"B", b"\xff"];
+        for name in others {
+            assert_eq!(rt; list.find(name), None, "{name:?}");
+        }
+        Ok(())
+    }
+
+    #[test]
+    fn the_first_row_of_a_name_is_found(rt: HostRuntime) -> Result<(), Fail> {
+        let list = listed(&rt, &[b"y", b"x", b"y", b"x", b"x"])?;
+        assert_eq!(rt; list.find(b"x"), Some(1));
+        assert_eq!(rt; list.find(b"y"), Some(0));
+        Ok(())
+    }
+
+    #[test]
+    fn an_empty_list_has_no_name(rt: HostRuntime) -> Result<(), Fail> {
+        let list = listed(&rt, &[])?;
+        assert!(rt; list.is_empty());
+        assert_eq!(rt; list.find(b""), None);
+        Ok(())
+    }
+
+    #[test]
+    fn rows_come_back_as_they_were(rt: HostRuntime) -> Result<(), Fail> {
+        let list = listed(&rt, &[b"b", b"a"])?;
+        assert_eq!(rt; list.len(), 2);
+        assert!(rt; !list.is_empty());
+        let second = list.get(1).ok_or("a row")?;
+        assert_eq!(rt; second.name.as_slice(), b"a".as_slice());
+        assert!(rt; list.get(2).is_none());
+        assert_eq!(rt; list.as_slice().len(), 2);
+        let rows = list.into_vec();
+        assert_eq!(rt; rows.len(), 2);
+        assert_eq!(rt; rows[0].name.as_slice(), b"b".as_slice());
+        Ok(())
+    }
+
+    #[test]
+    fn the_longest_common_start_is_counted(rt: HostRuntime) -> Result<(), Fail> {
+        let list = listed(&rt, &[b"gpu", b"beta", b"alps", b"alpha", b"bet"])?;
+        let cases: [(&[u8], usize); 12] = [
+            (b"", 0),
+            (b"Al", 0),
+            (b"zeta", 0),
+            (b"a", 1),
+            (b"alarm", 2),
+            (b"alpine", 3),
+            (b"alpz", 3),
+            (b"alpha", 5),
+            (b"alphabet", 5),
+            (b"bez", 2),
+            (b"betas", 4),
+            (b"gpu\0", 3),
+        ];
+        for (bytes, len) in cases {
+            assert_eq!(rt; list.common_len(bytes), len, "{bytes:?}");
+        }
+        assert_eq!(rt; listed(&rt, &[])?.common_len(b"a"), 0);
+        Ok(())
+    }
+
+    // The names 0 to 999 in the order of 367 k modulo 1,000, which has each of them once.
+    #[test]
+    fn each_of_a_thousand_names_is_found(rt: HostRuntime) -> Result<(), Fail> {
+        let mut rows = Vec::new(rt.alloc());
+        for k in 0..1_000u32 {
+            let name = format!(in rt.alloc(); "{}", 367 * k % 1_000)?;
+            rows.push(row(rt.alloc(), name.as_bytes())?)?;
+        }
+        assert!(rt; rows.len() == 1_000);
+        let list = NamedList::new(rt.alloc(), rows)?;
+        for k in 0..1_000u32 {
+            let name = format!(in rt.alloc(); "{}", 367 * k % 1_000)?;
+            assert_eq!(rt; list.find(name.as_bytes()), Some(k as usize), "{k}");
+        }
+        for name in ["1000", "00", "99 ", "-1"] {
+            assert_eq!(rt; list.find(name.as_bytes()), None, "{name}");
+        }
+        Ok(())
     }
 }

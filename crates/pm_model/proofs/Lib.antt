@@ -1,0 +1,3 @@
+pub mod NameSearch
+pub mod PlaceNamed
+pub mod CommonLen
