@@ -1,4 +1,6 @@
 pub mod Spelling
+pub mod LineOf
+pub mod Text
 pub mod StageRows
 pub mod IsPlan
 pub mod Views

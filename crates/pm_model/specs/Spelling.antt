@@ -1,6 +1,6 @@
 -- The spelling of a line, in format 1 of a trace. The four payloads are spelled as the kernel's rpm_* events
 -- (include/trace/events/rpm.h); all else is this project's own.
-use Rattle.std.specs.Prelude.{ℕ, Bool, true, false, List, [], ◌∷◌, ◌++◌, ℤ, pos, nat_abs, nat_lt, codes, decimal, length, slice_index_or, map, if◌then◌else◌}
+use Rattle.std.specs.Prelude.{ℕ, Bool, true, false, List, [], ◌∷◌, ◌++◌, ◌-◌, ℤ, pos, nat_abs, nat_lt, codes, decimal, length, slice_index_or, map, if◌then◌else◌}
 use Rattle.std.specs.Fmt.{digits, signed_decimal}
 use Rattle.std.specs.List.{flat_map}
 use Rattle.std.specs.Ordering.{int_eq}
@@ -194,3 +194,16 @@ line_text names line = decimal line.time ++ space ++ actor_text names line.actor
 -- the text of a list of lines in order, in format 1
 abbrev pub lines_text : Names → List Line → List ℕ
 lines_text names lines = flat_map (λ line. line_text names line ++ newline) lines
+
+-- a line in format 2, behind a line of that time: the difference stands in place of the time
+abbrev pub line_text2 : Names → ℕ → Line → List ℕ
+line_text2 names base line = line_text names (record line { time = line.time - base })
+
+-- lines in order in format 2, behind a line of that time
+abbrev pub lines_text2 : Names → ℕ → List Line → List ℕ
+lines_text2 names base [] = []
+lines_text2 names base (line ∷ lines) = line_text2 names base line ++ newline ++ lines_text2 names line.time lines
+
+-- the line with which a trace of format 2 begins
+abbrev pub header : List ℕ
+header = codes "pm_trace 2" ++ newline
