@@ -21,3 +21,7 @@ pub mod Serial
 pub mod Excuse
 pub mod NameOrder
 pub mod NamedList
+pub mod Counted
+pub mod Promises
+pub mod Islands
+pub mod FirstBad
