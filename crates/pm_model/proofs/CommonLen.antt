@@ -1,5 +1,5 @@
 -- The name with the most first bytes in common with a text is a neighbour of the text in the order of names.
-use Rattle.std.proofs.Common.{◌≡◌, ℕ, zero, suc, ◌-◌, ◌<◌, ◌≤◌, max, false, List, [], ◌∷◌, length, get_or, nat_eq, refl, ◌∙◌, inl, inr, arith}
+use Rattle.std.proofs.Common.{◌≡◌, ℕ, zero, suc, ◌-◌, ◌<◌, ◌≤◌, max, false, List, [], ◌∷◌, length, get_or, nat_eq, ◌∙◌, inl, inr, arith}
 use Rattle.std.specs.Cmp.Lexicographic.{slice_cmp}
 use Rattle.std.specs.List.{common_prefix_len}
 use Rattle.std.specs.Ordering.{is_lt, nat_cmp}
@@ -10,34 +10,29 @@ use Rattle.pm_model.proofs.NameSearch.{below_names, in_order, names_rank, stands
 use Rattle.pm_model.specs.NameOrder.{IsNameOrder, IsPlaceInOrder, common_at, name_at}
 use Rattle.pm_model.specs.NamedList.{common_len}
 
--- nothing in common with no bytes
-common_prefix_len-nil : (xs : List ℕ) → common_prefix_len nat_eq xs [] ≡ 0
-common_prefix_len-nil [] = refl
-common_prefix_len-nil (x ∷ xs) = refl
-
--- from below: of two texts no later than a third, the later has as much in common with it
+-- of two texts that stand no later than a third, the later has at least as much in common with it
 common_below : (x y z : List ℕ) → is_lt (slice_cmp nat_cmp y x) ≡ false → is_lt (slice_cmp nat_cmp z y) ≡ false → common_prefix_len nat_eq z x ≤ common_prefix_len nat_eq z y
 common_below x y [] h g = omega arith
 common_below [] y (c ∷ z) h g = omega arith
 common_below (a ∷ x) [] (c ∷ z) h g = absurd (true≢false h)
 common_below (a ∷ x) (b ∷ y) (c ∷ z) h g = grind (arith, nat_tests, common_below x y z)
 
--- from above
+-- and of two that stand no earlier, the earlier
 common_above : (x y z : List ℕ) → is_lt (slice_cmp nat_cmp x y) ≡ false → is_lt (slice_cmp nat_cmp y z) ≡ false → common_prefix_len nat_eq z x ≤ common_prefix_len nat_eq z y
 common_above x y [] h g = omega arith
 common_above [] y (c ∷ z) h g = omega arith
 common_above (a ∷ x) [] (c ∷ z) h g = absurd (true≢false g)
 common_above (a ∷ x) (b ∷ y) (c ∷ z) h g = grind (arith, nat_tests, common_above x y z)
 
--- it is at most what every name is at most
-common_len-le : (bytes : List ℕ) (names : List (List ℕ)) (n : ℕ) → ((place : ℕ) → place < length names → common_prefix_len nat_eq bytes (name_at names place) ≤ n) → common_len bytes names ≤ n
+-- the most in common is at most what bounds each name
+pub common_len-le : (bytes : List ℕ) (names : List (List ℕ)) (n : ℕ) → ((place : ℕ) → place < length names → common_prefix_len nat_eq bytes (name_at names place) ≤ n) → common_len bytes names ≤ n
 common_len-le bytes [] n h = omega arith
 common_len-le bytes (name ∷ names) n h =
     let rest = common_len-le bytes names n (λ place below. h (suc place) (omega arith)) in
     omega (arith, h 0 (omega arith))
 
--- and no name has more
-le-common_len : (bytes : List ℕ) (names : List (List ℕ)) (place : ℕ) → place < length names → common_prefix_len nat_eq bytes (name_at names place) ≤ common_len bytes names
+-- and no name has more in common
+pub le-common_len : (bytes : List ℕ) (names : List (List ℕ)) (place : ℕ) → place < length names → common_prefix_len nat_eq bytes (name_at names place) ≤ common_len bytes names
 le-common_len bytes [] place below = absurd (omega arith)
 le-common_len bytes (name ∷ names) zero below = omega arith
 le-common_len bytes (name ∷ names) (suc place) below = omega (arith, le-common_len bytes names place (omega arith))
@@ -47,6 +42,7 @@ module _ (names : List (List ℕ)) (order : List ℕ) (is : IsNameOrder names or
   common_in_order : (q : ℕ) → q < length order → common_at names order bytes q ≡ common_prefix_len nat_eq bytes (name_at names (get_or order q 0))
   common_in_order q below = grind (arith, nat_tests)
 
+  -- at most the most
   common_at-le : (q : ℕ) → common_at names order bytes q ≤ common_len bytes names
   common_at-le q = elim (cases_lt q (length order)) [
     | inl below ↦ rw (common_in_order q below) (le-common_len bytes names _ (below_names names order is q 0 below))

@@ -1,3 +1,3 @@
-pub mod NameSearch
-pub mod PlaceNamed
 pub mod CommonLen
+mod NameSearch
+pub mod PlaceNamed

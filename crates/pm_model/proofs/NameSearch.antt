@@ -22,10 +22,11 @@ use Rattle.pm_model.proofs.PlaceNamed.{not_same, position-first, position-none}
 use Rattle.pm_model.specs.NameOrder.{IsNameOrder, IsPlaceInOrder, by_name, is_before, name_at}
 use Rattle.pm_model.specs.NamedList.{place_named}
 
--- the order by name is an order
+-- places by name are in a total order
 by_name_total : (names : List (List ℕ)) → IsTotalOrder (by_name names)
 by_name_total names = then_total (on_total (name_at names) nat_list_cmp_total) nat_cmp_total
 
+-- and so what stands before is an order, as a sort asks
 by_name_ranks : (names : List (List ℕ)) → IsStrictWeakOrder (λ a b. is_lt (by_name names a b))
 by_name_ranks names = ranks_by (by_name_total names) (λ place. place)
 
@@ -81,6 +82,7 @@ first_decides Greater p h = refl
 second_decides : (o p : Ordering) → o ≡ Equal → is_lt (ordering_then o p) ≡ false → is_lt p ≡ false
 second_decides o p tied h = rw tied at h
 
+-- two numbers in order
 not_less : (a b : ℕ) → is_lt (nat_cmp a b) ≡ false → b ≤ a
 not_less a b h = grind (arith, nat_tests)
 
@@ -108,6 +110,7 @@ pub record IsFound (names : List (List ℕ)) (order : List ℕ) (name : List ℕ
   pub first : get_or order at 0 ≤ place
 
 module _ (names : List (List ℕ)) (order : List ℕ) (is : IsNameOrder names order) (name : List ℕ) (at : ℕ) (here : IsPlaceInOrder names order name at) where
+  -- the row at an index of the order
   found_at : (q place : ℕ) → q < length order → get_or order q 0 ≡ place → name_at names place ≡ name → IsFound names order name at place
   found_at q place below_end there same =
       let itself : is_before names name (get_or order q 0) ≡ false = rw (there, same) (ap is_lt (tied_itself nat_list_cmp_total name)) in
@@ -118,6 +121,7 @@ module _ (names : List (List ℕ)) (order : List ℕ) (is : IsNameOrder names or
       let tied : slice_cmp nat_cmp name (name_at names (get_or order at 0)) ≡ Equal = rw same_name (tied_itself nat_list_cmp_total name) in
       record { in_range = in_range; same_name = same_name; first = not_less place (get_or order at 0) (second_decides _ _ tied up) }
 
+  -- the row at a place
   found : (place : ℕ) → place < length names → name_at names place ≡ name → IsFound names order name at place
   found place below same =
       let (q, in_range, there) = stands_in_order names order is place below in

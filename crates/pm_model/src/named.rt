@@ -53,6 +53,13 @@ impl<T: Named> NamedList<T> {
         Ok(NamedList { rows, order })
     }
 
+    /// The rows, in the plan's order.
+    pub fn as_slice(&self) -> &[T]
+        ensures { result.now ≡ self.now }
+    {
+        &self.rows
+    }
+
     /// The rows as the `Vec` that holds them.
     pub fn into_vec(self) -> Vec<T>
         ensures { result.items ≡ self }
@@ -82,12 +89,12 @@ impl<T: Named> NamedList<T> {
         self.rows.get(place)
     }
 
-    /// The place of the first row that has exactly this name, counted from 0. It compares a
-    /// logarithmic number of names and takes no memory.
+    /// The place, counted from 0, of the row that has exactly this name, and of several the first.
+    /// It takes no memory, and compares a number of names that is logarithmic in the length.
     pub fn find(&self, name: &[u8]) -> Option<usize>
         ensures first { result ≡ place_named name.now (map T.name_of self.now) }
 
-        // What this says, in two words of the library and as an index.
+        // So that row has the name, `None` says that no row has it, and the place is in the list.
         ensures found { IfSome result (λ place. slice_get (map T.name_of self.now) place ≡ Some name.now) }
         ensures missing { IfNone result (¬ Contains (map T.name_of self.now) name.now) }
         ensures in_range { IfSome result (λ place. place < length self.now) }
@@ -95,19 +102,12 @@ impl<T: Named> NamedList<T> {
         find(&self.rows, &self.order, name)
     }
 
-    /// How many first bytes of these are the first bytes of some row's name, at most, and 0 where
-    /// there is no row. It compares a logarithmic number of names and takes no memory.
+    /// The length of the longest start of these bytes with which some row's name starts, and 0 where
+    /// there is no row. It takes no memory, and compares as few names as `find`.
     pub fn common_len(&self, bytes: &[u8]) -> usize
         ensures { result ≡ common_len bytes.now (map T.name_of self.now) }
     {
         common_len(&self.rows, &self.order, bytes)
-    }
-
-    /// The rows, in the plan's order.
-    pub fn as_slice(&self) -> &[T]
-        ensures { result.now ≡ self.now }
-    {
-        &self.rows
     }
 }
 
@@ -121,7 +121,8 @@ fn name_at<T: Named>(rows: &[T], place: u32) -> &[u8]
     }
 }
 
-// How two places stand in the order of names.
+// How two places stand in the order of names: by the bytes of their names, and two rows of one name
+// by their places.
 fn compare<T: Named>(rows: &[T], a: u32, b: u32) -> Ordering
     ensures { result ≡ by_name (map T.name_of rows.now) a b }
 {
@@ -196,9 +197,8 @@ fn common_at<T: Named>(rows: &[T], order: &[u32], at: usize, bytes: &[u8]) -> us
     }
 }
 
-// The most that these bytes and a name have in common from the front. Sorted among the names, the
-// bytes stand between two of them that no other name exceeds. Where they stand before all names,
-// the first one is asked twice.
+// The most that these bytes and a name have in common from the front. The names nearest to the bytes
+// in the order, before and after them, have it. Where none stands before, the first is asked twice.
 fn common_len<T: Named>(rows: &[T], order: &[u32], bytes: &[u8]) -> usize
     requires { IsNameOrder (map T.name_of rows.now) order.now }
     ensures { result ≡ common_len bytes.now (map T.name_of rows.now) }
