@@ -1,5 +1,5 @@
 -- The changes that a row of the call table names beside those that its event makes of itself.
-use Rattle.std.specs.Prelude.{ℕ, ◌+◌, ◌-◌, Bool, true, false, List, ◌∷◌, [], Option, Some, None, ℤ, map, nat_eq, if◌then◌else◌}
+use Rattle.std.specs.Prelude.{ℕ, ◌+◌, ◌-◌, Bool, false, List, None, ℤ, map, nat_eq, if◌then◌else◌}
 use Rattle.std.specs.List.{zip}
 use Rattle.std.specs.Option.{option_map_or}
 use Rattle.pm_base.specs.declared.DevId.{DevId}

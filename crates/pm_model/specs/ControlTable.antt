@@ -1,14 +1,13 @@
 -- The rows of the control functions: enable, disable, barrier, set_active, set_suspended, allow, forbid,
 -- mark_last_busy, the autosuspend settings and schedule_suspend (runtime_pm.rst, sections 4, 5 and 9), and the three
 -- topology helpers, which are this project's own.
-use Rattle.std.specs.Prelude.{ℕ, ◌+◌, Bool, true, false, not, ◌&&◌, ◌||◌, List, [], ◌∷◌, Option, Some, None, ℤ, pos, nat_abs, nat_eq, if◌then◌else◌}
+use Rattle.std.specs.Prelude.{ℕ, ◌+◌, Bool, true, false, not, ◌&&◌, ◌||◌, List, [], ◌∷◌, Option, Some, None, ℤ, pos, nat_abs, nat_eq}
 use Rattle.std.specs.List.{list_any, zip}
 use Rattle.std.specs.Ordering.{int_eq}
 use Rattle.pm_base.specs.declared.DevId.{DevId}
 use Rattle.pm_base.specs.declared.Why.TheVariants as why
 use Rattle.pm_base.specs.declared.codes.TheConstants.{EAGAIN, EBUSY, EINVAL}
 use Rattle.pm_model.specs.declared.event.Command.{Command}
-use Rattle.pm_model.specs.declared.event.Event.{Event}
 use Rattle.pm_model.specs.declared.event.Event.TheVariants as event
 use Rattle.pm_model.specs.declared.event.Helper.{Helper}
 use Rattle.pm_model.specs.declared.event.Helper.TheVariants as helper

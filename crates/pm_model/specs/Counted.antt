@@ -1,7 +1,7 @@
 -- What the views are, in words that name no stage (runtime_pm.rst, sections 3 to 5; device_link.rst): counts over all
 -- lines, and what the last line said. Lists have the newest line first.
-use Rattle.std.specs.Prelude.{ℕ, ◌+◌, ◌-◌, Bool, true, false, ◌&&◌, List, [], ◌∷◌, Option, Some, None, ℤ, pos, nat_eq, count_by, sum_by, if◌then◌else◌}
-use Rattle.std.specs.List.{list_any, zip}
+use Rattle.std.specs.Prelude.{ℕ, ◌+◌, ◌-◌, Bool, true, false, ◌&&◌, List, [], ◌∷◌, Option, Some, None, ℤ, pos, nat_eq, count_by, if◌then◌else◌}
+use Rattle.std.specs.List.{list_any}
 use Rattle.std.specs.Ordering.{int_eq}
 use Rattle.pm_base.specs.declared.Cb.TheVariants as cb
 use Rattle.pm_base.specs.declared.DevId.{DevId}
@@ -17,7 +17,7 @@ use Rattle.pm_model.specs.declared.event.Word.TheVariants as word
 use Rattle.pm_model.specs.declared.plan.Plan.{Plan}
 use Rattle.pm_model.specs.PlanRows.{is_kept_on}
 use Rattle.pm_model.specs.Views.{Views}
-use Rattle.pm_model.specs.Derived.{is_counted_child, up, down}
+use Rattle.pm_model.specs.Derived.{up, down}
 use Rattle.pm_model.specs.Events.{held_from, is_try_again}
 use Rattle.pm_model.specs.World.{world}
 

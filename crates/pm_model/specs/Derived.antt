@@ -1,12 +1,11 @@
 -- What follows from the views.
-use Rattle.std.specs.Prelude.{ℕ, ◌+◌, ◌-◌, Bool, true, false, not, ◌&&◌, ◌||◌, List, [], ◌∷◌, Option, Some, None, ℤ, pos, length, count_by, nat_abs, nat_lt, nat_le, nat_eq, int_le, int_lt, is_some, bit_and, slice_get, slice_set, unwrap_or, if◌then◌else◌}
+use Rattle.std.specs.Prelude.{ℕ, ◌+◌, ◌-◌, Bool, true, false, not, ◌&&◌, ◌||◌, List, [], ◌∷◌, Option, Some, None, ℤ, pos, count_by, nat_abs, nat_lt, nat_le, nat_eq, int_le, int_lt, is_some, bit_and, slice_get, slice_set, unwrap_or, if◌then◌else◌}
 use Rattle.std.specs.List.{enumerate_from, filter, list_all, zip}
 use Rattle.std.specs.Option.{option_map_or}
 use Rattle.std.specs.Ordering.{int_eq}
 use Rattle.pm_base.specs.declared.Cb.{Cb}
 use Rattle.pm_base.specs.declared.Cb.TheVariants as cb
 use Rattle.pm_base.specs.declared.DevId.{DevId}
-use Rattle.pm_base.specs.declared.DomId.{DomId}
 use Rattle.pm_base.specs.declared.Status.{Status}
 use Rattle.pm_base.specs.declared.Status.TheVariants as status
 use Rattle.pm_base.specs.declared.Req.{Req}
@@ -15,7 +14,6 @@ use Rattle.pm_base.specs.declared.codes.TheConstants.{EAGAIN, EACCES, EBUSY, EIN
 use Rattle.pm_model.specs.declared.event.Fields.{Fields}
 use Rattle.pm_model.specs.declared.plan.Plan.{Plan}
 use Rattle.pm_model.specs.declared.rows.DeviceRow.{DeviceRow}
-use Rattle.pm_model.specs.declared.rows.DomainRow.{DomainRow}
 use Rattle.pm_model.specs.declared.rows.LinkRow.{LinkRow}
 use Rattle.pm_model.specs.declared.views.Device.{Device}
 use Rattle.pm_model.specs.PlanRows.{codes_of, domains_of, is_always_on, has_parent, parent_of}

@@ -1,12 +1,11 @@
 -- What a line's event makes of the views of itself, whoever writes it and at whatever stage (runtime_pm.rst,
 -- section 3): counts, statuses, errors, callbacks, links, domains, requests and timers.
-use Rattle.std.specs.Prelude.{ℕ, ◌+◌, ◌-◌, Bool, true, false, ◌&&◌, ◌||◌, List, [], ◌∷◌, Option, Some, None, ℤ, pos, map, nat_eq, count_by, fold, slice_set, if◌then◌else◌}
+use Rattle.std.specs.Prelude.{ℕ, ◌+◌, ◌-◌, Bool, true, false, ◌&&◌, ◌||◌, List, Some, ℤ, pos, map, nat_eq, count_by, fold, slice_set, if◌then◌else◌}
 use Rattle.std.specs.List.{enumerate_from, zip}
 use Rattle.std.specs.Ordering.{int_eq}
 use Rattle.pm_base.specs.declared.Cb.{Cb}
 use Rattle.pm_base.specs.declared.Cb.TheVariants as cb
 use Rattle.pm_base.specs.declared.DevId.{DevId}
-use Rattle.pm_base.specs.declared.Req.{Req}
 use Rattle.pm_base.specs.declared.Req.TheVariants.{Nothing}
 use Rattle.pm_base.specs.declared.Status.{Status}
 use Rattle.pm_base.specs.declared.Status.TheVariants as status
@@ -22,8 +21,6 @@ use Rattle.pm_model.specs.declared.event.Word.TheVariants as word
 use Rattle.pm_model.specs.declared.event.WorkAct.{WorkAct}
 use Rattle.pm_model.specs.declared.event.WorkAct.TheVariants.{Queue, Defer, Run}
 use Rattle.pm_model.specs.declared.plan.Plan.{Plan}
-use Rattle.pm_model.specs.declared.rows.LinkRow.{LinkRow}
-use Rattle.pm_model.specs.declared.views.Device.{Device}
 use Rattle.pm_model.specs.Views.{Views, device, with_device, with_timer}
 use Rattle.pm_model.specs.Changes.{set_request, set_queued, set_deferred, set_last_busy, set_held, disarm}
 use Rattle.pm_model.specs.Derived.{up, down}

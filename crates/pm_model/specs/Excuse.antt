@@ -18,7 +18,6 @@ use Rattle.pm_model.specs.declared.stage.Handed.{Handed}
 use Rattle.pm_model.specs.declared.stage.Handed.TheVariants as handed
 use Rattle.pm_model.specs.declared.stage.Stage.{Stage}
 use Rattle.pm_model.specs.declared.stage.Stage.TheVariants as stage
-use Rattle.pm_model.specs.declared.stage.Then.{Then}
 use Rattle.pm_model.specs.PlanRows.{no_callbacks}
 use Rattle.pm_model.specs.Views.{Views, device}
 use Rattle.pm_model.specs.Derived.{is_active, is_suspended, is_disabled}

@@ -1,6 +1,5 @@
 -- The rows of the helpers that no control function is, of work items and of timers (runtime_pm.rst, section 4).
-use Rattle.std.specs.Prelude.{ℕ, Bool, true, false, not, ◌&&◌, List, [], ◌∷◌, Option, Some, None, ℤ, pos, nat_abs, nat_eq, ◌+◌, if◌then◌else◌}
-use Rattle.std.specs.Option.{option_map_or}
+use Rattle.std.specs.Prelude.{ℕ, Bool, true, false, ◌&&◌, [], ◌∷◌, ℤ, pos, nat_eq, if◌then◌else◌}
 use Rattle.pm_base.specs.declared.DevId.{DevId}
 use Rattle.pm_base.specs.declared.Req.{Req}
 use Rattle.pm_base.specs.declared.Req.TheVariants as req
@@ -24,7 +23,7 @@ use Rattle.pm_model.specs.declared.stage.Stage.{Stage}
 use Rattle.pm_model.specs.declared.stage.Stage.TheVariants as stage
 use Rattle.pm_model.specs.declared.stage.SuspendStage.TheVariants as suspend
 use Rattle.pm_model.specs.declared.stage.Then.{Then}
-use Rattle.pm_model.specs.Views.{Views, device, pending_of, timer}
+use Rattle.pm_model.specs.Views.{Views, device, pending_of}
 use Rattle.pm_model.specs.Changes.{same, has_auto_timer}
 use Rattle.pm_model.specs.Derived.{fields, is_active, is_disabled, is_in_use, first_of}
 use Rattle.pm_model.specs.Row.{Row, writes, ret, suspends, goes, calls, back}

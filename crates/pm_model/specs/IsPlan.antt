@@ -1,12 +1,11 @@
 -- Which lists make a plan. All limits and the rules on names, links and codes are this project's own.
-use Rattle.std.specs.Prelude.{ℕ, ◌+◌, Bool, true, false, not, ◌&&◌, ◌||◌, List, [], ◌∷◌, ℤ, pos, neg_ℤ, nat_abs, Option, Some, None, length, map, nat_eq, nat_lt, nat_le, int_le, is_some, slice_get, if◌then◌else◌}
+use Rattle.std.specs.Prelude.{ℕ, ◌+◌, Bool, true, false, not, ◌&&◌, ◌||◌, List, [], ◌∷◌, ℤ, pos, neg_ℤ, nat_abs, length, map, nat_eq, nat_lt, nat_le, int_le, is_some, slice_get, if◌then◌else◌}
 use Rattle.std.specs.Char.{is_ascii_alphanumeric}
 use Rattle.std.specs.List.{list_all, list_any}
 use Rattle.std.specs.Option.{option_map_or}
 use Rattle.std.specs.Ordering.{int_eq}
 use Rattle.std.specs.Str.{bytes_eq}
 use Rattle.pm_base.specs.declared.DevId.{DevId}
-use Rattle.pm_base.specs.declared.DomId.{DomId}
 use Rattle.pm_base.specs.declared.limits.TheConstants.{MAX_DEVICES, MAX_DOMAINS, MAX_LINKS, MAX_CALLERS, MAX_COMMANDS, MAX_CODES, MIN_CODE, MAX_NAME, MAX_LINES, MAX_MS}
 use Rattle.pm_base.specs.declared.codes.TheConstants.{EACCES}
 use Rattle.pm_model.specs.declared.rows.DomainRow.{DomainRow}

@@ -1,12 +1,12 @@
 -- Which lists of lines are runs of a plan, and which runs are finished. Lists have the newest line first.
-use Rattle.std.specs.Prelude.{ℕ, ◌≡◌, ◌<◌, ◌≤◌, Bool, true, not, ◌&&◌, List, [], ◌∷◌, Option, Some, length, nat_le, is_none}
+use Rattle.std.specs.Prelude.{ℕ, ◌≡◌, ◌<◌, ◌≤◌, Bool, true, not, ◌&&◌, List, [], ◌∷◌, Some, length, nat_le, is_none}
 use Rattle.std.specs.List.{enumerate_from, list_all}
 use Rattle.pm_model.specs.declared.event.Line.{Line}
 use Rattle.pm_model.specs.declared.plan.Plan.{Plan}
 use Rattle.pm_model.specs.declared.stage.Move.TheVariants.{Write}
 use Rattle.pm_model.specs.declared.stage.Stage.{Stage}
 use Rattle.pm_model.specs.declared.stage.Then.{Then}
-use Rattle.pm_model.specs.World.{World, called_by, due, move, stage_at, world}
+use Rattle.pm_model.specs.World.{World, called_by, move, stage_at, world}
 
 abbrev pub last_time : List Line → ℕ
 last_time [] = 0

@@ -1,5 +1,5 @@
 -- Which lines are lines of a plan with so many devices and callers: those that have a text (this project's own).
-use Rattle.std.specs.Prelude.{ℕ, ◌^◌, Bool, true, false, ◌&&◌, ◌||◌, List, ℤ, pos, neg_ℤ, nat_abs, nat_eq, nat_lt, int_le, int_lt, length, if◌then◌else◌}
+use Rattle.std.specs.Prelude.{ℕ, ◌^◌, Bool, true, false, ◌&&◌, ◌||◌, ℤ, pos, neg_ℤ, nat_abs, nat_eq, nat_lt, int_le, int_lt, length, if◌then◌else◌}
 use Rattle.std.specs.Ordering.{int_eq}
 use Rattle.pm_base.specs.declared.ActorId.{ActorId}
 use Rattle.pm_base.specs.declared.ActorId.TheVariants.{Caller, Work, Timer}

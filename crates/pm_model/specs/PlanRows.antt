@@ -1,5 +1,5 @@
 -- What the plan says of a device, a domain or a link.
-use Rattle.std.specs.Prelude.{ℕ, zero, suc, Bool, true, false, not, ◌&&◌, List, [], ◌∷◌, Option, Some, None, ℤ, pos, is_some, nat_eq, length, slice_get, unwrap_or}
+use Rattle.std.specs.Prelude.{ℕ, zero, suc, Bool, false, not, ◌&&◌, List, [], ◌∷◌, Option, Some, None, ℤ, is_some, nat_eq, length, slice_get, unwrap_or}
 use Rattle.std.specs.List.{enumerate_from, list_any}
 use Rattle.std.specs.Option.{option_and_then, option_map_or}
 use Rattle.pm_base.specs.declared.Cb.{Cb}

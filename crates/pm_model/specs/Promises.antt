@@ -1,7 +1,7 @@
 -- What is promised of every lawful list of lines, in words that name no stage (exclusive: runtime_pm.rst, section 2;
 -- safe: sections 2 and 4, and device_link.rst; kept and the rest are this project's own). Each promise is a test, so that
 -- it can be computed. Lists have the newest line first.
-use Rattle.std.specs.Prelude.{ℕ, ◌≡◌, ◌<◌, ◌⊎◌, Bool, true, false, not, ◌&&◌, ◌||◌, List, [], ◌∷◌, ℤ, pos, map, length, nat_eq, nat_lt, option_map, if◌then◌else◌}
+use Rattle.std.specs.Prelude.{◌<◌, ◌⊎◌, Bool, true, false, not, ◌&&◌, ◌||◌, List, [], ◌∷◌, pos, length, nat_eq, if◌then◌else◌}
 use Rattle.std.specs.List.{enumerate_from, list_all}
 use Rattle.std.specs.Option.{option_map_or}
 use Rattle.std.specs.Ordering.{int_eq}
@@ -12,7 +12,6 @@ use Rattle.pm_base.specs.declared.DevId.{DevId}
 use Rattle.pm_base.specs.declared.Req.{Req}
 use Rattle.pm_base.specs.declared.Req.TheVariants as req
 use Rattle.pm_base.specs.declared.Why.TheVariants as why
-use Rattle.pm_model.specs.declared.event.Command.{Command}
 use Rattle.pm_model.specs.declared.event.Event.{Event}
 use Rattle.pm_model.specs.declared.event.Event.TheVariants as event
 use Rattle.pm_model.specs.declared.event.Helper.{Helper}
@@ -20,7 +19,6 @@ use Rattle.pm_model.specs.declared.event.Helper.TheVariants as helper
 use Rattle.pm_model.specs.declared.event.Line.{Line}
 use Rattle.pm_model.specs.declared.event.Word.TheVariants as word
 use Rattle.pm_model.specs.declared.plan.Plan.{Plan}
-use Rattle.pm_model.specs.declared.rows.LinkRow.{LinkRow}
 use Rattle.pm_model.specs.PlanRows.{domains_of, parent}
 use Rattle.pm_model.specs.Views.{Views, device, pending_of, is_on, is_present}
 use Rattle.pm_model.specs.Derived.{is_active, is_suspended, is_resuming, is_resume_request, is_disabled, children}

@@ -1,5 +1,5 @@
 -- The rows of resume, R(d, f) (runtime_pm.rst, sections 2 and 4; device_link.rst for the suppliers).
-use Rattle.std.specs.Prelude.{ℕ, Bool, true, false, not, ◌&&◌, ◌||◌, List, [], ◌∷◌, Option, Some, None, ℤ, pos, length, if◌then◌else◌}
+use Rattle.std.specs.Prelude.{ℕ, Bool, true, false, not, ◌&&◌, ◌||◌, [], ◌∷◌, Option, Some, None, ℤ, pos, length, if◌then◌else◌}
 use Rattle.std.specs.Ordering.{int_eq}
 use Rattle.pm_base.specs.declared.Cb.TheVariants as cb
 use Rattle.pm_base.specs.declared.DevId.{DevId}
@@ -22,7 +22,7 @@ use Rattle.pm_model.specs.declared.stage.Then.{Then}
 use Rattle.pm_model.specs.PlanRows.{no_callbacks, has_parent, parent_of, has_domain}
 use Rattle.pm_model.specs.Views.{Views, device}
 use Rattle.pm_model.specs.Changes.{same, cancel, rcancel}
-use Rattle.pm_model.specs.Derived.{has, fields, has_error, is_disabled, is_active, is_suspending, is_resuming, is_moving, minds_parent, awaits_parent, callback_code, up, down, first_held, first_free, first_of}
+use Rattle.pm_model.specs.Derived.{has, has_error, is_disabled, is_active, is_suspending, is_resuming, is_moving, minds_parent, awaits_parent, callback_code, up, down, first_held, first_free, first_of}
 use Rattle.pm_model.specs.Row.{Row, writes, waits, idles, resumes, goes, calls, back}
 use Rattle.pm_model.specs.SuspendTable.{may_not_wait}
 

@@ -1,7 +1,6 @@
 -- What a row of the call table gives, and the words that its rows are written in.
-use Rattle.std.specs.Prelude.{ℕ, Bool, false, List, [], ◌∷◌, Option, Some, None, ℤ, nat_lt, if◌then◌else◌}
+use Rattle.std.specs.Prelude.{ℕ, false, List, [], ◌∷◌, Some, None, ℤ, nat_lt, if◌then◌else◌}
 use Rattle.pm_base.specs.declared.Cb.{Cb}
-use Rattle.pm_base.specs.declared.Cb.TheVariants as cb
 use Rattle.pm_base.specs.declared.DevId.{DevId}
 use Rattle.pm_model.specs.declared.event.Event.{Event}
 use Rattle.pm_model.specs.declared.event.Event.TheVariants as event
@@ -19,7 +18,7 @@ use Rattle.pm_model.specs.declared.stage.SuspendStage.TheVariants as suspend
 use Rattle.pm_model.specs.declared.stage.Then.{Then}
 use Rattle.pm_model.specs.Views.{Views}
 use Rattle.pm_model.specs.Changes.{same}
-use Rattle.pm_model.specs.Derived.{fields, first_of}
+use Rattle.pm_model.specs.Derived.{fields}
 use Rattle.pm_model.specs.Events.{by_event}
 
 -- a line's event, the changes that the row names beside the event's own, and what takes the stage's place;

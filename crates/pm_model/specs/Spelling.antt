@@ -1,6 +1,6 @@
 -- The spelling of a line, in format 1 of a trace. The four payloads are spelled as the kernel's rpm_* events
 -- (include/trace/events/rpm.h); all else is this project's own.
-use Rattle.std.specs.Prelude.{ℕ, Bool, true, false, List, [], ◌∷◌, ◌++◌, ◌-◌, ℤ, pos, nat_abs, nat_lt, codes, decimal, length, slice_index_or, map, if◌then◌else◌}
+use Rattle.std.specs.Prelude.{ℕ, Bool, true, false, List, [], ◌∷◌, ◌++◌, ◌-◌, ℤ, pos, nat_abs, nat_lt, codes, decimal, length, slice_index_or, if◌then◌else◌}
 use Rattle.std.specs.Fmt.{digits, signed_decimal}
 use Rattle.std.specs.List.{flat_map}
 use Rattle.std.specs.Ordering.{int_eq}

@@ -1,5 +1,5 @@
 -- The rows of suspend, S(d, f) (runtime_pm.rst, sections 2, 4 and 9).
-use Rattle.std.specs.Prelude.{ℕ, Bool, true, false, not, ◌&&◌, ◌||◌, List, [], ◌∷◌, Option, Some, None, ℤ, pos, min, unwrap_or, if◌then◌else◌}
+use Rattle.std.specs.Prelude.{ℕ, Bool, true, false, not, ◌&&◌, ◌||◌, [], ◌∷◌, Option, Some, None, ℤ, pos, min, unwrap_or, if◌then◌else◌}
 use Rattle.std.specs.Option.{option_map_or}
 use Rattle.std.specs.Ordering.{int_eq}
 use Rattle.std.specs.Prelude.{length}
@@ -24,7 +24,7 @@ use Rattle.pm_model.specs.declared.stage.Then.{Then}
 use Rattle.pm_model.specs.PlanRows.{no_callbacks, has_parent, parent_of, has_domain}
 use Rattle.pm_model.specs.Views.{Views, device, pending_of, timer}
 use Rattle.pm_model.specs.Changes.{same, set_request, set_deferred, cancel, disarm, callback_marks}
-use Rattle.pm_model.specs.Derived.{refusal, has, expiry, is_ahead, fields, is_suspending, is_resuming, is_moving, callback_code, down, first_held, first_of}
+use Rattle.pm_model.specs.Derived.{refusal, has, expiry, is_ahead, is_suspending, is_resuming, is_moving, callback_code, down, first_held, first_of}
 use Rattle.pm_model.specs.Events.{by_event, is_try_again}
 use Rattle.pm_model.specs.Row.{Row, writes, waits, returns, idles, suspends, resumes, goes, calls}
 

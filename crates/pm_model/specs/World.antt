@@ -1,12 +1,11 @@
 -- Where a run stands after a list of lines, the newest first: the views, and the place of each actor.
-use Rattle.std.specs.Prelude.{ℕ, ◌+◌, Bool, true, false, List, [], ◌∷◌, Option, Some, None, map, length, drop, nat_abs, nat_lt, slice_get, slice_set, slice_index_or, replicate, if◌then◌else◌}
+use Rattle.std.specs.Prelude.{ℕ, ◌+◌, false, List, [], ◌∷◌, Option, Some, None, map, drop, nat_abs, slice_get, slice_set, slice_index_or, if◌then◌else◌}
 use Rattle.std.specs.List.{enumerate_from}
 use Rattle.std.specs.Option.{option_map_or, option_and_then}
 use Rattle.std.specs.Prelude.{not, option_map}
 use Rattle.pm_base.specs.declared.ActorId.{ActorId}
 use Rattle.pm_base.specs.declared.ActorId.TheVariants.{Caller, Work, Timer}
 use Rattle.pm_base.specs.declared.Cb.TheVariants as cb
-use Rattle.pm_base.specs.declared.DevId.{DevId}
 use Rattle.pm_model.specs.declared.event.Command.{Command}
 use Rattle.pm_model.specs.declared.event.Event.{Event}
 use Rattle.pm_model.specs.declared.event.Event.TheVariants as event
@@ -22,7 +21,7 @@ use Rattle.pm_model.specs.declared.stage.SuspendStage.TheVariants as suspend
 use Rattle.pm_model.specs.PlanRows.{is_kept_on, ms_of}
 use Rattle.pm_model.specs.Views.{Views, fresh_device, fresh_pending, pending_of, timer}
 use Rattle.pm_model.specs.Events.{by_event}
-use Rattle.pm_model.specs.Row.{Row, writes, waits, timed}
+use Rattle.pm_model.specs.Row.{Row, writes, timed}
 use Rattle.pm_model.specs.IdleTable.{idle_row}
 use Rattle.pm_model.specs.SuspendTable.{suspend_row}
 use Rattle.pm_model.specs.ResumeTable.{resume_row}
