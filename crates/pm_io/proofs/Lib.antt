@@ -1,0 +1,4 @@
+pub mod Rose
+mod Shelves
+pub mod Taken
+pub mod Unread

@@ -1,0 +1,8 @@
+-- The file at hand has the name.
+use Rattle.std.proofs.Common.{◌∙◌}
+use Rattle.pm_io.proofs.Shelves.{bytes_under_here}
+use Rattle.pm_io.proofs.mem_files.find_name.Goals as goal
+
+pub returns-then-eq-clause-bytes : goal.returns-then-eq-clause-bytes
+returns-then-eq-clause-bytes c =
+    bytes_under_here c.args.files.now c.args.name.now c.loop-i.i c.index-files-i.result c.loop-i-test.true c.index-files-i.is (cc) ∙ c.loop-i.invariant

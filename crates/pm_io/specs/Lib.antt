@@ -1,0 +1,5 @@
+pub mod Faults
+pub mod MemFiles
+pub mod MemSink
+pub mod Real
+pub mod Sink

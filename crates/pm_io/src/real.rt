@@ -1,0 +1,215 @@
+//! The files and streams of the system. They tell no content.
+ghost use Rattle.std.specs.Prelude.{◌≡◌, ◌<◌, ◌≤◌, length, false, None, IfOk, OnErr};
+ghost use Rattle.pm_io.specs.Faults.{Rose};
+
+use crate::faults::fault;
+use crate::reading::Files;
+use crate::writing::Sink;
+use pm_base::{Failed, PIECE_BYTES};
+use std::fs;
+use std::io::{Print, Read, Stderr, Stdout};
+use std::marker::Model;
+use std::rt::Files as FileSystem;
+
+/// The files of a file system, by their paths.
+#[derive(Drop)]
+pub struct DiskFiles<R: FileSystem + Drop> {
+    rt: R,
+    file: Option<R::File>,
+    place: u64,
+    faults: u64,
+}
+
+impl<R: FileSystem + Drop> Model for DiskFiles<R> {
+    ghost use Rattle.std.specs.Prelude.{is_some};
+    ghost use Rattle.pm_io.specs.Real.{DiskState};
+
+    ghost Value = { DiskState };
+
+    ghost view = { λ d. record {
+      is_started = is_some d.file;
+      place = d.place;
+      faults = d.faults;
+    } };
+}
+
+impl<R: FileSystem + Drop> DiskFiles<R> {
+    /// No file is started.
+    pub fn new(rt: R) -> DiskFiles<R>
+        ensures { result ≡ record {
+          is_started = false;
+          place = 0;
+          faults = 0;
+        } }
+    {
+        DiskFiles {
+            rt,
+            file: None,
+            place: 0,
+            faults: 0,
+        }
+    }
+}
+
+impl<R: FileSystem + Drop> Files for DiskFiles<R> {
+    ghost told = { λ _ _. None };
+
+    ghost tells_all = { false };
+
+    ghost is_started = { λ d. d.is_started };
+
+    ghost place = { λ d. d.place };
+
+    ghost unread = { λ _. None };
+
+    ghost faults = { λ d. d.faults };
+
+    fn start_file(&mut self, name: &str) -> Result<(), Failed> {
+        self.place = 0;
+        self.file = fs::open(&self.rt, name).ok();
+        match &self.file {
+            Some(_) => Ok(()),
+            None => Err(fault(&mut self.faults)),
+        }
+    }
+
+    // `std` doesn't say that a read leaves the rest of its buffer alone, so it gets one of its own.
+    fn read(&mut self, buf: &mut [u8]) -> Result<usize, Failed> {
+        let mut piece = [0; PIECE_BYTES];
+        let most = buf.len().min(PIECE_BYTES);
+        let Some(file) = &mut self.file else {
+            unreachable!()
+        };
+        match file.read(&mut piece[..most]) {
+            Ok(count) => {
+                buf[..count].copy_from_slice(&piece[..count]);
+                self.place += count as u64;
+                Ok(count)
+            }
+            Err(_) => Err(fault(&mut self.faults)),
+        }
+    }
+}
+
+/// The standard output.
+#[derive(Drop)]
+pub struct StdOut {
+    stream: Stdout,
+    faults: u64,
+}
+
+impl Model for StdOut {
+    ghost use Rattle.std.specs.Prelude.{ℕ};
+
+    ghost Value = { ℕ };
+
+    ghost view = { λ s. s.faults };
+}
+
+impl StdOut {
+    /// It has not failed yet.
+    pub fn new(stream: Stdout) -> StdOut
+        ensures { result ≡ 0 }
+    {
+        StdOut { stream, faults: 0 }
+    }
+}
+
+impl Sink for StdOut {
+    ghost taken = { λ _. None };
+
+    ghost faults = { λ faults. faults };
+
+    fn write(&mut self, piece: &[u8]) -> Result<usize, Failed> {
+        write_some(&self.stream, piece, &mut self.faults)
+    }
+}
+
+/// The standard error.
+#[derive(Drop)]
+pub struct StdErr {
+    stream: Stderr,
+    faults: u64,
+}
+
+impl Model for StdErr {
+    ghost use Rattle.std.specs.Prelude.{ℕ};
+
+    ghost Value = { ℕ };
+
+    ghost view = { λ s. s.faults };
+}
+
+impl StdErr {
+    /// It has not failed yet.
+    pub fn new(stream: Stderr) -> StdErr
+        ensures { result ≡ 0 }
+    {
+        StdErr { stream, faults: 0 }
+    }
+}
+
+impl Sink for StdErr {
+    ghost taken = { λ _. None };
+
+    ghost faults = { λ faults. faults };
+
+    fn write(&mut self, piece: &[u8]) -> Result<usize, Failed> {
+        write_some(&self.stream, piece, &mut self.faults)
+    }
+}
+
+/// Writes some of the piece. A failure, and 0 for a piece that isn't empty, count as a fault.
+fn write_some(stream: &impl Print, piece: &[u8], faults: &mut u64) -> Result<usize, Failed>
+    ensures within { IfOk result (λ n. n ≤ length piece.now) }
+    ensures some { IfOk result (λ n. 0 < length piece.now → 0 < n) }
+    ensures failed { OnErr result (Rose faults.old faults.new) }
+    ensures never_falls { faults.old ≤ faults.new }
+{
+    match stream.write_some(piece) {
+        Ok(count) if count > 0 || piece.is_empty() => Ok(count),
+        _ => Err(fault(faults)),
+    }
+}
+
+#[cfg(test)]
+mod tests {
+    use super::*;
+    use crate::{FileFault, read_all, write_whole};
+    use std::test::Fail;
+
+    #[test]
+    fn a_disk_file_comes_back_and_a_missing_one_is_a_fault(rt: HostRuntime) -> Result<(), Fail> {
+        let path = "pm_io_disk_files.tmp";
+        let bytes = (0..70_000u32).map(|i| (i % 251) as u8);
+        let written: Vec<u8> = bytes.collect(rt.alloc())?;
+        fs::write(&rt, path, written.as_slice())?;
+        let mut files = DiskFiles::new(&rt);
+        let read = read_all(rt.alloc(), &mut files, path, 70_000);
+        let too_long = read_all(rt.alloc(), &mut files, path, 69_999);
+        fs::remove_file(&rt, path)?;
+        assert!(rt; read?.as_slice() == written.as_slice());
+        assert!(rt; matches!(&too_long, Err(FileFault::TooLong)));
+        assert_eq!(rt; files.faults, 0);
+        let missing = read_all(rt.alloc(), &mut files, path, 70_000);
+        assert!(rt; matches!(&missing, Err(FileFault::Failed)));
+        assert_eq!(rt; files.faults, 1);
+        Ok(())
+    }
+
+    #[test]
+    fn standard_output_takes_a_piece(rt: HostRuntime) -> Result<(), Fail> {
+        let mut out = StdOut::new(rt.stdout());
+        write_whole(&mut out, b"to standard output\n")?;
+        assert_eq!(rt; out.faults, 0);
+        Ok(())
+    }
+
+    #[test]
+    fn standard_error_takes_a_piece(rt: HostRuntime) -> Result<(), Fail> {
+        let mut err = StdErr::new(rt.stderr());
+        write_whole(&mut err, b"to standard error\n")?;
+        assert_eq!(rt; err.faults, 0);
+        Ok(())
+    }
+}
