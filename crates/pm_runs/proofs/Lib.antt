@@ -1,0 +1,3 @@
+pub mod CallTable
+pub mod RefusalLemmas
+pub mod SerialLemmas

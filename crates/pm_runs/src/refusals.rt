@@ -1,0 +1,70 @@
+//! One line each that may not come where it is put: the first lines of a run, and then a line with one thing changed.
+
+ghost use Rattle.pm_runs.specs.Counts.{conditional_gets_plan, first_plan, forbidden_plan};
+ghost use Rattle.pm_runs.specs.Suspends.{autosuspend_plan, busy_suspend_plan, failed_suspend_plan};
+ghost use Rattle.pm_runs.specs.Parents.{failed_parent_plan, limit_plan, parents_plan};
+ghost use Rattle.pm_runs.specs.Links.{failed_supplier_plan};
+ghost use Rattle.pm_runs.specs.Domains.{domains_plan};
+ghost use Rattle.pm_runs.specs.Requests.{deferred_resume_plan, waiting_resume_plan};
+ghost use Rattle.pm_runs.specs.Refusals.{IsRefused, wrong_count, wrong_children, wrong_code, wrong_domains, wrong_moment, swapped, left_out, given_back_early, begun_early, ended_early, fired_early, falling_time, other_caller, not_a_work_item, waiting, suspend_begun, forbidden_count, busy_as_error, without_parent, after_end, past_limit};
+
+/// Fields of a line that aren't the views before it.
+pub fn wrong_fields()
+    ensures count { IsRefused first_plan 4 wrong_count
+        "0 c rpm_resume: a flags-4 cnt-2  dep-0  auto-1 p-0 irq-0 child-0" }
+    ensures children { IsRefused parents_plan 28 wrong_children
+        "0 c rpm_idle: g flags-5 cnt-0  dep-0  auto-1 p-0 irq-0 child-0" }
+    ensures code { IsRefused first_plan 12 wrong_code "0 c pm_ret: get_sync a 1" }
+    ensures domains { IsRefused domains_plan 8 wrong_domains "0 c pm_domain: a up 1" }
+    ensures moment { IsRefused autosuspend_plan 38 wrong_moment
+        "10 timer.a pm_timer: a arm 18 auto" }
+{}
+
+/// Lines that come too early.
+pub fn wrong_order()
+    ensures swapped { IsRefused parents_plan 20 swapped "0 c pm_callback: p resume begin" }
+    ensures left_out { IsRefused parents_plan 7 left_out
+        "0 c rpm_resume: k flags-4 cnt-1  dep-0  auto-1 p-0 irq-0 child-0" }
+    ensures given_back_early { IsRefused parents_plan 33 given_back_early "0 c pm_put: p child k" }
+    ensures begun_early { IsRefused failed_supplier_plan 14 begun_early
+        "0 c pm_callback: k resume begin" }
+{}
+
+/// Times before a line is due, and a time before that of the last line.
+pub fn wrong_times()
+    ensures ended_early { IsRefused deferred_resume_plan 24 ended_early
+        "9 c pm_callback: a suspend end 0" }
+    ensures fired_early { IsRefused autosuspend_plan 36 fired_early
+        "9 timer.a pm_timer: a fire auto" }
+    ensures falling { IsRefused deferred_resume_plan 25 falling_time "9 c pm_status: a deferred" }
+{}
+
+/// Lines of an actor that stands elsewhere, or that waits.
+pub fn wrong_actors()
+    ensures other_caller { IsRefused deferred_resume_plan 24 other_caller
+        "10 e pm_callback: a suspend end 0" }
+    ensures not_a_work_item { IsRefused failed_supplier_plan 31 not_a_work_item
+        "0 c pm_work: s run autosuspend" }
+    ensures waiting { IsRefused waiting_resume_plan 11 waiting
+        "0 c rpm_return_int: rpm_resume:a ret=1" }
+{}
+
+/// Steps that a count, an error or a parent rules out.
+pub fn wrong_steps()
+    ensures in_use { IsRefused conditional_gets_plan 40 suspend_begun
+        "0 c pm_callback: a suspend begin" }
+    ensures with_error { IsRefused failed_suspend_plan 24 suspend_begun
+        "0 c pm_callback: a suspend begin" }
+    ensures forbidden_count { IsRefused forbidden_plan 14 forbidden_count "0 c pm_put: a caller" }
+    ensures busy_as_error { IsRefused busy_suspend_plan 26 busy_as_error
+        "0 c rpm_return_int: rpm_suspend:a ret=-22" }
+    ensures without_parent { IsRefused failed_parent_plan 13 without_parent
+        "0 c pm_status: k resuming" }
+{}
+
+/// Lines after a finished run, and past the limit of lines.
+pub fn after_the_end()
+    ensures finished { IsRefused first_plan 16 after_end "0 c pm_call: enable a" }
+    ensures limit { IsRefused limit_plan 10 past_limit
+        "0 c rpm_resume: p flags-0 cnt-1  dep-0  auto-1 p-0 irq-0 child-0" }
+{}

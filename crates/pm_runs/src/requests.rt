@@ -1,0 +1,66 @@
+//! Runs of requests that meet: waits, deferred resumes, and what `disable` and `barrier` do with them.
+
+ghost use Rattle.std.specs.Prelude.{◌≡◌};
+ghost use Rattle.pm_model.specs.Lawful.{IsFinished};
+ghost use Rattle.pm_runs.specs.Words.{run_of, text_of};
+ghost use Rattle.pm_runs.specs.Requests.{waiting_resume_plan, waiting_resume_text, deferred_resume_plan, deferred_resume_text, forgotten_deferral_plan, forgotten_deferral_text, asked_under_way_plan, asked_under_way_text, overtaken_request_plan, overtaken_request_text, barrier_resumes_plan, barrier_resumes_text, disable_resumes_plan, disable_resumes_text, disable_waits_plan, disable_waits_text, running_idle_plan, running_idle_text, disabled_twice_plan, disabled_twice_text};
+
+/// A second resume waits for the first.
+pub fn waiting_resume()
+    ensures text { text_of waiting_resume_plan ≡ waiting_resume_text }
+    ensures finished { IsFinished waiting_resume_plan (run_of waiting_resume_plan) }
+{}
+
+/// A resume asked for while the device suspends is deferred, and follows at once.
+pub fn deferred_resume()
+    ensures text { text_of deferred_resume_plan ≡ deferred_resume_text }
+    ensures finished { IsFinished deferred_resume_plan (run_of deferred_resume_plan) }
+{}
+
+/// A work item defers a resume, and the suspend fails: the deferral is forgotten.
+pub fn forgotten_deferral()
+    ensures text { text_of forgotten_deferral_plan ≡ forgotten_deferral_text }
+    ensures finished { IsFinished forgotten_deferral_plan (run_of forgotten_deferral_plan) }
+{}
+
+/// What a device that resumes or suspends answers, and who waits for its end.
+pub fn asked_under_way()
+    ensures text { text_of asked_under_way_plan ≡ asked_under_way_text }
+    ensures finished { IsFinished asked_under_way_plan (run_of asked_under_way_plan) }
+{}
+
+/// A pending resume refuses a suspend; another resume leaves its work item nothing to do.
+pub fn overtaken_request()
+    ensures text { text_of overtaken_request_plan ≡ overtaken_request_text }
+    ensures finished { IsFinished overtaken_request_plan (run_of overtaken_request_plan) }
+{}
+
+/// `barrier` carries out a pending resume first; with none it only waits.
+pub fn barrier_resumes()
+    ensures text { text_of barrier_resumes_plan ≡ barrier_resumes_text }
+    ensures finished { IsFinished barrier_resumes_plan (run_of barrier_resumes_plan) }
+{}
+
+/// `disable` carries out a pending resume first.
+pub fn disable_resumes()
+    ensures text { text_of disable_resumes_plan ≡ disable_resumes_text }
+    ensures finished { IsFinished disable_resumes_plan (run_of disable_resumes_plan) }
+{}
+
+/// `disable` waits for a resume that is under way, and remembers that the device was active.
+pub fn disable_waits()
+    ensures text { text_of disable_waits_plan ≡ disable_waits_text }
+    ensures finished { IsFinished disable_waits_plan (run_of disable_waits_plan) }
+{}
+
+/// What an idle callback that runs refuses, and the `barrier` that waits for it.
+pub fn running_idle()
+    ensures text { text_of running_idle_plan ≡ running_idle_text }
+    ensures finished { IsFinished running_idle_plan (run_of running_idle_plan) }
+{}
+
+/// `disable` waits for an idle callback, also where it is enabled meanwhile, and nests.
+pub fn disabled_twice()
+    ensures text { text_of disabled_twice_plan ≡ disabled_twice_text }
+    ensures finished { IsFinished disabled_twice_plan (run_of disabled_twice_plan) }
+{}
