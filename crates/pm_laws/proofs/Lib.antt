@@ -1,0 +1,15 @@
+pub mod Seen
+pub mod Turns
+pub mod Places
+pub mod Rows
+pub mod Owning
+pub mod Links
+pub mod Accounts
+pub mod IdleRows
+pub mod SuspendRows
+pub mod Givings
+pub mod ResumeRows
+pub mod HelperRows
+pub mod ControlRows
+pub mod Runs
+pub mod Said
