@@ -1,0 +1,4 @@
+pub mod Lengths
+pub mod Passing
+pub mod PieceLemmas
+pub mod WordLemmas

@@ -1,0 +1,11 @@
+-- Events with a payload.
+use Rattle.pm_linetext.proofs.events.push_event.Goals as goal
+
+pub returns-in-Usage : goal.returns-in-Usage
+returns-in-Usage c = rw c.in-Usage.is c.push_payload.ensures
+
+pub returns-in-Suspend : goal.returns-in-Suspend
+returns-in-Suspend c = rw c.in-Suspend.is c.push_payload-in-Suspend.ensures
+
+pub returns-in-Resume : goal.returns-in-Resume
+returns-in-Resume c = rw c.in-Resume.is c.push_payload-in-Resume.ensures

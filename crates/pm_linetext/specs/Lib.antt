@@ -1,0 +1,4 @@
+pub mod Payload
+pub mod Room
+pub mod ShortLine
+pub mod Words
