@@ -18,7 +18,7 @@ use Rattle.pm_model.specs.Serial.{goes_on, move_at}
 use Rattle.pm_model.specs.Spelling.{event_text, line_text}
 use Rattle.pm_model.specs.World.{move, world}
 use Rattle.pm_runs.specs.Refusals.{IsRefused}
-use Rattle.pm_runs.specs.Words.{names_of}
+use Rattle.pm_model.specs.Text.{names_of}
 
 -- the event that a move writes
 abbrev event_of : Move → Option Event

@@ -198,7 +198,7 @@ link_helpers_plan =
     let k = dev 2 in
     record empty_plan {
       devices = device "s" ∷ device "t" ∷ record (device "k") { idle = Some []; idle_ms = 10 } ∷ [];
-      links = record (link k s) { later = true } ∷ record (link k t) { later = true } ∷ [];
+      links = record (link k t) { later = true } ∷ record (link k s) { later = true } ∷ [];
       callers =
           caller "c" (
           call Enable s

@@ -18,7 +18,8 @@ use Rattle.pm_model.specs.declared.plan.Plan.{Plan}
 use Rattle.pm_model.specs.Lawful.{IsLawful}
 use Rattle.pm_model.specs.Serial.{goes_on}
 use Rattle.pm_model.specs.Spelling.{line_text}
-use Rattle.pm_runs.specs.Words.{call, dev, minus, names_of}
+use Rattle.pm_model.specs.Text.{names_of}
+use Rattle.pm_runs.specs.Words.{call, dev, minus}
 
 -- after the first n lines that one thread writes, this line, so spelled, may not come
 pub record IsRefused (plan : Plan) (n : ℕ) (line : Line) (spelled : String) : Type 0 where
@@ -86,7 +87,8 @@ not_a_work_item = line 0 (Caller 0) (event.Work (dev 0) (work.Run req.Autosuspen
 abbrev pub waiting : Line
 waiting = line 0 (Caller 0) (event.Return cb.Resume (dev 0) (pos 1))
 
--- wrong steps: a suspend callback begins while a caller holds a count, or while there is an error; a put takes the count
+-- wrong steps: a suspend callback begins while a caller holds a count, or while there is an error; a put takes the
+-- count
 -- that forbid holds; -16 counts as an error; a child resumes though its parent failed to
 
 abbrev pub suspend_begun : Line

@@ -101,6 +101,60 @@ deferred_resume_text =
     ∷ "10 work.a rpm_return_int: rpm_idle:a ret=-16"
     ∷ [])
 
+-- A deferred resume follows once: the next suspend ends as any other.
+abbrev pub deferred_once_plan : Plan
+deferred_once_plan =
+    let a = dev 0 in
+    record empty_plan {
+      devices = record (device "a") { suspend_ms = 10 } ∷ [];
+      callers =
+          caller "c" (call SetActive a ∷ call Enable a ∷ call Suspend a ∷ [])
+          ∷ caller "e" (delay 5 ∷ call RequestResume a ∷ [])
+          ∷ [];
+      law = refl;
+    }
+
+abbrev pub deferred_once_text : List ℕ
+deferred_once_text =
+    text (
+    "0 c pm_call: set_active a"
+    ∷ "0 e pm_call: delay 5"
+    ∷ "0 c pm_status: a forced_active"
+    ∷ "0 c pm_ret: set_active a 0"
+    ∷ "0 c pm_call: enable a"
+    ∷ "0 c pm_ret: enable a 0"
+    ∷ "0 c pm_call: suspend a"
+    ∷ "0 c rpm_suspend: a flags-0 cnt-0  dep-0  auto-1 p-0 irq-0 child-0"
+    ∷ "0 c pm_callback: a suspend begin"
+    ∷ "5 e pm_ret: delay 0"
+    ∷ "5 e pm_call: request_resume a"
+    ∷ "5 e rpm_resume: a flags-1 cnt-0  dep-0  auto-1 p-0 irq-0 child-0"
+    ∷ "5 e pm_work: a defer"
+    ∷ "5 e rpm_return_int: rpm_resume:a ret=0"
+    ∷ "5 e pm_ret: request_resume a 0"
+    ∷ "10 c pm_callback: a suspend end 0"
+    ∷ "10 c pm_status: a deferred"
+    ∷ "10 c rpm_resume: a flags-0 cnt-0  dep-0  auto-1 p-0 irq-0 child-0"
+    ∷ "10 c pm_status: a resuming"
+    ∷ "10 c pm_callback: a resume begin"
+    ∷ "10 c pm_callback: a resume end 0"
+    ∷ "10 c pm_status: a active"
+    ∷ "10 c rpm_idle: a flags-1 cnt-0  dep-0  auto-1 p-0 irq-0 child-0"
+    ∷ "10 c rpm_return_int: rpm_idle:a ret=0"
+    ∷ "10 c rpm_suspend: a flags-9 cnt-0  dep-0  auto-1 p-0 irq-0 child-0"
+    ∷ "10 c pm_work: a queue autosuspend"
+    ∷ "10 work.a pm_work: a run autosuspend"
+    ∷ "10 c rpm_return_int: rpm_suspend:a ret=0"
+    ∷ "10 work.a rpm_suspend: a flags-a cnt-0  dep-0  auto-1 p-0 irq-0 child-0"
+    ∷ "10 c rpm_return_int: rpm_resume:a ret=0"
+    ∷ "10 work.a pm_callback: a suspend begin"
+    ∷ "10 c rpm_return_int: rpm_suspend:a ret=-11"
+    ∷ "10 c pm_ret: suspend a -11"
+    ∷ "20 work.a pm_callback: a suspend end 0"
+    ∷ "20 work.a pm_status: a suspended"
+    ∷ "20 work.a rpm_return_int: rpm_suspend:a ret=0"
+    ∷ [])
+
 -- A work item defers a resume, and the suspend fails: the deferral is forgotten.
 abbrev pub forgotten_deferral_plan : Plan
 forgotten_deferral_plan =

@@ -292,6 +292,66 @@ marked_busy_text =
     ∷ "20 timer.a rpm_return_int: rpm_suspend:a ret=0"
     ∷ [])
 
+-- A suspend callback that answers -16 ends a suspend that is no autosuspend, or whose delay has passed.
+abbrev pub not_tried_again_plan : Plan
+not_tried_again_plan =
+    let a = dev 0 in
+    record empty_plan {
+      devices = record (device "a") { suspend = (minus 16) ∷ (minus 16) ∷ [] } ∷ [];
+      callers =
+          caller "c" (
+          call SetActive a
+          ∷ call_with SetAutosuspendDelay a (pos 10)
+          ∷ call UseAutosuspend a
+          ∷ call Enable a
+          ∷ call Suspend a
+          ∷ delay 10
+          ∷ call Autosuspend a
+          ∷ call Autosuspend a
+          ∷ [])
+          ∷ [];
+      law = refl;
+    }
+
+abbrev pub not_tried_again_text : List ℕ
+not_tried_again_text =
+    text (
+    "0 c pm_call: set_active a"
+    ∷ "0 c pm_status: a forced_active"
+    ∷ "0 c pm_ret: set_active a 0"
+    ∷ "0 c pm_call: set_autosuspend_delay a 10"
+    ∷ "0 c rpm_idle: a flags-8 cnt-0  dep-1  auto-1 p-0 irq-0 child-0"
+    ∷ "0 c rpm_return_int: rpm_idle:a ret=-13"
+    ∷ "0 c pm_ret: set_autosuspend_delay a 0"
+    ∷ "0 c pm_call: use_autosuspend a"
+    ∷ "0 c rpm_idle: a flags-8 cnt-0  dep-1  auto-1 p-0 irq-0 child-0"
+    ∷ "0 c rpm_return_int: rpm_idle:a ret=-13"
+    ∷ "0 c pm_ret: use_autosuspend a 0"
+    ∷ "0 c pm_call: enable a"
+    ∷ "0 c pm_ret: enable a 0"
+    ∷ "0 c pm_call: suspend a"
+    ∷ "0 c rpm_suspend: a flags-0 cnt-0  dep-0  auto-1 p-0 irq-0 child-0"
+    ∷ "0 c pm_callback: a suspend begin"
+    ∷ "0 c pm_callback: a suspend end -16"
+    ∷ "0 c rpm_return_int: rpm_suspend:a ret=-16"
+    ∷ "0 c pm_ret: suspend a -16"
+    ∷ "0 c pm_call: delay 10"
+    ∷ "10 c pm_ret: delay 0"
+    ∷ "10 c pm_call: autosuspend a"
+    ∷ "10 c rpm_suspend: a flags-8 cnt-0  dep-0  auto-1 p-0 irq-0 child-0"
+    ∷ "10 c pm_callback: a suspend begin"
+    ∷ "10 c pm_callback: a suspend end -16"
+    ∷ "10 c rpm_return_int: rpm_suspend:a ret=-16"
+    ∷ "10 c pm_ret: autosuspend a -16"
+    ∷ "10 c pm_call: autosuspend a"
+    ∷ "10 c rpm_suspend: a flags-8 cnt-0  dep-0  auto-1 p-0 irq-0 child-0"
+    ∷ "10 c pm_callback: a suspend begin"
+    ∷ "10 c pm_callback: a suspend end 0"
+    ∷ "10 c pm_status: a suspended"
+    ∷ "10 c rpm_return_int: rpm_suspend:a ret=0"
+    ∷ "10 c pm_ret: autosuspend a 0"
+    ∷ [])
+
 -- A device that was forced to active is suspended by a timer and then its work item.
 abbrev pub scheduled_suspend_plan : Plan
 scheduled_suspend_plan =

@@ -1,5 +1,5 @@
 -- The words that the runs are written in: plans, their rows, scripts and texts.
-use Rattle.std.specs.Prelude.{ℕ, ℤ, pos, neg_ℤ, true, false, List, [], ◌++◌, None, codes, refl, map}
+use Rattle.std.specs.Prelude.{ℕ, ℤ, pos, neg_ℤ, true, false, List, [], ◌++◌, None, codes, refl}
 use Rattle.std.specs.List.{flat_map}
 use Prim.Native.String.{String}
 use Rattle.pm_base.specs.declared.DevId.{DevId}
@@ -13,7 +13,8 @@ use Rattle.pm_model.specs.declared.rows.CallerRow.{CallerRow}
 use Rattle.pm_model.specs.declared.rows.DeviceRow.{DeviceRow}
 use Rattle.pm_model.specs.declared.rows.DomainRow.{DomainRow}
 use Rattle.pm_model.specs.declared.rows.LinkRow.{LinkRow}
-use Rattle.pm_model.specs.Spelling.{Names, lines_text, newline}
+use Rattle.pm_model.specs.Spelling.{newline}
+use Rattle.pm_model.specs.Text.{text1}
 use Rattle.pm_model.specs.Serial.{goes_on, serial}
 
 -- a plan with nothing in it, of which the others are made
@@ -74,13 +75,9 @@ delay ms = call_with Delay (dev 0) (pos ms)
 abbrev pub minus : ℕ → ℤ
 minus n = neg_ℤ (pos n)
 
--- the names that the plan's lines are spelled with
-abbrev pub names_of : Plan → Names
-names_of plan = record { devices = map (λ row. row.name) plan.devices; callers = map (λ row. row.name) plan.callers }
-
 -- the text that one thread writes
 abbrev pub text_of : Plan → List ℕ
-text_of plan = lines_text (names_of plan) (serial plan)
+text_of plan = text1 plan (serial plan)
 
 -- these lines, each with a newline after it
 abbrev pub text : List String → List ℕ

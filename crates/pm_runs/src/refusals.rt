@@ -1,4 +1,5 @@
-//! One line each that may not come where it is put: the first lines of a run, and then a line with one thing changed.
+//! One line each that may not come where it is put: the first lines of a run, and then a line with
+//! one thing changed.
 
 ghost use Rattle.pm_runs.specs.Counts.{conditional_gets_plan, first_plan, forbidden_plan};
 ghost use Rattle.pm_runs.specs.Suspends.{autosuspend_plan, busy_suspend_plan, failed_suspend_plan};

@@ -1,9 +1,10 @@
-//! Runs of requests that meet: waits, deferred resumes, and what `disable` and `barrier` do with them.
+//! Runs of requests that meet: waits, deferred resumes, and what `disable` and `barrier` do with
+//! them.
 
 ghost use Rattle.std.specs.Prelude.{◌≡◌};
 ghost use Rattle.pm_model.specs.Lawful.{IsFinished};
 ghost use Rattle.pm_runs.specs.Words.{run_of, text_of};
-ghost use Rattle.pm_runs.specs.Requests.{waiting_resume_plan, waiting_resume_text, deferred_resume_plan, deferred_resume_text, forgotten_deferral_plan, forgotten_deferral_text, asked_under_way_plan, asked_under_way_text, overtaken_request_plan, overtaken_request_text, barrier_resumes_plan, barrier_resumes_text, disable_resumes_plan, disable_resumes_text, disable_waits_plan, disable_waits_text, running_idle_plan, running_idle_text, disabled_twice_plan, disabled_twice_text};
+ghost use Rattle.pm_runs.specs.Requests.{waiting_resume_plan, waiting_resume_text, deferred_resume_plan, deferred_resume_text, deferred_once_plan, deferred_once_text, forgotten_deferral_plan, forgotten_deferral_text, asked_under_way_plan, asked_under_way_text, overtaken_request_plan, overtaken_request_text, barrier_resumes_plan, barrier_resumes_text, disable_resumes_plan, disable_resumes_text, disable_waits_plan, disable_waits_text, running_idle_plan, running_idle_text, disabled_twice_plan, disabled_twice_text};
 
 /// A second resume waits for the first.
 pub fn waiting_resume()
@@ -15,6 +16,12 @@ pub fn waiting_resume()
 pub fn deferred_resume()
     ensures text { text_of deferred_resume_plan ≡ deferred_resume_text }
     ensures finished { IsFinished deferred_resume_plan (run_of deferred_resume_plan) }
+{}
+
+/// A deferred resume follows once: the next suspend ends as any other.
+pub fn deferred_once()
+    ensures text { text_of deferred_once_plan ≡ deferred_once_text }
+    ensures finished { IsFinished deferred_once_plan (run_of deferred_once_plan) }
 {}
 
 /// A work item defers a resume, and the suspend fails: the deferral is forgotten.

@@ -3,9 +3,10 @@
 ghost use Rattle.std.specs.Prelude.{◌≡◌};
 ghost use Rattle.pm_model.specs.Lawful.{IsFinished};
 ghost use Rattle.pm_runs.specs.Words.{run_of, text_of};
-ghost use Rattle.pm_runs.specs.Suspends.{busy_suspend_plan, busy_suspend_text, failed_suspend_plan, failed_suspend_text, no_callbacks_plan, no_callbacks_text, autosuspend_plan, autosuspend_text, marked_busy_plan, marked_busy_text, scheduled_suspend_plan, scheduled_suspend_text, rearmed_timer_plan, rearmed_timer_text};
+ghost use Rattle.pm_runs.specs.Suspends.{busy_suspend_plan, busy_suspend_text, failed_suspend_plan, failed_suspend_text, no_callbacks_plan, no_callbacks_text, autosuspend_plan, autosuspend_text, marked_busy_plan, marked_busy_text, not_tried_again_plan, not_tried_again_text, scheduled_suspend_plan, scheduled_suspend_text, rearmed_timer_plan, rearmed_timer_text};
 
-/// A suspend callback that answers -16 leaves the device active without an error; the next one suspends it.
+/// A suspend callback that answers -16 leaves the device active without an error; the next one
+/// suspends it.
 pub fn busy_suspend()
     ensures text { text_of busy_suspend_plan ≡ busy_suspend_text }
     ensures finished { IsFinished busy_suspend_plan (run_of busy_suspend_plan) }
@@ -35,13 +36,21 @@ pub fn marked_busy()
     ensures finished { IsFinished marked_busy_plan (run_of marked_busy_plan) }
 {}
 
+/// A suspend callback that answers -16 ends a suspend that is no autosuspend, or whose delay has
+/// passed.
+pub fn not_tried_again()
+    ensures text { text_of not_tried_again_plan ≡ not_tried_again_text }
+    ensures finished { IsFinished not_tried_again_plan (run_of not_tried_again_plan) }
+{}
+
 /// A device that was forced to active is suspended by a timer and then its work item.
 pub fn scheduled_suspend()
     ensures text { text_of scheduled_suspend_plan ≡ scheduled_suspend_text }
     ensures finished { IsFinished scheduled_suspend_plan (run_of scheduled_suspend_plan) }
 {}
 
-/// An autosuspend keeps an earlier moment of its timer; a resume cancels a scheduled suspend and no autosuspend.
+/// An autosuspend keeps an earlier moment of its timer; a resume cancels a scheduled suspend and no
+/// autosuspend.
 pub fn rearmed_timer()
     ensures text { text_of rearmed_timer_plan ≡ rearmed_timer_text }
     ensures finished { IsFinished rearmed_timer_plan (run_of rearmed_timer_plan) }
