@@ -1,0 +1,5 @@
+pub mod Ending
+pub mod FirstPlan
+pub mod FirstRun
+pub mod LineText
+pub mod Words

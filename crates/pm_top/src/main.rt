@@ -1,0 +1,43 @@
+//! Runs a plan of `pm_runtime_*` calls and writes one trace line per atomic step.
+#![tactic(auto)]
+
+mod ending;
+mod first_plan;
+mod first_run;
+mod line_text;
+mod output;
+mod read_plan;
+#[cfg(test)]
+mod tests;
+mod top;
+mod words;
+
+use ending::{Fault, refuse_words};
+use pm_io::{DiskFiles, StdErr, StdOut};
+use std::process::ExitCode;
+use std::rt::Env;
+use std::{env, io};
+use top::top;
+
+fn main(rt: HostRuntime) -> ExitCode {
+    let mut files = DiskFiles::new(&rt);
+    let mut out = StdOut::new(rt.stdout());
+    let mut err = StdErr::new(rt.stderr());
+    let status = match arguments(&rt) {
+        Ok(words) => top(rt.alloc(), &words, &mut files, &mut out, &mut err),
+        Err(error) if error.kind() == io::ErrorKind::OutOfMemory => {
+            Fault::NoMemory.report(&mut err)
+        }
+        Err(_) => refuse_words(&mut err),
+    };
+    ExitCode::from(status)
+}
+
+/// The words after the program's name. It fails where one isn't text.
+fn arguments<R: Env + AllocGlobal>(rt: &R) -> io::Result<Vec<String>> {
+    let mut words = Vec::new(rt.alloc());
+    for word in env::args(rt)?.skip(1) {
+        words.push(word)?;
+    }
+    Ok(words)
+}
