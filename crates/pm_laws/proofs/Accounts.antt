@@ -1,6 +1,7 @@
 -- The counts after a line that takes, gives back or frees some, and after one that doesn't.
-use Rattle.std.proofs.Common.{ℕ, ◌≡◌, Bool, true, false, ℤ, pos, if◌then◌else◌, ap, refl, ◌∙◌, arith}
+use Rattle.std.proofs.Common.{ℕ, ◌≡◌, Bool, true, false, ℤ, pos, if◌then◌else◌, ap, refl, sym, ◌∙◌, arith}
 use Rattle.std.specs.Ordering.{int_eq}
+use Rattle.std.proofs.lemmas.Bool.{false≢true}
 use Rattle.pm_base.specs.declared.Cb.TheVariants as cb
 use Rattle.pm_base.specs.declared.DevId.{DevId}
 use Rattle.pm_base.specs.declared.Status.TheVariants as status
@@ -12,15 +13,16 @@ use Rattle.pm_model.specs.declared.plan.Plan.{Plan}
 use Rattle.pm_model.specs.declared.stage.Stage.{Stage}
 use Rattle.pm_model.specs.declared.stage.Then.{Then}
 use Rattle.pm_model.specs.declared.views.Device.{Device}
-use Rattle.pm_model.specs.Counted.{takes, gives, frees}
+use Rattle.pm_model.specs.Counted.{takes, gives, frees, is_same, is_caller, says_on}
 use Rattle.pm_model.specs.Events.{by_event, by_word, by_end, set_status, set_error, is_try_again}
 use Rattle.pm_model.specs.Row.{writes}
 use Rattle.pm_model.specs.Views.{Views, device}
 use Rattle.pm_sums.specs.Sums.{one}
 use Rattle.pm_laws.specs.Counts.{told, lent}
+use Rattle.pm_laws.proofs.Links.{both}
 use Rattle.pm_laws.proofs.Owning.{unturned, quiet_says}
 use Rattle.pm_laws.proofs.Rows.{Known, Owning, Counting, Keeps, Owes, SameOwners, SameHolds}
-use Rattle.pm_laws.proofs.Seen.{seen, Account, account_of, account_seen, held_seen, status_seen, entries_seen}
+use Rattle.pm_laws.proofs.Seen.{core, core_seen, seen, Account, account_of, account_core, account_seen, held_core, held_seen, status_seen, entries_seen, untouched_seen}
 use Rattle.pm_laws.proofs.Turns.{IsQuiet, quiet_event, entry_kept}
 
 abbrev pub usage_of : Device → ℕ
@@ -52,16 +54,46 @@ quiet_counts plan v (event.Begin x cb.Suspend) q d = elim q [ ]
 quiet_counts plan v (event.End x cb.Suspend c) q d = elim q [ ]
 quiet_counts plan v _ q d = (refl, refl, refl)
 
--- a line that changes nothing that the laws see
-pub quiet : {plan : Plan} {v : Views} {t : ℕ} {s : Stage} {e : Event} {changes : Views → Views} {next : Then} → Known plan v → IsQuiet e
+-- a put by a caller is a put, so an event that puts nothing spends no share
+caller_gives : (d : DevId) (e : Event) → gives is_caller d e ≡ true → gives (λ w. true) d e ≡ true
+caller_gives d (event.Put x w) c = rw (both (is_same d x) (is_caller w) c).0 refl
+caller_gives d _ c = absurd (false≢true c)
+
+spends_none : {A : Type 0} (d : DevId) (e : Event) → gives (λ w. true) d e ≡ false → gives is_caller d e ≡ true → A
+spends_none d e none c = absurd (false≢true (sym none ∙ caller_gives d e c))
+
+-- a quiet event on these views; where it is a pm_domain line, its row changed nothing beside it
+abbrev pub IsApart : Event → Views → Views → Type 0
+IsApart (event.Domain d is_up n) v v' = v' ≡ v
+IsApart e v v' = IsQuiet e
+
+apart_quiet : (e : Event) (v v' : Views) → IsApart e v v' → IsQuiet e
+apart_quiet (event.Domain d is_up n) v v' q = tt
+apart_quiet (event.Get x w) v v' q = q
+apart_quiet (event.Put x w) v v' q = q
+apart_quiet (event.State x w) v v' q = q
+apart_quiet (event.Begin x cb.Suspend) v v' q = q
+apart_quiet (event.End x cb.Suspend c) v v' q = q
+apart_quiet _ v v' q = tt
+
+apart_switches : (plan : Plan) (e : Event) (v v' : Views) → IsApart e v v' → (o : ℕ) → says_on plan v' o e ≡ says_on plan v o e
+apart_switches plan (event.Domain d is_up n) v v' q o = ap (λ x. says_on plan x o (event.Domain d is_up n)) q
+apart_switches plan _ v v' q o = refl
+
+-- a line that changes nothing of the statuses and the counts
+pub quiet : {plan : Plan} {v : Views} {t : ℕ} {s : Stage} {e : Event} {changes : Views → Views} {next : Then} → Known plan v → IsApart e v (changes v)
     → seen (changes v) ≡ seen v → SameOwners s next → SameHolds plan s next → Owes plan v t s (writes e changes next)
-quiet {plan} {v} {t} {s} {e} {changes} {next} k q c o h =
-    let all : seen (by_event plan t e (changes v)) ≡ seen v = quiet_event plan t e (changes v) q ∙ c in
+quiet {plan} {v} {t} {s} {e} {changes} {next} k apart c o h =
+    let q = apart_quiet e v (changes v) apart in
+    let all : core (by_event plan t e (changes v)) ≡ core v = quiet_event plan t e (changes v) q ∙ core_seen v (changes v) c in
     let kept : Keeps plan v t s e changes next = record {
       entries = entries_seen plan v (changes v) c k.entries;
       still = λ d. status_seen v (changes v) d c;
       owning = unturned (quiet_says e q) o;
-      counting = uncounted (λ d. account_seen v (by_event plan t e (changes v)) d all) (held_seen v (by_event plan t e (changes v)) all) (λ d. (quiet_counts plan v e q d).0) (λ d. (quiet_counts plan v e q d).1) (λ d. (quiet_counts plan v e q d).2) h;
+      counting = uncounted (λ d. account_core v (by_event plan t e (changes v)) d all) (held_core v (by_event plan t e (changes v)) all) (λ d. (quiet_counts plan v e q d).0) (λ d. (quiet_counts plan v e q d).1) (λ d. (quiet_counts plan v e q d).2) h;
+      untouched = untouched_seen v (changes v) c;
+      spends = λ d g. spends_none d e (quiet_counts plan v e q d).0 g;
+      switching = apart_switches plan e v (changes v) apart;
     } in
     record { paid = kept }
 
@@ -111,7 +143,7 @@ word_held plan t e word.Suspended v is = refl
 word_held plan t e word.Deferred v is = refl
 word_held plan t e word.ForcedActive v is = refl
 
-ended_held : (e : DevId) (c : ℤ) (v : Views) → (by_end e cb.Suspend c v).held ≡ v.held
+pub ended_held : (e : DevId) (c : ℤ) (v : Views) → (by_end e cb.Suspend c v).held ≡ v.held
 ended_held e c v = go (int_eq c (pos 0)) (is_try_again c)
   where
     go : (b again : Bool)
@@ -142,6 +174,10 @@ turn_counts plan v (event.Get x w) is d = elim is [ ]
 turn_counts plan v (event.Put x w) is d = elim is [ ]
 turn_counts plan v _ is d = (refl, refl, refl)
 
+turn_switches : (plan : Plan) (v v' : Views) (e : Event) → IsTurn e → (o : ℕ) → says_on plan v' o e ≡ says_on plan v o e
+turn_switches plan v v' (event.Domain d is_up n) is o = elim is [ ]
+turn_switches plan v v' _ is o = refl
+
 -- a line that turns a status
 pub turn : {plan : Plan} {v : Views} {t : ℕ} {s : Stage} {e : Event} {changes : Views → Views} {next : Then} → Known plan v → IsTurn e
     → seen (changes v) ≡ seen v → Owning plan v s e next → SameHolds plan s next → Owes plan v t s (writes e changes next)
@@ -151,5 +187,8 @@ turn {plan} {v} {t} {s} {e} {changes} {next} k is c o h =
       still = λ d. status_seen v (changes v) d c;
       owning = o;
       counting = uncounted (λ d. turn_account plan t e (changes v) d is ∙ account_seen v (changes v) d c) (turn_held plan t e (changes v) is ∙ held_seen v (changes v) c) (λ d. (turn_counts plan v e is d).0) (λ d. (turn_counts plan v e is d).1) (λ d. (turn_counts plan v e is d).2) h;
+      untouched = untouched_seen v (changes v) c;
+      spends = λ d g. spends_none d e (turn_counts plan v e is d).0 g;
+      switching = turn_switches plan v (changes v) e is;
     } in
     record { paid = kept }

@@ -15,7 +15,7 @@ use Rattle.pm_model.specs.declared.stage.Stage.{Stage}
 use Rattle.pm_model.specs.declared.stage.Then.{Then}
 use Rattle.pm_model.specs.declared.views.Device.{Device}
 use Rattle.pm_model.specs.Changes.{set_held, set_setting, same, disarm}
-use Rattle.pm_model.specs.Counted.{is_same}
+use Rattle.pm_model.specs.Counted.{is_same, is_caller, gives}
 use Rattle.pm_model.specs.Derived.{prevented, is_moving}
 use Rattle.pm_model.specs.Events.{by_event, got, gave, set_usage, set_share, set_auto, set_status, set_error, frees_links, held_from}
 use Rattle.pm_model.specs.Row.{writes}
@@ -24,15 +24,15 @@ use Rattle.pm_sums.specs.Sums.{one, weigh}
 use Rattle.pm_laws.specs.Counts.{holds, owed, told, lent}
 use Rattle.pm_laws.specs.Sizes.{HasEntries}
 use Rattle.pm_laws.proofs.Accounts.{usage_of}
-use Rattle.pm_laws.proofs.Links.{has_pair, lent_taken, lent_given, lent_loosed, held_of, distinct_links}
+use Rattle.pm_laws.proofs.Links.{both, has_pair, lent_taken, lent_given, lent_loosed, held_of, distinct_links}
 use Rattle.pm_laws.proofs.Owning.{unturned, same_is, stays_still, Owns, OwnsNext, none}
 use Rattle.pm_laws.proofs.Places.{shown}
 use Rattle.pm_laws.proofs.Rows.{Known, Counting, Keeps, Owes, SameOwners, SameHolds}
-use Rattle.pm_laws.proofs.Seen.{seen, device_calm, status_of, Account, account_seen, held_seen, status_seen, entries_seen}
-use Rattle.pm_laws.proofs.Turns.{entry_is, entry_kept, freed_kept}
+use Rattle.pm_laws.proofs.Seen.{seen, Untouched, untouched_seen, aside_of, device_calm, status_of, Account, account_seen, held_seen, status_seen, entries_seen}
+use Rattle.pm_laws.proofs.Turns.{within_set, entry_is, entry_kept, freed_kept}
 
 -- a number in one entry rises or falls by one
-raised : (f : Device → ℕ) (v : Views) (e d : DevId) (x : Device) → d.0 < length v.devices → (is_same d e ≡ true → f x ≡ f (device v e) + 1)
+pub raised : (f : Device → ℕ) (v : Views) (e d : DevId) (x : Device) → d.0 < length v.devices → (is_same d e ≡ true → f x ≡ f (device v e) + 1)
     → f (device (with_device v e x) d) ≡ f (device v d) + one (is_same d e)
 raised f v e d x within up = ap f (entry_is v e d x within) ∙ go (is_same d e) refl
   where
@@ -40,7 +40,7 @@ raised f v e d x within up = ap f (entry_is v e d x within) ∙ go (is_same d e)
     go true b = up b ∙ ap (λ z. f (device v z) + 1) (same_is d e b)
     go false b = omega arith
 
-lowered : (f : Device → ℕ) (v : Views) (e d : DevId) (x : Device) → d.0 < length v.devices → (is_same d e ≡ true → f x + 1 ≡ f (device v e))
+pub lowered : (f : Device → ℕ) (v : Views) (e d : DevId) (x : Device) → d.0 < length v.devices → (is_same d e ≡ true → f x + 1 ≡ f (device v e))
     → f (device (with_device v e x) d) + one (is_same d e) ≡ f (device v d)
 lowered f v e d x within low = ap (λ n. n + one (is_same d e)) (ap f (entry_is v e d x within)) ∙ go (is_same d e) refl
   where
@@ -49,7 +49,7 @@ lowered f v e d x within low = ap (λ n. n + one (is_same d e)) (ap f (entry_is 
     go false b = omega arith
 
 -- at the device itself
-at_self : (f : Device → ℕ) (v : Views) (d e : DevId) → is_same d e ≡ true → f (device v e) ≡ f (device v d)
+pub at_self : (f : Device → ℕ) (v : Views) (d e : DevId) → is_same d e ≡ true → f (device v e) ≡ f (device v d)
 at_self f v d e b = ap (λ z. f (device v z)) (same_is d e b)
 
 is_one : (b : Bool) → b ≡ true → one b ≡ 1
@@ -96,9 +96,6 @@ abbrev pub IsStages : Why → Type 0
 IsStages why.Control = Unit {0}
 IsStages (why.Child c) = Unit {0}
 IsStages _ = ⊥
-
-within_set : (v : Views) (e d : DevId) (x : Device) → d.0 < length v.devices → d.0 < length (with_device v e x).devices
-within_set v e d x within = rw (length-set v.devices e.0 x) within
 
 owed_parts : (plan : Plan) (v v' : Views) (d : DevId) (n : ℕ) → told (device v' d) ≡ told (device v d) + n → v'.held ≡ v.held
     → owed plan v' d ≡ owed plan v d + n
@@ -202,21 +199,23 @@ owed_link_gave plan v t c e d has =
     let l = lent_given c e d plan.links v.held (distinct_links plan) has in
     let o : told (device (set_usage ((device v e).usage - 1) e v) d) ≡ told (device v d) = entry_kept told v e d _ refl in omega arith
 
-counts_true : (b : Bool) → one (b && true) ≡ one b
+pub counts_true : (b : Bool) → one (b && true) ≡ one b
 counts_true true = refl
 counts_true false = refl
 
--- what the changes beside the event leave: the entries, the statuses and the usages
+-- what the changes beside the event leave: the entries, the statuses, the usages and what no such change touches
 record Beside (plan : Plan) (v v' : Views) : Type 0 where
   entries : HasEntries plan v'
   still : (d : DevId) → status_of (device v' d) ≡ status_of (device v d)
   usages : (d : DevId) → usage_of (device v' d) ≡ usage_of (device v d)
+  untouched : Untouched v v'
 
 beside_seen : (plan : Plan) (v v' : Views) → Known plan v → seen v' ≡ seen v → Beside plan v v'
 beside_seen plan v v' k c = record {
   entries = entries_seen plan v v' c k.entries;
   still = λ d. status_seen v v' d c;
   usages = λ d. ap (λ (z : Account). z.usage) (account_seen v v' d c);
+  untouched = untouched_seen v v' c;
 }
 
 owed_seen : (plan : Plan) (v v' : Views) (d : DevId) → seen v' ≡ seen v → owed plan v' d ≡ owed plan v d
@@ -248,16 +247,30 @@ took {plan} {v} {t} {s} {changes} {next} e w c a owes =
       still = c.still;
       owning = unturned (λ _. refl) a;
       counting = counting;
+      untouched = c.untouched;
+      spends = λ d g. absurd (false≢true g);
+      switching = λ _. refl;
     } in
     record { paid = kept }
 
+-- which puts spend a caller's share: those that find one
+abbrev Spends : Views → DevId → Why → Type 0
+Spends v e w = (d : DevId) → gives is_caller d (event.Put e w) ≡ true → nat_eq (device v d).share 0 ≡ false
+
+no_caller : (v : Views) (e : DevId) (w : Why) → is_caller w ≡ false → Spends v e w
+no_caller v e w none d g = absurd (false≢true (sym none ∙ (both (is_same d e) (is_caller w) g).1))
+
+stages_spend : (w : Why) → IsStages w → is_caller w ≡ false
+stages_spend why.Caller is = elim is [ ]
+stages_spend _ is = refl
+
 -- a row that gives one back
 gave_back : {plan : Plan} {v : Views} {t : ℕ} {s : Stage} {changes : Views → Views} {next : Then} (e : DevId) (w : Why) → Beside plan v (changes v)
-    → SameOwners s next
+    → Spends v e w → SameOwners s next
     → ((d : DevId) → d.0 < length (changes v).devices → owed plan (by_event plan t (event.Put e w) (changes v)) d + (weigh (holds plan d) (shown next) + one (is_same d e)) ≡ owed plan v d + holds plan d s)
     → Owes plan v t s (writes (event.Put e w) changes next)
 unfolding by_event
-gave_back {plan} {v} {t} {s} {changes} {next} e w c a owes =
+gave_back {plan} {v} {t} {s} {changes} {next} e w c spends a owes =
     let now = gave plan e w (set_usage ((device (changes v) e).usage - 1) e (changes v)) in
     let fell : (d : DevId) (x : ℕ) → d.0 < length plan.devices → (device v d).usage ≡ owed plan v d + (holds plan d s + x) → usage_of (device now d) + one (is_same d e) ≡ (device v d).usage =
     λ d x within was.
@@ -276,6 +289,9 @@ gave_back {plan} {v} {t} {s} {changes} {next} e w c a owes =
       still = c.still;
       owning = unturned (λ _. refl) a;
       counting = counting;
+      untouched = c.untouched;
+      spends = spends;
+      switching = λ _. refl;
     } in
     record { paid = kept }
 
@@ -288,7 +304,7 @@ took_stages {plan} {v} {t} {changes} e w k is c o h = took e w (beside_seen plan
 pub gave_stages : {plan : Plan} {v : Views} {t : ℕ} {s : Stage} {changes : Views → Views} {next : Then} (e : DevId) (w : Why) → Known plan v
     → IsStages w → seen (changes v) ≡ seen v → SameOwners s next
     → ((d : DevId) → weigh (holds plan d) (shown next) + one (is_same d e) ≡ holds plan d s) → Owes plan v t s (writes (event.Put e w) changes next)
-gave_stages {plan} {v} {t} {changes} e w k is c o h = gave_back e w (beside_seen plan v (changes v) k c) o (λ d within. let told_now = owed_stages_gave plan (changes v) t e w d is in omega (arith, h d, owed_seen plan v (changes v) d c))
+gave_stages {plan} {v} {t} {changes} e w k is c o h = gave_back e w (beside_seen plan v (changes v) k c) (no_caller v e w (stages_spend w is)) o (λ d within. let told_now = owed_stages_gave plan (changes v) t e w d is in omega (arith, h d, owed_seen plan v (changes v) d c))
 
 pub took_share : {plan : Plan} {v : Views} {t : ℕ} {s : Stage} {next : Then} (e : DevId) → Known plan v → SameOwners s next → SameHolds plan s next
     → Owes plan v t s (writes (event.Get e why.Caller) same next)
@@ -296,7 +312,7 @@ took_share {plan} {v} {t} e k o h = took e why.Caller (beside_seen plan v v k re
 
 pub gave_share : {plan : Plan} {v : Views} {t : ℕ} {s : Stage} {next : Then} (e : DevId) → Known plan v → nat_eq (device v e).share 0 ≡ false
     → SameOwners s next → SameHolds plan s next → Owes plan v t s (writes (event.Put e why.Caller) same next)
-gave_share {plan} {v} {t} e k some o h = gave_back e why.Caller (beside_seen plan v v k refl) o (λ d within. let told_now = owed_share_gave plan v t e d within some in omega (arith, h d))
+gave_share {plan} {v} {t} e k some o h = gave_back e why.Caller (beside_seen plan v v k refl) (λ d g. ap (λ z. nat_eq (device v z).share 0) (sym (same_is d e (both (is_same d e) true g).0)) ∙ some) o (λ d within. let told_now = owed_share_gave plan v t e d within some in omega (arith, h d))
 
 pub took_forbid : {plan : Plan} {v : Views} {t : ℕ} {s : Stage} {next : Then} (e : DevId) → Known plan v → (device v e).auto_on ≡ true
     → SameOwners s next → SameHolds plan s next → Owes plan v t s (writes (event.Get e why.Forbid) same next)
@@ -304,7 +320,7 @@ took_forbid {plan} {v} {t} e k on o h = took e why.Forbid (beside_seen plan v v 
 
 pub gave_forbid : {plan : Plan} {v : Views} {t : ℕ} {s : Stage} {next : Then} (e : DevId) → Known plan v → (device v e).auto_on ≡ false
     → SameOwners s next → SameHolds plan s next → Owes plan v t s (writes (event.Put e why.Forbid) same next)
-gave_forbid {plan} {v} {t} e k off o h = gave_back e why.Forbid (beside_seen plan v v k refl) o (λ d within. let told_now = owed_forbid_gave plan v t e d within off in omega (arith, h d))
+gave_forbid {plan} {v} {t} e k off o h = gave_back e why.Forbid (beside_seen plan v v k refl) (no_caller v e why.Forbid refl) o (λ d within. let told_now = owed_forbid_gave plan v t e d within off in omega (arith, h d))
 
 pub took_link : {plan : Plan} {v : Views} {t : ℕ} {s : Stage} {next : Then} (c e : DevId) → Known plan v → has_pair c e false plan.links v.held ≡ true
     → SameOwners s next → SameHolds plan s next → Owes plan v t s (writes (event.Get e (why.Link c)) same next)
@@ -313,7 +329,7 @@ took_link {plan} {v} {t} c e k has o h = took e (why.Link c) (beside_seen plan v
 pub gave_link : {plan : Plan} {v : Views} {t : ℕ} {s : Stage} {changes : Views → Views} {next : Then} (c e : DevId) → Known plan v
     → seen (changes v) ≡ seen v → has_pair c e true plan.links v.held ≡ true → SameOwners s next → SameHolds plan s next
     → Owes plan v t s (writes (event.Put e (why.Link c)) changes next)
-gave_link {plan} {v} {t} {changes} c e k calm has o h = gave_back e (why.Link c) (beside_seen plan v (changes v) k calm) o (λ d within. let told_now = owed_link_gave plan (changes v) t c e d (ap (has_pair c e true plan.links) (held_seen v (changes v) calm) ∙ has) in omega (arith, h d, owed_seen plan v (changes v) d calm))
+gave_link {plan} {v} {t} {changes} c e k calm has o h = gave_back e (why.Link c) (beside_seen plan v (changes v) k calm) (no_caller v e (why.Link c) refl) o (λ d within. let told_now = owed_link_gave plan (changes v) t c e d (ap (has_pair c e true plan.links) (held_seen v (changes v) calm) ∙ has) in omega (arith, h d, owed_seen plan v (changes v) d calm))
 
 -- the setting changes: the usage stays, and what is told of it goes by whether suspends are prevented before and after
 beside_setting : (plan : Plan) (v : Views) (u : Bool) (n : ℤ) (e : DevId) → Known plan v → Beside plan v (set_setting u n e v)
@@ -321,11 +337,12 @@ beside_setting plan v u n e k = record {
   entries = record { devices = length-set v.devices e.0 _ ∙ k.entries.devices; pending = k.entries.pending; timers = k.entries.timers; on = k.entries.on; held = k.entries.held; present = k.entries.present };
   still = λ d. entry_kept status_of v e d _ refl;
   usages = λ d. entry_kept usage_of v e d _ refl;
+  untouched = record { asides = λ d. entry_kept aside_of v e d _ refl; held = refl; domains = refl };
 }
 
 pub setting_calm : (u : Bool) (n : ℤ) (e : DevId) (v : Views) → prevented (device v e).use_auto (device v e).delay ≡ prevented u n
     → seen (set_setting u n e v) ≡ seen v
-setting_calm u n e v same = device_calm v e _ refl (rw same refl)
+setting_calm u n e v same = device_calm v e _ refl (rw same refl) refl
 
 prevented_more : (a : ℕ) (was is : Bool) → not was && is ≡ true → a + one is ≡ a + one was + 1
 prevented_more a true is e = absurd (false≢true e)
@@ -351,7 +368,7 @@ pub gave_delay : {plan : Plan} {v : Views} {t : ℕ} {s : Stage} {next : Then} (
     → prevented (device v e).use_auto (device v e).delay && not (prevented u n) ≡ true → SameOwners s next → SameHolds plan s next
     → Owes plan v t s (writes (event.Put e why.Delay) (set_setting u n e) next)
 gave_delay {plan} {v} {t} e u n k less o h =
-    gave_back e why.Delay (beside_setting plan v u n e k) o (λ d within.
+    gave_back e why.Delay (beside_setting plan v u n e k) (no_caller v e why.Delay refl) o (λ d within.
     let here : d.0 < length v.devices = omega (arith, k.entries.devices, (beside_setting plan v u n e k).entries.devices) in
     let told_now = owed_delay_gave plan (set_setting u n e v) t e d in
     let p = owed_parts_less plan v (set_setting u n e v) d (one (is_same d e)) (lowered told v e d _ here (λ _. prevented_less _ _ _ less)) refl in
@@ -392,5 +409,8 @@ forced {plan} {v} {t} {s} {next} e k still o o' h =
       still = λ _. refl;
       owning = stays_still e status.Suspended still refl (λ _. refl) o o';
       counting = counting;
+      untouched = record { asides = λ _. refl; held = refl; domains = refl };
+      spends = λ d g. absurd (false≢true g);
+      switching = λ _. refl;
     } in
     record { paid = kept }

@@ -12,4 +12,7 @@ pub mod ResumeRows
 pub mod HelperRows
 pub mod ControlRows
 pub mod Runs
+pub mod Asides
+pub mod Shares
+pub mod Switches
 pub mod Said

@@ -61,7 +61,7 @@ pair_is : (c s : DevId) (row : LinkRow) → is_of_pair c s row ≡ true → (row
 pair_is c s row e = let p = both (nat_eq row.consumer.0 c.0) (nat_eq row.supplier.0 s.0) e in (eqb-true row.consumer.0 c.0 p.0, eqb-true row.supplier.0 s.0 p.1)
 
 -- the others of distinct links are of other pairs
-eq_sym : (a b : ℕ) → nat_eq a b ≡ nat_eq b a
+pub eq_sym : (a b : ℕ) → nat_eq a b ≡ nat_eq b a
 eq_sym a b = grind (arith, common_steps)
 
 others : (c s : DevId) (row : LinkRow) (links : List LinkRow) → is_of_pair c s row ≡ true

@@ -1,26 +1,37 @@
--- The statuses and the usages, line by line.
-use Rattle.std.proofs.Common.{ℕ, ◌≡◌, ◌+◌, ◌<◌, true, cond, List, [], ◌∷◌, Option, Some, None, length, ap, refl, ◌∙◌, arith}
+-- What the views are in words that name no stage, line by line.
+use Rattle.std.proofs.Common.{ℕ, zero, suc, ◌≡◌, ◌+◌, ◌<◌, Bool, true, false, cond, List, [], ◌∷◌, Option, Some, None, length, map, nat_eq, slice_get, slice_index_or, ap, refl, ◌∙◌, arith}
+use Rattle.std.specs.List.{enumerate_from}
 use Rattle.std.specs.Option.{unwrap_or}
 use Rattle.std.proofs.lemmas.List.Sums.{sum_by-cons}
+use Rattle.std.proofs.lemmas.Option.{slice_get_within}
 use Rattle.pm_base.specs.declared.DevId.{DevId}
 use Rattle.pm_base.specs.declared.Status.{Status}
+use Rattle.pm_model.specs.declared.event.Event.{Event}
 use Rattle.pm_model.specs.declared.event.Line.{Line}
 use Rattle.pm_model.specs.declared.plan.Plan.{Plan}
-use Rattle.pm_model.specs.Counted.{gives, takes, frees, gets, puts, freed, says_status, status_of}
+use Rattle.pm_model.specs.declared.rows.DeviceRow.{DeviceRow}
+use Rattle.pm_model.specs.declared.rows.DomainRow.{DomainRow}
+use Rattle.pm_model.specs.declared.rows.LinkRow.{LinkRow}
+use Rattle.pm_model.specs.Counted.{gives, takes, frees, gets, puts, freed, says_status, status_of, last_said, says_error, error_of, says_auto, is_allowed, says_idle, idle_runs, says_held, is_held_pair, is_caller, says_on, is_switched_on}
 use Rattle.pm_model.specs.Events.{by_event}
 use Rattle.pm_model.specs.Lawful.{IsLawful}
-use Rattle.pm_model.specs.Views.{device}
+use Rattle.pm_model.specs.PlanRows.{is_kept_on}
+use Rattle.pm_model.specs.Views.{Views, fresh_device, device, is_held, is_on}
 use Rattle.pm_model.specs.World.{World, after_line, row_at, world}
 use Rattle.pm_sums.specs.Sums.{one}
 use Rattle.pm_laws.specs.Counts.{holds}
+use Rattle.pm_laws.proofs.Asides.{error_after, auto_after, idle_after}
 use Rattle.pm_laws.proofs.Runs.{Paid, permitted, lawful_holds, others, held_top, views_after, status_is, start_status, start_usage}
+use Rattle.pm_laws.proofs.Seen.{Aside, aside_of}
+use Rattle.pm_laws.proofs.Shares.{share_after}
+use Rattle.pm_laws.proofs.Switches.{held_after, on_after}
 
 -- the views after a permitted line
 views_next : (plan : Plan) (w : World) (line : Line) (p : Paid plan w line)
     → (after_line plan w line (row_at plan w line.actor line.time)).views ≡ by_event plan line.time line.event (p.changes w.views)
 views_next plan w line p = ap (λ r. let x : World = after_line plan w line r in x.views) p.leads ∙ views_after plan w line p.changes p.next
 
-says_or : (o : Option Status) (s : Status) → unwrap_or o s ≡ (elim o as (λ _. Status) [ Some x ↦ x | None ↦ s ])
+says_or : {A : Type 0} (o : Option A) (s : A) → unwrap_or o s ≡ (elim o as (λ _. A) [ Some x ↦ x | None ↦ s ])
 says_or (Some x) s = refl
 says_or None s = refl
 
@@ -50,3 +61,93 @@ usage_counted plan (line ∷ h) d lawful within =
     let more_gets : gets (λ w. true) (line ∷ h) d ≡ one (takes (λ w. true) d line.event) + gets (λ w. true) h d = sum_by-cons (λ (l : Line). cond (takes (λ w. true) d l.event) 1 0) line h in
     let more_freed : freed plan (line ∷ h) d ≡ frees plan w.views d line.event + freed plan h d = refl in
     omega arith
+
+-- before any line
+start_aside : (l : List DeviceRow) (i : ℕ)
+    → aside_of (slice_index_or (map (λ row. record fresh_device { ignores = row.ignore_children }) l) i fresh_device) ≡ aside_of fresh_device
+start_aside [] i = refl
+start_aside (x ∷ l) zero = refl
+start_aside (x ∷ l) (suc i) = start_aside l i
+
+-- what an event says of a part of the entries is what they are after it, or they are what they were
+abbrev IsSaid : {A : Type 0} → (Aside → A) → (DevId → Event → Option A) → Type 0
+IsSaid f says = (plan : Plan) (t : ℕ) (e : Event) (v : Views) (d : DevId) → d.0 < length v.devices → f (aside_of (device (by_event plan t e v) d)) ≡ unwrap_or (says d e) (f (aside_of (device v d)))
+
+-- a part is what the last line that says anything of it says
+aside_said : {A : Type 0} (f : Aside → A) (says : DevId → Event → Option A) → IsSaid f says → (plan : Plan) (h : List Line) (d : DevId) → IsLawful plan h
+    → d.0 < length plan.devices → f (aside_of (device (world plan h).views d)) ≡ last_said (says d) (f (aside_of fresh_device)) h
+aside_said f says after plan [] d lawful within = ap f (start_aside plan.devices d.0)
+aside_said {A} f says after plan (line ∷ h) d lawful within =
+    let w = world plan h in
+    let p = permitted plan h line lawful.0 (lawful_holds plan h lawful.2) in
+    let now = ap (λ v. let x : A = f (aside_of (device v d)) in x) (views_next plan w line p) in
+    let turned = after plan line.time line.event (p.changes w.views) d (omega (arith, p.keeps.entries.devices)) in
+    let was = ap f (p.keeps.untouched.asides d) ∙ aside_said f says after plan h d lawful.2 within in
+    now ∙ turned ∙ ap (unwrap_or (says d line.event)) was ∙ says_or (says d line.event) (last_said (says d) (f (aside_of fresh_device)) h)
+
+pub error_said : (plan : Plan) (h : List Line) (d : DevId) → IsLawful plan h → d.0 < length plan.devices
+    → (device (world plan h).views d).error ≡ error_of h d
+error_said = aside_said (λ (a : Aside). a.error) says_error error_after
+
+pub auto_said : (plan : Plan) (h : List Line) (d : DevId) → IsLawful plan h → d.0 < length plan.devices
+    → (device (world plan h).views d).auto_on ≡ is_allowed h d
+auto_said = aside_said (λ (a : Aside). a.auto_on) says_auto auto_after
+
+pub idle_said : (plan : Plan) (h : List Line) (d : DevId) → IsLawful plan h → d.0 < length plan.devices
+    → (device (world plan h).views d).idle_running ≡ idle_runs h d
+idle_said = aside_said (λ (a : Aside). a.idle_running) says_idle idle_after
+
+start_held : (l : List LinkRow) (i : ℕ) → slice_index_or (map (λ row. false) l) i false ≡ false
+start_held [] i = refl
+start_held (x ∷ l) zero = refl
+start_held (x ∷ l) (suc i) = start_held l i
+
+-- a link is held as the last line that says anything of its pair says
+pub held_said : (plan : Plan) (h : List Line) (l : ℕ) (row : LinkRow) → IsLawful plan h → slice_get plan.links l ≡ Some row
+    → is_held (world plan h).views l ≡ is_held_pair h row.consumer row.supplier
+held_said plan [] l row lawful is = start_held plan.links l
+held_said plan (line ∷ h) l row lawful is =
+    let w = world plan h in
+    let p = permitted plan h line lawful.0 (lawful_holds plan h lawful.2) in
+    let says : Option Bool = says_held row.consumer row.supplier line.event in
+    let now = ap (λ v. is_held v l) (views_next plan w line p) in
+    let here = slice_get_within plan.links l row is in
+    let turned = held_after plan line.time line.event (p.changes w.views) l row (record { row_is = is; within = omega (arith, p.keeps.entries.held) }) in
+    let was : is_held (p.changes w.views) l ≡ is_held_pair h row.consumer row.supplier = ap (λ (x : List Bool). slice_index_or x l false) p.keeps.untouched.held ∙ held_said plan h l row lawful.2 is in
+    now ∙ turned ∙ ap (unwrap_or says) was ∙ says_or says (is_held_pair h row.consumer row.supplier)
+
+-- a caller's share is what callers took and didn't give back
+pub share_counted : (plan : Plan) (h : List Line) (d : DevId) → IsLawful plan h → d.0 < length plan.devices
+    → (device (world plan h).views d).share + puts is_caller h d ≡ gets is_caller h d
+share_counted plan [] d lawful within = omega (arith, ap (λ (a : Aside). a.share) (start_aside plan.devices d.0))
+share_counted plan (line ∷ h) d lawful within =
+    let w = world plan h in
+    let p = permitted plan h line lawful.0 (lawful_holds plan h lawful.2) in
+    let same : (device (p.changes w.views) d).share ≡ (device w.views d).share = ap (λ (a : Aside). a.share) (p.keeps.untouched.asides d) in
+    let now : (device (world plan (line ∷ h)).views d).share ≡ (device (by_event plan line.time line.event (p.changes w.views)) d).share = ap (λ v. let x : ℕ = (device v d).share in x) (views_next plan w line p) in
+    let moves = share_after plan line.time line.event (p.changes w.views) d (omega (arith, p.keeps.entries.devices)) (λ g. ap (λ n. nat_eq n 0) same ∙ p.keeps.spends d g) in
+    let was = share_counted plan h d lawful.2 within in
+    let more_puts : puts is_caller (line ∷ h) d ≡ one (gives is_caller d line.event) + puts is_caller h d = sum_by-cons (λ (l : Line). cond (gives is_caller d l.event) 1 0) line h in
+    let more_gets : gets is_caller (line ∷ h) d ≡ one (takes is_caller d line.event) + gets is_caller h d = sum_by-cons (λ (l : Line). cond (takes is_caller d l.event) 1 0) line h in
+    omega arith
+
+-- before any line a domain is on where the plan keeps it on
+start_switched : (f : ℕ → Bool) (l : List DomainRow) (i o : ℕ) → o < length l
+    → slice_index_or (map (λ p. f p.0) (enumerate_from i l)) o false ≡ f (i + o)
+start_switched f [] i o within = absurd (omega arith)
+start_switched f (x ∷ l) i zero within = ap f (omega arith)
+start_switched f (x ∷ l) i (suc o) within = start_switched f l (i + 1) o (omega arith) ∙ ap f (omega arith)
+
+-- a domain is on as the last line that switches it says
+pub on_said : (plan : Plan) (h : List Line) (o : ℕ) → IsLawful plan h → o < length plan.domains
+    → is_on (world plan h).views o ≡ is_switched_on plan h o
+on_said plan [] o lawful within = start_switched (is_kept_on plan.domains) plan.domains 0 o within ∙ ap (is_kept_on plan.domains) (omega arith)
+on_said plan (line ∷ h) o lawful within =
+    let w = world plan h in
+    let p = permitted plan h line lawful.0 (lawful_holds plan h lawful.2) in
+    let says : Option Bool = says_on plan w.views o line.event in
+    let now = ap (λ v. is_on v o) (views_next plan w line p) in
+    let turned = on_after plan line.time line.event (p.changes w.views) o (omega (arith, p.keeps.entries.on)) in
+    let looks = ap (λ s. unwrap_or s (is_on (p.changes w.views) o)) (p.keeps.switching o) in
+    let was : is_on (p.changes w.views) o ≡ is_switched_on plan h o = ap (λ (x : List Bool). slice_index_or x o false) p.keeps.untouched.domains ∙ on_said plan h o lawful.2 within in
+    now ∙ turned ∙ looks ∙ ap (unwrap_or says) was ∙ says_or says (is_switched_on plan h o)

@@ -1,5 +1,5 @@
 -- What the laws see of the views, and the changes that leave it alone.
-use Rattle.std.proofs.Common.{ℕ, ◌≡◌, Bool, true, false, List, Option, None, length, map, nat_eq, slice_index_or, if◌then◌else◌, ap, refl, sym, ◌∙◌}
+use Rattle.std.proofs.Common.{ℕ, ◌≡◌, Bool, true, false, List, Option, None, ℤ, length, map, nat_eq, slice_index_or, if◌then◌else◌, ap, refl, sym, ◌∙◌}
 use Rattle.std.proofs.Math.Seq.{map-set_same}
 use Rattle.std.proofs.Math.ListN.{get_or-map}
 use Rattle.std.proofs.lemmas.List.{length-set, length-map}
@@ -26,7 +26,18 @@ account_of x = record { usage = x.usage; told = told x }
 abbrev pub status_of : Device → Status
 status_of x = x.status
 
-pub record Seen : Type 0 where
+-- of a device: what the laws say beside its status and its counts
+pub record Aside : Type 0 where
+  pub error : ℤ
+  pub auto_on : Bool
+  pub idle_running : Bool
+  pub share : ℕ
+
+abbrev pub aside_of : Device → Aside
+aside_of x = record { error = x.error; auto_on = x.auto_on; idle_running = x.idle_running; share = x.share }
+
+-- the statuses, the counts and how many entries there are
+pub record Core : Type 0 where
   pub statuses : List Status
   pub accounts : List Account
   pub held : List Bool
@@ -35,8 +46,8 @@ pub record Seen : Type 0 where
   pub on : ℕ
   pub present : ℕ
 
-unfoldable pub seen : Views → Seen
-seen v = record {
+unfoldable pub core : Views → Core
+core v = record {
   statuses = map status_of v.devices;
   accounts = map account_of v.devices;
   held = v.held;
@@ -46,52 +57,100 @@ seen v = record {
   present = length v.present;
 }
 
--- what is the same where as much is seen
-pub status_seen : (v v' : Views) (d : DevId) → seen v' ≡ seen v → (device v' d).status ≡ (device v d).status
+-- all that the laws see: only an event changes it, but for what a setting of autosuspend counts
+pub record Seen : Type 0 where
+  pub core : Core
+  pub asides : List Aside
+  pub domains : List Bool
+
+unfoldable pub seen : Views → Seen
+seen v = record { core = core v; asides = map aside_of v.devices; domains = v.on }
+
+pub core_seen : (v v' : Views) → seen v' ≡ seen v → core v' ≡ core v
 unfolding seen
-status_seen v v' d e =
-    sym (get_or-map status_of v'.devices d.0 fresh_device) ∙ ap (λ (x : Seen). slice_index_or x.statuses d.0 fresh_device.status) e
+core_seen v v' e = ap (λ (x : Seen). x.core) e
+
+-- what is the same where as much is seen
+pub status_core : (v v' : Views) (d : DevId) → core v' ≡ core v → (device v' d).status ≡ (device v d).status
+unfolding core
+status_core v v' d e =
+    sym (get_or-map status_of v'.devices d.0 fresh_device) ∙ ap (λ (x : Core). slice_index_or x.statuses d.0 fresh_device.status) e
     ∙ get_or-map status_of v.devices d.0 fresh_device
 
-pub account_seen : (v v' : Views) (d : DevId) → seen v' ≡ seen v → account_of (device v' d) ≡ account_of (device v d)
-unfolding seen
-account_seen v v' d e =
-    sym (get_or-map account_of v'.devices d.0 fresh_device) ∙ ap (λ (x : Seen). slice_index_or x.accounts d.0 (account_of fresh_device)) e
+pub account_core : (v v' : Views) (d : DevId) → core v' ≡ core v → account_of (device v' d) ≡ account_of (device v d)
+unfolding core
+account_core v v' d e =
+    sym (get_or-map account_of v'.devices d.0 fresh_device) ∙ ap (λ (x : Core). slice_index_or x.accounts d.0 (account_of fresh_device)) e
     ∙ get_or-map account_of v.devices d.0 fresh_device
 
+pub held_core : (v v' : Views) → core v' ≡ core v → v'.held ≡ v.held
+unfolding core
+held_core v v' e = ap (λ (x : Core). x.held) e
+
+pub entries_core : (plan : Plan) (v v' : Views) → core v' ≡ core v → HasEntries plan v → HasEntries plan v'
+unfolding core
+entries_core plan v v' e h = record {
+  devices = sym (length-map v'.devices status_of) ∙ ap (λ (x : Core). length x.statuses) e ∙ length-map v.devices status_of ∙ h.devices;
+  pending = ap (λ (x : Core). x.pending) e ∙ h.pending;
+  timers = ap (λ (x : Core). x.timers) e ∙ h.timers;
+  on = ap (λ (x : Core). x.on) e ∙ h.on;
+  held = ap (λ (x : Core). length x.held) e ∙ h.held;
+  present = ap (λ (x : Core). x.present) e ∙ h.present;
+}
+
+pub status_seen : (v v' : Views) (d : DevId) → seen v' ≡ seen v → (device v' d).status ≡ (device v d).status
+status_seen v v' d e = status_core v v' d (core_seen v v' e)
+
+pub account_seen : (v v' : Views) (d : DevId) → seen v' ≡ seen v → account_of (device v' d) ≡ account_of (device v d)
+account_seen v v' d e = account_core v v' d (core_seen v v' e)
+
 pub held_seen : (v v' : Views) → seen v' ≡ seen v → v'.held ≡ v.held
-unfolding seen
-held_seen v v' e = ap (λ (x : Seen). x.held) e
+held_seen v v' e = held_core v v' (core_seen v v' e)
 
 pub entries_seen : (plan : Plan) (v v' : Views) → seen v' ≡ seen v → HasEntries plan v → HasEntries plan v'
+entries_seen plan v v' e h = entries_core plan v v' (core_seen v v' e) h
+
+-- what no change that a row names touches, beside the statuses and the counts
+pub record Untouched (v v' : Views) : Type 0 where
+  pub asides : (d : DevId) → aside_of (device v' d) ≡ aside_of (device v d)
+  pub held : v'.held ≡ v.held
+  pub domains : v'.on ≡ v.on
+
+pub untouched_seen : (v v' : Views) → seen v' ≡ seen v → Untouched v v'
 unfolding seen
-entries_seen plan v v' e h = record {
-  devices = sym (length-map v'.devices status_of) ∙ ap (λ (x : Seen). length x.statuses) e ∙ length-map v.devices status_of ∙ h.devices;
-  pending = ap (λ (x : Seen). x.pending) e ∙ h.pending;
-  timers = ap (λ (x : Seen). x.timers) e ∙ h.timers;
-  on = ap (λ (x : Seen). x.on) e ∙ h.on;
-  held = ap (λ (x : Seen). length x.held) e ∙ h.held;
-  present = ap (λ (x : Seen). x.present) e ∙ h.present;
+untouched_seen v v' e = record {
+  asides = λ d. sym (get_or-map aside_of v'.devices d.0 fresh_device) ∙ ap (λ (x : Seen). slice_index_or x.asides d.0 (aside_of fresh_device)) e ∙ get_or-map aside_of v.devices d.0 fresh_device;
+  held = held_seen v v' e;
+  domains = ap (λ (x : Seen). x.domains) e;
 }
 
 -- one entry changes where it isn't seen
+pub device_core : (v : Views) (d : DevId) (x : Device) → status_of x ≡ status_of (device v d) → account_of x ≡ account_of (device v d)
+    → core (with_device v d x) ≡ core v
+unfolding core
+device_core v d x s a = rw (map-set_same status_of v.devices d.0 x fresh_device s, map-set_same account_of v.devices d.0 x fresh_device a) refl
+
 pub device_calm : (v : Views) (d : DevId) (x : Device) → status_of x ≡ status_of (device v d) → account_of x ≡ account_of (device v d)
-    → seen (with_device v d x) ≡ seen v
+    → aside_of x ≡ aside_of (device v d) → seen (with_device v d x) ≡ seen v
 unfolding seen
-device_calm v d x s a = rw (map-set_same status_of v.devices d.0 x fresh_device s, map-set_same account_of v.devices d.0 x fresh_device a) refl
+device_calm v d x s a b = rw (device_core v d x s a, map-set_same aside_of v.devices d.0 x fresh_device b) refl
 
 pub pending_calm : (v : Views) (d : DevId) (x : Pending) → seen (with_pending v d x) ≡ seen v
-unfolding seen
+unfolding seen core
 pending_calm v d x = rw (length-set v.pending d.0 x) refl
 
 pub timer_calm : (v : Views) (d : DevId) (x : Option Armed) → seen (with_timer v d x) ≡ seen v
-unfolding seen
+unfolding seen core
 timer_calm v d x = rw (length-set v.timers d.0 x) refl
 
 -- whichever of two changes is made
 pub either_calm : (b : Bool) (v x y : Views) → seen x ≡ seen v → seen y ≡ seen v → seen (if b then x else y) ≡ seen v
 either_calm true v x y e f = e
 either_calm false v x y e f = f
+
+pub either_core : (b : Bool) (v x y : Views) → core x ≡ core v → core y ≡ core v → core (if b then x else y) ≡ core v
+either_core true v x y e f = e
+either_core false v x y e f = f
 
 -- the changes that rows name
 pub cancel_calm : (d : DevId) (v : Views) → seen (cancel d v) ≡ seen v
@@ -105,20 +164,20 @@ unfolding rcancel
 rcancel_calm d v = either_calm (has_auto_timer v d) v _ _ (pending_calm v d _) (cancel_calm d v)
 
 pub last_busy_calm : (t : ℕ) (d : DevId) (v : Views) → seen (set_last_busy t d v) ≡ seen v
-last_busy_calm t d v = device_calm v d _ refl refl
+last_busy_calm t d v = device_calm v d _ refl refl refl
 
 pub marks_calm : (plan : Plan) (d : DevId) (t : ℕ) (v : Views) → seen (callback_marks plan d t v) ≡ seen v
 unfolding callback_marks
 marks_calm plan d t v = either_calm (marks_busy plan d) v _ _ (last_busy_calm t d v) refl
 
 pub disables_calm : (d : DevId) (v : Views) → seen (disables d v) ≡ seen v
-disables_calm d v = device_calm v d _ refl refl
+disables_calm d v = device_calm v d _ refl refl refl
 
 pub last_calm : (b : Bool) (d : DevId) (v : Views) → seen (set_last b d v) ≡ seen v
-last_calm b d v = device_calm v d _ refl refl
+last_calm b d v = device_calm v d _ refl refl refl
 
 pub depth_calm : (n : ℕ) (d : DevId) (v : Views) → seen (set_depth n d v) ≡ seen v
-depth_calm n d v = device_calm v d _ refl refl
+depth_calm n d v = device_calm v d _ refl refl refl
 
 pub enables_calm : (d : DevId) (v : Views) → seen (enables d v) ≡ seen v
 unfolding enables
@@ -129,4 +188,4 @@ pub disables_all_calm : (d : DevId) (v : Views) → seen (cancel_all d (disables
 disables_all_calm d v = cancel_all_calm d (disables d v) ∙ disables_calm d v
 
 pub ignores_calm : (b : Bool) (d : DevId) (v : Views) → seen (set_ignores b d v) ≡ seen v
-ignores_calm b d v = device_calm v d _ refl refl
+ignores_calm b d v = device_calm v d _ refl refl refl

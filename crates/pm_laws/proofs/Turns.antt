@@ -32,7 +32,7 @@ use Rattle.pm_model.specs.Derived.{up, down}
 use Rattle.pm_model.specs.Events.{by_event, by_word, by_end, by_work, by_timer, got, gave, set_status, set_error, frees_links, held_from, is_try_again, suspend_failed, switches}
 use Rattle.pm_model.specs.Views.{Views, fresh_device, device, with_device}
 use Rattle.pm_laws.specs.Sizes.{HasEntries}
-use Rattle.pm_laws.proofs.Seen.{seen, status_of, device_calm, pending_calm, timer_calm, either_calm, last_busy_calm, status_seen, entries_seen}
+use Rattle.pm_laws.proofs.Seen.{seen, core, core_seen, status_of, device_core, pending_calm, timer_calm, either_core, last_busy_calm, status_core, status_seen, entries_core, entries_seen}
 
 -- events that change nothing that the laws see
 abbrev pub IsQuiet : Event → Type 0
@@ -47,40 +47,40 @@ length-switched : (b : Bool) (domains : List ℕ) (on : List Bool) → length (f
 length-switched b [] on = refl
 length-switched b (o ∷ domains) on = length-switched b domains (slice_set on o b) ∙ length-set on o b
 
-switches_calm : (b : Bool) (domains : List ℕ) (v : Views) → seen (switches b domains v) ≡ seen v
-unfolding seen
+switches_calm : (b : Bool) (domains : List ℕ) (v : Views) → core (switches b domains v) ≡ core v
+unfolding core
 switches_calm b domains v = rw (length-switched b domains v.on) refl
 
-work_calm : (d : DevId) (act : WorkAct) (v : Views) → seen (by_work d act v) ≡ seen v
-work_calm d (Queue r) v = pending_calm (set_request r d v) d _ ∙ pending_calm v d _
-work_calm d Defer v = pending_calm v d _
-work_calm d (Run r) v = pending_calm (set_request Nothing d v) d _ ∙ pending_calm v d _
+work_calm : (d : DevId) (act : WorkAct) (v : Views) → core (by_work d act v) ≡ core v
+work_calm d (Queue r) v = core_seen v _ (pending_calm (set_request r d v) d _ ∙ pending_calm v d _)
+work_calm d Defer v = core_seen v _ (pending_calm v d _)
+work_calm d (Run r) v = core_seen v _ (pending_calm (set_request Nothing d v) d _ ∙ pending_calm v d _)
 
-timer_act_calm : (d : DevId) (act : TimerAct) (v : Views) → seen (by_timer d act v) ≡ seen v
-timer_act_calm d (Arm at auto_on) v = timer_calm v d _
-timer_act_calm d (Fire auto_on) v = timer_calm v d _
+timer_act_calm : (d : DevId) (act : TimerAct) (v : Views) → core (by_timer d act v) ≡ core v
+timer_act_calm d (Arm at auto_on) v = core_seen v _ (timer_calm v d _)
+timer_act_calm d (Fire auto_on) v = core_seen v _ (timer_calm v d _)
 
-error_calm : (c : ℤ) (d : DevId) (v : Views) → seen (set_error c d v) ≡ seen v
-error_calm c d v = device_calm v d _ refl refl
+error_calm : (c : ℤ) (d : DevId) (v : Views) → core (set_error c d v) ≡ core v
+error_calm c d v = device_core v d _ refl refl
 
-pub quiet_event : (plan : Plan) (t : ℕ) (e : Event) (v : Views) → IsQuiet e → seen (by_event plan t e v) ≡ seen v
+pub quiet_event : (plan : Plan) (t : ℕ) (e : Event) (v : Views) → IsQuiet e → core (by_event plan t e v) ≡ core v
 unfolding by_event
 quiet_event plan t (event.Get d w) v q = elim q [ ]
 quiet_event plan t (event.Put d w) v q = elim q [ ]
 quiet_event plan t (event.State d w) v q = elim q [ ]
-quiet_event plan t (event.Begin d cb.Idle) v q = device_calm v d _ refl refl
+quiet_event plan t (event.Begin d cb.Idle) v q = device_core v d _ refl refl
 quiet_event plan t (event.Begin d cb.Suspend) v q = elim q [ ]
-quiet_event plan t (event.Begin d cb.Resume) v q = device_calm v d _ refl refl
-quiet_event plan t (event.End d cb.Idle c) v q = device_calm v d _ refl refl
+quiet_event plan t (event.Begin d cb.Resume) v q = device_core v d _ refl refl
+quiet_event plan t (event.End d cb.Idle c) v q = device_core v d _ refl refl
 quiet_event plan t (event.End d cb.Suspend c) v q = elim q [ ]
-quiet_event plan t (event.End d cb.Resume c) v q = either_calm (int_eq c (pos 0)) v v (set_error c d v) refl (error_calm c d v)
+quiet_event plan t (event.End d cb.Resume c) v q = either_core (int_eq c (pos 0)) v v (set_error c d v) refl (error_calm c d v)
 quiet_event plan t (event.Domain d is_up n) v q =
-    either_calm is_up v _ _ (switches_calm true (up plan v d) v) (switches_calm false (down plan v d) v)
+    either_core is_up v _ _ (switches_calm true (up plan v d) v) (switches_calm false (down plan v d) v)
 quiet_event plan t (event.Work d act) v q = work_calm d act v
 quiet_event plan t (event.Timer d act) v q = timer_act_calm d act v
 quiet_event plan t _ v q = refl
 
--- one entry changes
+-- one entry changes, and all entries are there
 pub entry_is : (v : Views) (e d : DevId) (x : Device) → d.0 < length v.devices
     → device (with_device v e x) d ≡ (if is_same d e then x else device v d)
 entry_is v e d x within =
@@ -89,6 +89,9 @@ entry_is v e d x within =
       | inr q ↦ rw q.0 (get_or-set_other v.devices e.0 d.0 x fresh_device (λ same. q.1 (sym same)))
     ]
 
+pub within_set : (v : Views) (e d : DevId) (x : Device) → d.0 < length v.devices → d.0 < length (with_device v e x).devices
+within_set v e d x within = rw (length-set v.devices e.0 x) within
+
 -- a field that keeps its value keeps it everywhere
 pub entry_kept : {A : Type 0} (f : Device → A) (v : Views) (e d : DevId) (x : Device) → f x ≡ f (device v e)
     → f (device (with_device v e x) d) ≡ f (device v d)
@@ -96,13 +99,17 @@ entry_kept f v e d x same =
     sym (get_or-map f (slice_set v.devices e.0 x) d.0 fresh_device)
     ∙ ap (λ l. slice_index_or l d.0 (f fresh_device)) (map-set_same f v.devices e.0 x fresh_device same) ∙ get_or-map f v.devices d.0 fresh_device
 
-pub status_turned : (v : Views) (e d : DevId) (x : Device) → d.0 < length v.devices
-    → status_of (device (with_device v e x) d) ≡ unwrap_or (only_if (is_same d e) (status_of x)) (status_of (device v d))
-status_turned v e d x within = ap status_of (entry_is v e d x within) ∙ chosen (is_same d e) x (device v d)
+pub field_turned : {A : Type 0} (f : Device → A) (v : Views) (e d : DevId) (x : Device) → d.0 < length v.devices
+    → f (device (with_device v e x) d) ≡ unwrap_or (only_if (is_same d e) (f x)) (f (device v d))
+field_turned {A} f v e d x within = ap f (entry_is v e d x within) ∙ chosen (is_same d e) x (device v d)
   where
-    chosen : (b : Bool) (x y : Device) → status_of (if b then x else y) ≡ unwrap_or (only_if b (status_of x)) (status_of y)
+    chosen : (b : Bool) (x y : Device) → f (if b then x else y) ≡ unwrap_or (only_if b (f x)) (f y)
     chosen true x y = refl
     chosen false x y = refl
+
+status_turned : (v : Views) (e d : DevId) (x : Device) → d.0 < length v.devices
+    → status_of (device (with_device v e x) d) ≡ unwrap_or (only_if (is_same d e) (status_of x)) (status_of (device v d))
+status_turned v e d x within = field_turned status_of v e d x within
 
 -- where links are freed only usages change
 entries_freed_kept : {A : Type 0} (f : Device → A) (free : ℕ → ℕ) → ((x : Device) (n : ℕ) → f (record x { usage = n }) ≡ f x)
@@ -126,15 +133,15 @@ word_turned plan t e d word.Active v within = status_seen (set_status status.Act
 word_turned plan t e d word.Resuming v within = status_turned v e d _ within
 word_turned plan t e d word.Suspended v within = status_turned v e d _ within
 word_turned plan t e d word.Deferred v within = status_turned v e d _ within
-word_turned plan t e d word.ForcedActive v within = status_seen (set_status status.Active e v) _ d (error_calm (pos 0) e _) ∙ status_turned v e d _ within
+word_turned plan t e d word.ForcedActive v within = status_core (set_status status.Active e v) _ d (error_calm (pos 0) e _) ∙ status_turned v e d _ within
 word_turned plan t e d word.ForcedSuspended v within =
-    freed_status plan e d _ ∙ status_seen (set_status status.Suspended e v) (set_error (pos 0) e (set_status status.Suspended e v)) d (error_calm (pos 0) e _)
+    freed_status plan e d _ ∙ status_core (set_status status.Suspended e v) (set_error (pos 0) e (set_status status.Suspended e v)) d (error_calm (pos 0) e _)
     ∙ status_turned v e d _ within
 
 failed_turned : (e d : DevId) (c : ℤ) (v : Views) → d.0 < length v.devices
     → status_of (device (suspend_failed e c v) d) ≡ unwrap_or (only_if (is_same d e) status.Active) (status_of (device v d))
 failed_turned e d c v within =
-    status_seen (set_status status.Active e v) _ d (either_calm (is_try_again c) (set_status status.Active e v) _ _ refl (error_calm c e _)) ∙ status_turned v e d _ within
+    status_core (set_status status.Active e v) _ d (either_core (is_try_again c) (set_status status.Active e v) _ _ refl (error_calm c e _)) ∙ status_turned v e d _ within
 
 end_turned : (e d : DevId) (c : ℤ) (v : Views) → d.0 < length v.devices
     → status_of (device (by_end e cb.Suspend c v) d) ≡ unwrap_or (says_status d (event.End e cb.Suspend c)) (status_of (device v d))
@@ -171,10 +178,10 @@ status_after plan t (event.Begin x cb.Suspend) v d within = status_turned v x d 
 status_after plan t (event.Begin x cb.Resume) v d within = entry_kept status_of v x d _ refl
 status_after plan t (event.End x cb.Idle c) v d within = entry_kept status_of v x d _ refl
 status_after plan t (event.End x cb.Suspend c) v d within = end_turned x d c v within
-status_after plan t (event.End x cb.Resume c) v d within = status_seen v _ d (quiet_event plan t (event.End x cb.Resume c) v tt)
-status_after plan t (event.Domain x is_up n) v d within = status_seen v _ d (quiet_event plan t (event.Domain x is_up n) v tt)
-status_after plan t (event.Work x act) v d within = status_seen v _ d (quiet_event plan t (event.Work x act) v tt)
-status_after plan t (event.Timer x act) v d within = status_seen v _ d (quiet_event plan t (event.Timer x act) v tt)
+status_after plan t (event.End x cb.Resume c) v d within = status_core v _ d (quiet_event plan t (event.End x cb.Resume c) v tt)
+status_after plan t (event.Domain x is_up n) v d within = status_core v _ d (quiet_event plan t (event.Domain x is_up n) v tt)
+status_after plan t (event.Work x act) v d within = status_core v _ d (quiet_event plan t (event.Work x act) v tt)
+status_after plan t (event.Timer x act) v d within = status_core v _ d (quiet_event plan t (event.Timer x act) v tt)
 status_after plan t _ v d within = refl
 
 -- no event changes how many entries there are
@@ -190,7 +197,7 @@ unfolding set_held
 entries_held plan c s b v h = record { devices = h.devices; pending = h.pending; timers = h.timers; on = h.on; held = length-at_pair plan c s b v.held h.held; present = h.present }
 
 pub present_calm : (plan : Plan) (c s : DevId) (b : Bool) (v : Views) → HasEntries plan v → seen (set_present plan c s b v) ≡ seen v
-unfolding set_present seen
+unfolding set_present seen core
 present_calm plan c s b v h = rw (length-at_pair plan c s b v.present h.present ∙ sym h.present) refl
 
 length_freed : (plan : Plan) (d : DevId) (v : Views) → HasEntries plan v → HasEntries plan (frees_links plan d v)
@@ -242,8 +249,8 @@ entries_after plan t (event.End d cb.Suspend c) v h = go (int_eq c (pos 0)) (is_
 entries_after plan t (event.Begin d cb.Idle) v h = entries_device plan v d _ h
 entries_after plan t (event.Begin d cb.Resume) v h = entries_device plan v d _ h
 entries_after plan t (event.End d cb.Idle c) v h = entries_device plan v d _ h
-entries_after plan t (event.End d cb.Resume c) v h = entries_seen plan v _ (quiet_event plan t (event.End d cb.Resume c) v tt) h
-entries_after plan t (event.Domain d is_up n) v h = entries_seen plan v _ (quiet_event plan t (event.Domain d is_up n) v tt) h
-entries_after plan t (event.Work d act) v h = entries_seen plan v _ (quiet_event plan t (event.Work d act) v tt) h
-entries_after plan t (event.Timer d act) v h = entries_seen plan v _ (quiet_event plan t (event.Timer d act) v tt) h
+entries_after plan t (event.End d cb.Resume c) v h = entries_core plan v _ (quiet_event plan t (event.End d cb.Resume c) v tt) h
+entries_after plan t (event.Domain d is_up n) v h = entries_core plan v _ (quiet_event plan t (event.Domain d is_up n) v tt) h
+entries_after plan t (event.Work d act) v h = entries_core plan v _ (quiet_event plan t (event.Work d act) v tt) h
+entries_after plan t (event.Timer d act) v h = entries_core plan v _ (quiet_event plan t (event.Timer d act) v tt) h
 entries_after plan t _ v h = h

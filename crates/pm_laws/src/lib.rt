@@ -1,15 +1,16 @@
 //! Laws that hold after every lawful list of lines, whatever the order of the actors.
 #![tactic(auto)]
 
-ghost use Rattle.std.specs.Prelude.{◌≡◌, ◌+◌, ◌<◌, ℕ, List, true, false, length};
+ghost use Rattle.std.specs.Prelude.{◌≡◌, ◌+◌, ◌<◌, ℕ, List, Some, true, false, length, slice_get};
 ghost use Rattle.pm_base.specs.declared.DevId.{DevId};
 ghost use Rattle.pm_model.specs.declared.event.Line.{Line};
 ghost use Rattle.pm_model.specs.declared.plan.Plan.{Plan};
-ghost use Rattle.pm_model.specs.Counted.{gets, puts, freed, usage, status_of};
+ghost use Rattle.pm_model.specs.declared.rows.LinkRow.{LinkRow};
+ghost use Rattle.pm_model.specs.Counted.{gets, puts, freed, usage, is_caller, share, status_of, error_of, is_allowed, idle_runs, is_held_pair, is_switched_on};
 ghost use Rattle.pm_model.specs.Derived.{is_moving};
 ghost use Rattle.pm_model.specs.Lawful.{IsLawful};
 ghost use Rattle.pm_model.specs.PlanRows.{no_callbacks};
-ghost use Rattle.pm_model.specs.Views.{device};
+ghost use Rattle.pm_model.specs.Views.{device, is_held, is_on};
 ghost use Rattle.pm_model.specs.World.{world};
 ghost use Rattle.pm_laws.specs.Counts.{AddsUp};
 ghost use Rattle.pm_laws.specs.Owners.{HasOneOwner};
@@ -36,6 +37,33 @@ pub fn status_is_said()
     ensures { (plan : Plan) (h : List Line) (d : DevId) → IsLawful plan h → d.0 < length plan.devices → (device (world plan h).views d).status ≡ status_of h d }
 {}
 
+/// The error of a device is what the last line that says anything of it says.
+pub fn error_is_said()
+    ensures { (plan : Plan) (h : List Line) (d : DevId) → IsLawful plan h → d.0 < length plan.devices → (device (world plan h).views d).error ≡ error_of h d }
+{}
+
+/// A device is allowed to suspend unless the last get or put of it for `forbid` is a get (`runtime_pm.rst`, section 4).
+pub fn auto_is_said()
+    ensures { (plan : Plan) (h : List Line) (d : DevId) → IsLawful plan h → d.0 < length plan.devices → (device (world plan h).views d).auto_on ≡ is_allowed h d }
+{}
+
+/// The idle callback of a device runs from its begin to its end.
+pub fn idle_is_said()
+    ensures { (plan : Plan) (h : List Line) (d : DevId) → IsLawful plan h → d.0 < length plan.devices → (device (world plan h).views d).idle_running ≡ idle_runs h d }
+{}
+
+/// A link is held from the get of its supplier for its consumer to the put, or to a forced suspend of its consumer
+/// (`device_link.rst`).
+pub fn held_is_said()
+    ensures { (plan : Plan) (h : List Line) (l : ℕ) (row : LinkRow) → IsLawful plan h → slice_get plan.links l ≡ Some row → is_held (world plan h).views l ≡ is_held_pair h row.consumer row.supplier }
+{}
+
+/// A domain is on as the last `pm_domain` line that switches it says; before any, the domains that are always on are
+/// on, and those above them.
+pub fn domains_are_said()
+    ensures { (plan : Plan) (h : List Line) (o : ℕ) → IsLawful plan h → o < length plan.domains → is_on (world plan h).views o ≡ is_switched_on plan h o }
+{}
+
 /// The usage of a device is the number of counts that someone holds on it.
 pub fn usage_adds_up()
     ensures { (plan : Plan) (h : List Line) → IsLawful plan h → AddsUp plan (world plan h) }
@@ -46,4 +74,11 @@ pub fn usage_adds_up()
 pub fn usage_is_counted()
     ensures given_back { (plan : Plan) (h : List Line) (d : DevId) → IsLawful plan h → d.0 < length plan.devices → (device (world plan h).views d).usage + (puts (λ w. true) h d + freed plan h d) ≡ gets (λ w. true) h d }
     ensures left { (plan : Plan) (h : List Line) (d : DevId) → IsLawful plan h → d.0 < length plan.devices → (device (world plan h).views d).usage ≡ usage plan h d }
+{}
+
+/// The share of a device's usage that is the callers' is their gets less their puts; so callers never give back more
+/// than they took.
+pub fn share_is_counted()
+    ensures given_back { (plan : Plan) (h : List Line) (d : DevId) → IsLawful plan h → d.0 < length plan.devices → (device (world plan h).views d).share + puts is_caller h d ≡ gets is_caller h d }
+    ensures left { (plan : Plan) (h : List Line) (d : DevId) → IsLawful plan h → d.0 < length plan.devices → (device (world plan h).views d).share ≡ share h d }
 {}
