@@ -1,0 +1,5 @@
+pub mod Followed
+pub mod Stuck
+pub mod Texts
+pub mod Apart
+pub mod Empty
