@@ -1,0 +1,199 @@
+//! The links of a plan, and which of them are held and present (`device_link.rst`).
+#![tactic(auto)]
+
+ghost use Rattle.std.specs.Prelude.{◌≡◌, ◌<◌, ℕ, Bool, List, true, false, length, map, not, option_map, position, slice_set, IfOk, IfSome};
+ghost use Rattle.std.specs.Option.{option_map_or};
+ghost use Rattle.pm_model.specs.Changes.{at_pair};
+ghost use Rattle.pm_model.specs.ControlTable.{is_pair_in, may_be_absent};
+ghost use Rattle.pm_model.specs.Derived.{first_free, first_held, next_supplier};
+ghost use Rattle.pm_model.specs.Events.{frees_links};
+ghost use Rattle.pm_model.specs.PlanRows.{is_of_pair};
+ghost use Rattle.pm_model.specs.Views.{Views};
+ghost use Rattle.pm_link.specs.LinkOrder.{IsFirst};
+ghost use Rattle.pm_link.specs.Links.{IsPlace, SetsPair, bit_at, fresh_links, row_at, with_supplier};
+ghost use Rattle.pm_link.specs.Wanted.{is_wanted_at};
+
+mod order;
+mod search;
+#[cfg(test)]
+mod tests;
+
+use order::{link_order, own};
+use pm_base::{DevId, NoMemory};
+use pm_model::{LinkRow, Plan};
+use search::{Want, first_wanted, free_each};
+use std::alloc::{AllocError, Global};
+use std::marker::Model;
+
+/// Which links are held and which are present. Contracts see the links of the plan for which it was
+/// made, and both lists in the plan's order.
+#[derive(Debug, Drop)]
+pub struct Links {
+    rows: Vec<LinkRow>,
+    // The places of the links, sorted by consumer and then by supplier.
+    order: Vec<u32>,
+    held: Vec<bool>,
+    present: Vec<bool>,
+}
+
+impl Model for Links {
+    ghost use Rattle.pm_link.specs.Links.{LinkViews};
+    ghost use Rattle.pm_link.specs.LinkOrder.{IsKept};
+
+    ghost Value = { LinkViews };
+
+    ghost view = { λ l. record { rows = l.rows.items; held = l.held.items; present = l.present.items } };
+
+    ghost invariant = { λ l. IsKept l.rows.items l.order.items l.held.items l.present.items };
+}
+
+// No link is held.
+fn all_free(alloc: Global, rows: &[LinkRow]) -> Result<Vec<bool>, AllocError>
+    ensures { IfOk result (λ v. v.items ≡ map (λ row. false) rows.now) }
+{
+    rows.iter().map(|_| false).collect(alloc)
+}
+
+// Each link is present but those that are added later.
+fn those_present(alloc: Global, rows: &[LinkRow]) -> Result<Vec<bool>, AllocError>
+    ensures { IfOk result (λ v. v.items ≡ map (λ row. not row.later) rows.now) }
+{
+    rows.iter().map(|row| !row.later).collect(alloc)
+}
+
+impl Links {
+    /// The links of a plan before any line. Fails where memory runs out.
+    pub fn fresh(alloc: Global, plan: &Plan) -> Result<Links, NoMemory>
+        ensures { IfOk result (λ links. links ≡ fresh_links plan.now) }
+    {
+        let rows = plan.links.as_slice();
+        Ok(Links {
+            rows: Vec::from_slice(alloc, rows)?,
+            order: link_order(alloc, rows)?,
+            held: all_free(alloc, rows)?,
+            present: those_present(alloc, rows)?,
+        })
+    }
+
+    /// Whether a link, by its place in the plan, is held.
+    pub fn held(&self, link: usize) -> bool
+        requires { link < length self.now.held }
+        ensures { result ≡ bit_at self.now.held link }
+    {
+        self.held[link]
+    }
+
+    /// Whether a link is present.
+    pub fn present(&self, link: usize) -> bool
+        requires { link < length self.now.present }
+        ensures { result ≡ bit_at self.now.present link }
+    {
+        self.present[link]
+    }
+
+    /// Holds a link that is free.
+    pub fn take(&mut self, link: usize)
+        requires in_range { link < length self.old.held }
+        requires free { bit_at self.old.held link ≡ false }
+        ensures { self.new ≡ record self.old { held = slice_set self.old.held link true } }
+    {
+        self.held[link] = true;
+    }
+
+    /// Gives back a link that is held.
+    pub fn give(&mut self, link: usize)
+        requires in_range { link < length self.old.held }
+        requires held { bit_at self.old.held link ≡ true }
+        ensures { self.new ≡ record self.old { held = slice_set self.old.held link false } }
+    {
+        self.held[link] = false;
+    }
+
+    /// Adds a link that isn't present.
+    pub fn add(&mut self, link: usize)
+        requires in_range { link < length self.old.present }
+        requires absent { bit_at self.old.present link ≡ false }
+        ensures { self.new ≡ record self.old { present = slice_set self.old.present link true } }
+    {
+        self.present[link] = true;
+    }
+
+    /// Removes a link that is present and free.
+    pub fn remove(&mut self, link: usize)
+        requires in_range { link < length self.old.present }
+        requires present { bit_at self.old.present link ≡ true }
+        requires free { bit_at self.old.held link ≡ false }
+        ensures { self.new ≡ record self.old { present = slice_set self.old.present link false } }
+    {
+        self.present[link] = false;
+    }
+
+    // The first link of a consumer that is looked for.
+    fn first(&self, plan: &Plan, dev: DevId, want: Want) -> Option<usize>
+        requires { self.now.rows ≡ plan.now.links }
+        ensures first { IsFirst (is_wanted_at want dev plan.now.links self.now.held self.now.present) plan.now.links result }
+        ensures held_len { length self.now.held ≡ length plan.now.links }
+        ensures present_len { length self.now.present ≡ length plan.now.links }
+    {
+        let rows = plan.links.as_slice();
+        let links = own(rows, &self.order, dev);
+        first_wanted(want, dev, rows, &self.held, &self.present, links)
+    }
+
+    /// The held link of a consumer that has the least supplier, of those that are present and have
+    /// `DL_FLAG_PM_RUNTIME`. It looks at that consumer's links alone, as do the next four.
+    pub fn first_held(&self, plan: &Plan, dev: DevId) -> Option<usize>
+        requires made_for { self.now.rows ≡ plan.now.links }
+        ensures in_range { IfSome result (IsPlace self.now) }
+        ensures held { IfSome result (λ link. bit_at self.now.held link ≡ true) }
+        ensures bits_set { IfSome result (λ link. SetsPair plan.now dev (row_at plan.now.links link).supplier link) }
+        ensures first { (v : Views) → v.held ≡ self.now.held → v.present ≡ self.now.present → first_held plan.now v dev ≡ option_map (with_supplier plan.now.links) result }
+    {
+        self.first(plan, dev, Want::Held)
+    }
+
+    /// The one that isn't held and has the least supplier.
+    pub fn first_free(&self, plan: &Plan, dev: DevId) -> Option<usize>
+        requires made_for { self.now.rows ≡ plan.now.links }
+        ensures in_range { IfSome result (IsPlace self.now) }
+        ensures free { IfSome result (λ link. bit_at self.now.held link ≡ false) }
+        ensures bits_set { IfSome result (λ link. SetsPair plan.now dev (row_at plan.now.links link).supplier link) }
+        ensures first { (v : Views) → v.held ≡ self.now.held → v.present ≡ self.now.present → first_free plan.now v dev ≡ option_map (with_supplier plan.now.links) result }
+    {
+        self.first(plan, dev, Want::Free)
+    }
+
+    /// The one, held or not, that has the least supplier behind the last one.
+    pub fn next_supplier(&self, plan: &Plan, dev: DevId, last: Option<DevId>) -> Option<usize>
+        requires made_for { self.now.rows ≡ plan.now.links }
+        ensures in_range { IfSome result (IsPlace self.now) }
+        ensures first { (v : Views) → v.held ≡ self.now.held → v.present ≡ self.now.present → next_supplier plan.now v dev last ≡ option_map (with_supplier plan.now.links) result }
+    {
+        self.first(plan, dev, Want::Above(last))
+    }
+
+    /// The link from a consumer to a supplier, present or not, whatever its flags. A plan has at most
+    /// one.
+    pub fn find(&self, plan: &Plan, consumer: DevId, supplier: DevId) -> Option<usize>
+        requires made_for { self.now.rows ≡ plan.now.links }
+        ensures found { result ≡ position (is_of_pair consumer supplier) plan.now.links }
+        ensures in_range { IfSome result (IsPlace self.now) }
+
+        // What is said of the pair is said of that link.
+        ensures bits_set { (bits : List Bool) (b : Bool) → length bits ≡ length plan.now.links → at_pair plan.now consumer supplier b bits ≡ option_map_or (λ link. slice_set bits link b) result bits }
+        ensures bits_read { (bits : List Bool) → length bits ≡ length plan.now.links → is_pair_in plan.now consumer supplier bits ≡ option_map_or (bit_at bits) result false }
+        ensures later { may_be_absent plan.now consumer supplier ≡ option_map_or (λ link. (row_at plan.now.links link).later) result false }
+    {
+        self.first(plan, consumer, Want::To(supplier))
+    }
+
+    /// Gives back every held link of a consumer.
+    pub fn free_all(&mut self, plan: &Plan, consumer: DevId)
+        requires made_for { self.old.rows ≡ plan.now.links }
+        ensures held_alone { self.new ≡ record self.old { held = self.new.held } }
+        ensures freed { (v : Views) → v.held ≡ self.old.held → self.new.held ≡ (frees_links plan.now consumer v).held }
+    {
+        let links = own(plan.links.as_slice(), &self.order, consumer);
+        free_each(&mut self.held, links);
+    }
+}

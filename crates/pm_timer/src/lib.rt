@@ -1,0 +1,134 @@
+//! The timers of all devices (`runtime_pm.rst`, section 3: `suspend_timer`), and which fires first.
+#![tactic(auto)]
+
+ghost use Rattle.std.specs.Prelude.{◌≡◌, ◌<◌, ◌^◌, ℕ, Some, None, length, replicate, slice_set, IfNone, IfOk, IfSome};
+ghost use Rattle.pm_base.specs.declared.DevId.{DevId as Dev};
+ghost use Rattle.pm_timer.specs.Timers.{IsNoLater, deadline_of, timer_of};
+
+mod tournament;
+
+use pm_base::{Armed, DevId, NoMemory};
+use std::alloc::Global;
+use std::marker::Model;
+use tournament::Tournament;
+
+/// The timer of each device, which contracts see as the list of them in the plan's order.
+#[derive(Debug, Drop)]
+pub struct Timers {
+    timers: Vec<Option<Armed>>,
+    // The deadline and the device of each armed timer, so that the first of them is at hand.
+    order: Tournament,
+}
+
+impl Model for Timers {
+    ghost use Rattle.std.specs.Prelude.{List, Option};
+    ghost use Rattle.pm_base.specs.declared.Armed.{Armed};
+    ghost use Rattle.pm_timer.specs.Timers.{IsOrderOf};
+
+    ghost Value = { List (Option Armed) };
+
+    ghost view = { λ t. t.timers.items };
+
+    ghost invariant = { λ t. IsOrderOf t.timers.items t.order };
+}
+
+impl Timers {
+    /// No timer of any of so many devices, fewer than 2^32, is armed.
+    pub fn fresh(alloc: Global, devices: usize) -> Result<Timers, NoMemory>
+        requires { devices < 2 ^ 32 }
+        ensures { IfOk result (λ timers. timers ≡ replicate devices None) }
+    {
+        Ok(Timers {
+            timers: vec![in alloc; None; devices]?,
+            order: Tournament::new(alloc, devices)?,
+        })
+    }
+
+    /// Arms the timer of the device to fire at this moment, in milliseconds of the run, and says
+    /// whether an autosuspend arms it. It takes a number of steps that is logarithmic in the number
+    /// of devices.
+    pub fn arm(&mut self, dev: DevId, at: u64, auto_on: bool)
+        requires { dev.0 < length self.old }
+        ensures { self.new ≡ slice_set self.old dev.0 (Some (record { deadline = at; auto_on = auto_on })) }
+    {
+        self.timers[dev.0 as usize] = Some(Armed {
+            deadline: at,
+            auto_on,
+        });
+        self.order.enter(dev.0 as usize, Some((at, dev)));
+    }
+
+    /// Disarms the timer of the device, in as many steps.
+    pub fn disarm(&mut self, dev: DevId)
+        requires { dev.0 < length self.old }
+        ensures { self.new ≡ slice_set self.old dev.0 None }
+    {
+        self.timers[dev.0 as usize] = None;
+        self.order.enter(dev.0 as usize, None);
+    }
+
+    /// The timer of the device, if it is armed.
+    pub fn armed(&self, dev: DevId) -> Option<Armed>
+        requires { dev.0 < length self.now }
+        ensures { result ≡ timer_of self.now dev }
+    {
+        self.timers[dev.0 as usize]
+    }
+
+    /// The armed timer with the least deadline, and of several the one of the least device: its
+    /// deadline and its device. It looks at one entry.
+    pub fn earliest(&self) -> Option<(u64, DevId)>
+        ensures armed { IfSome result (λ first. deadline_of self.now first.1 ≡ Some first.0) }
+        ensures least { IfSome result (λ first. (d : Dev) (at : ℕ) → deadline_of self.now d ≡ Some at → IsNoLater first (at, d)) }
+        ensures missing { IfNone result ((d : Dev) → deadline_of self.now d ≡ None) }
+    {
+        self.order.first()
+    }
+}
+
+#[cfg(test)]
+mod tests {
+    use super::*;
+    use std::test::Fail;
+
+    #[test]
+    fn the_least_deadline_comes_first_and_then_the_least_device(
+        rt: HostRuntime,
+    ) -> Result<(), Fail> {
+        let mut timers = Timers::fresh(rt.alloc(), 5)?;
+        assert!(rt; timers.timers.len() == 5);
+        assert_eq!(rt; timers.earliest(), None);
+        timers.arm(DevId(3), 7, true);
+        assert_eq!(rt; timers.earliest(), Some((7, DevId(3))));
+        timers.arm(DevId(4), 7, false);
+        timers.arm(DevId(1), 9, false);
+        assert_eq!(rt; timers.earliest(), Some((7, DevId(3))));
+        assert!(rt;
+            timers.armed(DevId(3))
+                == Some(Armed {
+                    deadline: 7,
+                    auto_on: true
+                })
+        );
+        assert!(rt; timers.armed(DevId(0)) == None);
+        timers.arm(DevId(3), 12, true);
+        assert_eq!(rt; timers.earliest(), Some((7, DevId(4))));
+        timers.disarm(DevId(4));
+        assert_eq!(rt; timers.earliest(), Some((9, DevId(1))));
+        timers.arm(DevId(0), 9, false);
+        assert_eq!(rt; timers.earliest(), Some((9, DevId(0))));
+        Ok(())
+    }
+
+    #[test]
+    fn no_device_and_one_device(rt: HostRuntime) -> Result<(), Fail> {
+        assert_eq!(rt; Timers::fresh(rt.alloc(), 0)?.earliest(), None);
+        let mut timers = Timers::fresh(rt.alloc(), 1)?;
+        assert!(rt; timers.timers.len() == 1);
+        timers.arm(DevId(0), 0, false);
+        assert_eq!(rt; timers.earliest(), Some((0, DevId(0))));
+        timers.disarm(DevId(0));
+        assert_eq!(rt; timers.earliest(), None);
+        Ok(())
+    }
+}
