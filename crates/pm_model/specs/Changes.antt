@@ -1,4 +1,5 @@
--- The changes that a row of the call table names beside those that its event makes of itself.
+-- The changes that a row of the call table names beside those that its event makes of itself (runtime_pm.rst, sections 3,
+-- 4 and 9; the changes of links and of ignore_children are this project's own).
 use Rattle.std.specs.Prelude.{ℕ, ◌+◌, ◌-◌, Bool, false, List, None, ℤ, map, nat_eq, if◌then◌else◌}
 use Rattle.std.specs.List.{zip}
 use Rattle.std.specs.Option.{option_map_or}

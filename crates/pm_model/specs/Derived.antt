@@ -1,4 +1,5 @@
--- What follows from the views.
+-- What follows from the views (runtime_pm.rst, sections 2, 4 and 9; device_link.rst for links; the rule for domains and
+-- the order of the refusals are this project's own).
 use Rattle.std.specs.Prelude.{ℕ, ◌+◌, ◌-◌, Bool, true, false, not, ◌&&◌, ◌||◌, List, [], ◌∷◌, Option, Some, None, ℤ, pos, count_by, nat_abs, nat_lt, nat_le, nat_eq, int_le, int_lt, is_some, bit_and, slice_get, slice_set, unwrap_or, if◌then◌else◌}
 use Rattle.std.specs.List.{enumerate_from, filter, list_all, zip}
 use Rattle.std.specs.Option.{option_map_or}

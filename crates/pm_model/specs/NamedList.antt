@@ -1,4 +1,4 @@
--- What a list of rows with names answers, said of the list of their names.
+-- What a list of rows with names answers, said of the list of their names (this project's own).
 use Rattle.std.specs.Prelude.{ℕ, List, [], ◌∷◌, Option, max, nat_eq, position}
 use Rattle.std.specs.List.{common_prefix_len}
 use Rattle.std.specs.Str.{bytes_eq}

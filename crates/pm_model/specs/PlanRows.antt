@@ -1,4 +1,4 @@
--- What the plan says of a device, a domain or a link.
+-- What the plan says of a device, a domain or a link (this project's own; no callbacks: runtime_pm.rst, section 8).
 use Rattle.std.specs.Prelude.{ℕ, zero, suc, Bool, false, not, ◌&&◌, List, [], ◌∷◌, Option, Some, None, ℤ, is_some, nat_eq, length, slice_get, unwrap_or}
 use Rattle.std.specs.List.{enumerate_from, list_any}
 use Rattle.std.specs.Option.{option_and_then, option_map_or}

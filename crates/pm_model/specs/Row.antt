@@ -1,4 +1,4 @@
--- What a row of the call table gives, and the words that its rows are written in.
+-- What a row of the call table gives, and the words that its rows are written in (this project's own).
 use Rattle.std.specs.Prelude.{ℕ, false, List, [], ◌∷◌, Some, None, ℤ, nat_lt, if◌then◌else◌}
 use Rattle.pm_base.specs.declared.Cb.{Cb}
 use Rattle.pm_base.specs.declared.DevId.{DevId}

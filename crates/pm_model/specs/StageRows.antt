@@ -1,4 +1,4 @@
--- A row of at most two stages as a list, and the list as a row again.
+-- A row of at most two stages as a list, and the list as a row again (this project's own).
 use Rattle.std.specs.Prelude.{◌≡◌, List, [], ◌∷◌, refl}
 use Rattle.std.proofs.Common.{ap}
 use Rattle.pm_model.specs.declared.stage.Stage.{Stage}

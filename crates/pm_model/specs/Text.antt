@@ -1,4 +1,4 @@
--- The text of a plan's lines, in order.
+-- The text of a plan's lines, in order (this project's own).
 use Rattle.std.specs.Prelude.{ℕ, List, ◌++◌, map, nat_eq, if◌then◌else◌}
 use Rattle.pm_model.specs.declared.event.Line.{Line}
 use Rattle.pm_model.specs.declared.plan.Plan.{Plan}

@@ -1,4 +1,5 @@
--- Where a run stands after a list of lines, the newest first: the views, and the place of each actor.
+-- Where a run stands after a list of lines, the newest first: the views, and the place of each actor (this project's
+-- own).
 use Rattle.std.specs.Prelude.{ℕ, ◌+◌, false, List, [], ◌∷◌, Option, Some, None, map, drop, nat_abs, slice_get, slice_set, slice_index_or, if◌then◌else◌}
 use Rattle.std.specs.List.{enumerate_from}
 use Rattle.std.specs.Option.{option_map_or, option_and_then}
