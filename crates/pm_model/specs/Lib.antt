@@ -19,8 +19,6 @@ pub mod World
 pub mod Lawful
 pub mod Serial
 pub mod Excuse
-pub mod NameOrder
-pub mod NamedList
 pub mod Counted
 pub mod Promises
 pub mod Islands

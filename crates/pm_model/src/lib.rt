@@ -5,8 +5,6 @@
 
 mod event;
 mod handing;
-mod items;
-mod named;
 mod plan;
 mod rows;
 mod same;
@@ -15,9 +13,8 @@ mod views;
 
 pub use event::{Command, Event, Fields, Helper, Line, Operand, TimerAct, Word, WorkAct};
 pub use handing::{is_supplied, take_code};
-pub use items::Items;
-pub use named::{Named, NamedList};
 pub use plan::Plan;
+pub use pm_lists::{Items, Named, NamedList};
 pub use rows::{
     CallerList, CallerRow, Codes, DeviceList, DeviceRow, DomainList, DomainRow, LinkList, LinkRow,
     Name, Script,

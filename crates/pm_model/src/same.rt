@@ -3,10 +3,9 @@
 ghost use Rattle.std.specs.Prelude.{◌≡◌, ◌↔◌, IsTrue};
 
 use crate::event::Command;
-use crate::items::Items;
-use crate::named::{Named, NamedList};
 use crate::plan::Plan;
 use crate::rows::{CallerRow, DeviceRow, DomainRow, LinkRow};
+use pm_lists::{Items, Named, NamedList};
 
 /// A test of equality that is exact.
 trait Same {

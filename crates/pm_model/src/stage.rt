@@ -9,7 +9,7 @@ use pm_base::DevId;
 use std::marker::Model;
 
 /// A stage of an idle, and the stage after a put.
-#[derive(Clone, Copy, Debug, PartialEq, Eq)]
+#[derive(Clone, Copy)]
 pub enum IdleStage {
     /// [I0]
     Enter { dev: DevId, flags: u8 },
@@ -26,7 +26,7 @@ pub enum IdleStage {
 }
 
 /// A stage of a suspend.
-#[derive(Clone, Copy, Debug, PartialEq, Eq)]
+#[derive(Clone, Copy)]
 pub enum SuspendStage {
     /// [S0]
     Enter { dev: DevId, flags: u8 },
@@ -49,7 +49,7 @@ pub enum SuspendStage {
 }
 
 /// What a resume is called for.
-#[derive(Clone, Copy, Debug, PartialEq, Eq)]
+#[derive(Clone, Copy)]
 pub enum Purpose {
     /// For the device itself.
     Plain,
@@ -60,7 +60,7 @@ pub enum Purpose {
 }
 
 /// A call of resume.
-#[derive(Clone, Copy, Debug, PartialEq, Eq)]
+#[derive(Clone, Copy)]
 pub struct ResumeCall {
     pub dev: DevId,
     pub flags: u8,
@@ -70,7 +70,7 @@ pub struct ResumeCall {
 }
 
 /// A stage of a resume.
-#[derive(Clone, Copy, Debug, PartialEq, Eq)]
+#[derive(Clone, Copy)]
 pub enum ResumeStage {
     /// [R0]
     Enter { call: ResumeCall },
@@ -101,7 +101,7 @@ pub enum ResumeStage {
 }
 
 /// A stage of a helper that no control function is, of a work item or of a timer.
-#[derive(Clone, Copy, Debug, PartialEq, Eq)]
+#[derive(Clone, Copy)]
 pub enum HelperStage {
     /// A caller with an empty place, whose script goes on with this command.
     Call {
@@ -137,7 +137,7 @@ pub enum HelperStage {
 }
 
 /// A stage of a control function: a helper that changes whether or how a device is managed.
-#[derive(Clone, Copy, Debug, PartialEq, Eq)]
+#[derive(Clone, Copy)]
 pub enum ControlStage {
     /// The line after the call's: [X1] of `disable`, [A1] of `set_active`.
     Start { command: Command },
@@ -162,7 +162,7 @@ pub enum ControlStage {
 }
 
 /// A stage that goes on once a call ends, with the call's code.
-#[derive(Clone, Copy, Debug, PartialEq, Eq)]
+#[derive(Clone, Copy)]
 pub enum Await {
     /// Then [S4].
     SuspendLinks { dev: DevId, flags: u8 },
@@ -197,7 +197,7 @@ pub enum Await {
 }
 
 /// A stage of an actor's place.
-#[derive(Clone, Copy, Debug, PartialEq, Eq)]
+#[derive(Clone, Copy)]
 pub enum Stage {
     Idle(IdleStage),
     Suspend(SuspendStage),
@@ -207,7 +207,7 @@ pub enum Stage {
     Await(Await),
 }
 
-#[derive(Clone, Copy, Debug, PartialEq, Eq)]
+#[derive(Clone, Copy)]
 enum StageRow {
     Zero,
     One(Stage),
@@ -215,7 +215,7 @@ enum StageRow {
 }
 
 /// The stages that take the place of one, the next to write first: at most two.
-#[derive(Clone, Copy, Debug, PartialEq, Eq)]
+#[derive(Clone, Copy)]
 pub struct Stages {
     row: StageRow,
 }
@@ -265,7 +265,7 @@ impl Stages {
 }
 
 /// What takes the place of a stage after its line.
-#[derive(Clone, Copy, Debug, PartialEq, Eq)]
+#[derive(Clone, Copy)]
 pub struct Then {
     /// The stages, the next to write first.
     pub push: Stages,
@@ -274,7 +274,7 @@ pub struct Then {
 }
 
 /// What an actor may do at a stage.
-#[derive(Clone, Copy, Debug, PartialEq, Eq)]
+#[derive(Clone, Copy)]
 pub enum Move {
     /// The only event that the call table permits, and what takes the stage's place.
     Write(Event, Then),
@@ -285,7 +285,7 @@ pub enum Move {
 }
 
 /// What comes of a code that is handed to a stage.
-#[derive(Clone, Copy, Debug, PartialEq, Eq)]
+#[derive(Clone, Copy)]
 pub enum Handed {
     /// The stage goes on as this one.
     Goes(Stage),

@@ -6,9 +6,9 @@ use Rattle.std.specs.Ordering.{is_lt, nat_cmp}
 use Rattle.std.proofs.lemmas.Bool.{cases_lt, true≢false}
 use Rattle.std.proofs.lemmas.List.{get_or_default}
 use Rattle.std.proofs.lemmas.Bool.Decides.{nat_tests}
-use Rattle.pm_model.proofs.NameSearch.{below_names, in_order, names_rank, stands_in_order}
-use Rattle.pm_model.specs.NameOrder.{IsNameOrder, IsPlaceInOrder, common_at, name_at}
-use Rattle.pm_model.specs.NamedList.{common_len}
+use Rattle.pm_lists.proofs.NameSearch.{below_names, in_order, names_rank, stands_in_order}
+use Rattle.pm_lists.specs.NameOrder.{IsNameOrder, IsPlaceInOrder, common_at, name_at}
+use Rattle.pm_lists.specs.NamedList.{common_len}
 
 -- of two texts that stand no later than a third, the later has at least as much in common with it
 common_below : (x y z : List ℕ) → is_lt (slice_cmp nat_cmp y x) ≡ false → is_lt (slice_cmp nat_cmp z y) ≡ false → common_prefix_len nat_eq z x ≤ common_prefix_len nat_eq z y

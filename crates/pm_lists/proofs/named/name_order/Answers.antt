@@ -1,7 +1,7 @@
 use Rattle.std.proofs.Common.{rules}
 use Rattle.std.proofs.lemmas.List.{length-map}
-use Rattle.pm_model.proofs.NameSearch.{sorted_by_name}
-use Rattle.pm_model.proofs.named.name_order.Goals as goal
+use Rattle.pm_lists.proofs.NameSearch.{sorted_by_name}
+use Rattle.pm_lists.proofs.named.name_order.Goals as goal
 
 pub returns : goal.returns
 returns g c =

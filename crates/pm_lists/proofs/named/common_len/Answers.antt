@@ -1,6 +1,6 @@
 use Rattle.std.proofs.Common.{arith}
-use Rattle.pm_model.proofs.CommonLen.{common_len-neighbours}
-use Rattle.pm_model.proofs.named.common_len.Goals as goal
+use Rattle.pm_lists.proofs.CommonLen.{common_len-neighbours}
+use Rattle.pm_lists.proofs.named.common_len.Goals as goal
 
 pub returns : goal.returns
 returns g c =

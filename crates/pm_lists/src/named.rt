@@ -3,22 +3,21 @@
 ghost use Rattle.std.specs.Prelude.{◌≡◌, ◌↔◌, List, [], ℕ, ◌<◌, ◌^◌, Contains, IfNone, IfOk, IfSome, IsTrue, length, map, slice_get, nat_eq, vec_len};
 ghost use Rattle.std.specs.List.{common_prefix_len, range_with_len};
 ghost use Rattle.std.specs.Option.{option_copied};
-ghost use Rattle.pm_model.specs.NameOrder.{IsNameOrder, IsPlaceInOrder, by_name, common_at, is_before, name_at};
-ghost use Rattle.pm_model.specs.NamedList.{common_len, place_named};
+ghost use Rattle.pm_lists.specs.NameOrder.{IsNameOrder, IsPlaceInOrder, by_name, common_at, is_before, name_at};
+ghost use Rattle.pm_lists.specs.NamedList.{common_len, place_named};
 
-use crate::rows::Name;
-use pm_base::NoMemory;
+use crate::items::Items;
 use std::alloc::{AllocError, Global};
 use std::cmp::Ordering;
 use std::marker::Model;
 
-/// A row of a plan that has a name.
+/// A row that has a name.
 pub trait Named {
     /// The bytes of its name.
     ghost name_of: { Self → List ℕ };
 
     /// Its name.
-    fn name(&self) -> &Name
+    fn name(&self) -> &Items<u8>
         ensures { result.now ≡ name_of self.now };
 }
 
@@ -32,7 +31,7 @@ pub struct NamedList<T: Named> {
 
 impl<T: Named> Model for NamedList<T> {
     ghost use Rattle.std.specs.Prelude.{List, map};
-    ghost use Rattle.pm_model.specs.NameOrder.{IsNameOrder};
+    ghost use Rattle.pm_lists.specs.NameOrder.{IsNameOrder};
 
     ghost Value = { List T };
 
@@ -43,7 +42,7 @@ impl<T: Named> Model for NamedList<T> {
 
 impl<T: Named> NamedList<T> {
     /// The list of these rows, of which there are fewer than 2^32. Fails where memory runs out.
-    pub fn new(alloc: Global, rows: Vec<T>) -> Result<NamedList<T>, NoMemory>
+    pub fn new(alloc: Global, rows: Vec<T>) -> Result<NamedList<T>, AllocError>
     where
         T: Drop,
         requires { vec_len rows < 2 ^ 32 }
@@ -53,7 +52,7 @@ impl<T: Named> NamedList<T> {
         Ok(NamedList { rows, order })
     }
 
-    /// The rows, in the plan's order.
+    /// The rows, in order.
     pub fn as_slice(&self) -> &[T]
         ensures { result.now ≡ self.now }
     {
@@ -144,7 +143,7 @@ fn places(alloc: Global, count: u32) -> Result<Vec<u32>, AllocError>
 }
 
 // The places of the rows in the order of names.
-fn name_order<T: Named>(alloc: Global, rows: &[T]) -> Result<Vec<u32>, NoMemory>
+fn name_order<T: Named>(alloc: Global, rows: &[T]) -> Result<Vec<u32>, AllocError>
     requires { length rows.now < 2 ^ 32 }
     ensures { IfOk result (λ order. IsNameOrder (map T.name_of rows.now) order.items) }
 {
@@ -211,23 +210,29 @@ fn common_len<T: Named>(rows: &[T], order: &[u32], bytes: &[u8]) -> usize
 #[cfg(test)]
 mod tests {
     use super::*;
-    use crate::items::Items;
-    use crate::rows::DomainRow;
     use std::process::Abort;
     use std::test::Fail;
 
-    fn row(alloc: Global, name: &[u8]) -> Result<DomainRow, Fail> {
-        Ok(DomainRow {
+    #[derive(Debug, Drop)]
+    struct Row {
+        name: Items<u8>,
+    }
+
+    impl Named for Row {
+        ghost name_of = { λ row. row.name };
+
+        fn name(&self) -> &Items<u8> {
+            &self.name
+        }
+    }
+
+    fn row(alloc: Global, name: &[u8]) -> Result<Row, Fail> {
+        Ok(Row {
             name: Items::new(Vec::from_slice(alloc, name)?),
-            parent: None,
-            always_on: false,
         })
     }
 
-    fn listed(
-        rt: &(impl Abort + AllocGlobal),
-        names: &[&[u8]],
-    ) -> Result<NamedList<DomainRow>, Fail> {
+    fn listed(rt: &(impl Abort + AllocGlobal), names: &[&[u8]]) -> Result<NamedList<Row>, Fail> {
         let mut rows = Vec::new(rt.alloc());
         for name in names {
             rows.push(row(rt.alloc(), *name)?)?;

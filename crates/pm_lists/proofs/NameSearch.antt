@@ -18,9 +18,9 @@ use Rattle.std.proofs.lemmas.List.FromFn.{get_or-range_with_len, length-range_wi
 use Rattle.std.proofs.lemmas.List.Sorted.{All-permutation, Contains-permutation, IsPartitionPoint-from_clause, ranks_by, sorted_far}
 use Rattle.std.proofs.lemmas.Map.Text.{is_eq-slice_cmp}
 use Rattle.std.proofs.lemmas.Slice.Eq.{bytes_eq-Decides}
-use Rattle.pm_model.proofs.PlaceNamed.{not_same, position-first, position-none}
-use Rattle.pm_model.specs.NameOrder.{IsNameOrder, IsPlaceInOrder, by_name, is_before, name_at}
-use Rattle.pm_model.specs.NamedList.{place_named}
+use Rattle.pm_lists.proofs.PlaceNamed.{not_same, position-first, position-none}
+use Rattle.pm_lists.specs.NameOrder.{IsNameOrder, IsPlaceInOrder, by_name, is_before, name_at}
+use Rattle.pm_lists.specs.NamedList.{place_named}
 
 -- places by name are in a total order
 by_name_total : (names : List (List ℕ)) → IsTotalOrder (by_name names)

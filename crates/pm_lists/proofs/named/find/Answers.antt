@@ -1,8 +1,8 @@
 use Rattle.std.proofs.Common.{◌≡◌, ◌∙◌, sym, arith}
 use Rattle.std.proofs.lemmas.Grind.{common_steps}
 use Rattle.std.proofs.lemmas.Slice.Eq.{bytes_eq-Decides}
-use Rattle.pm_model.proofs.NameSearch.{none_past, none_here, first_here}
-use Rattle.pm_model.proofs.named.find.Goals as goal
+use Rattle.pm_lists.proofs.NameSearch.{none_past, none_here, first_here}
+use Rattle.pm_lists.proofs.named.find.Goals as goal
 
 pub returns-in_err-place : goal.returns-in_err-place
 returns-in_err-place g c = let none = none_past _ _ c.requires _ _ c.count_before.ensures in grind (arith, common_steps, none)

@@ -1,6 +1,6 @@
 use Rattle.std.proofs.Common.{◌≡◌, ◌+◌, ◌≤◌, drop, length, nat_eq}
 use Rattle.std.specs.List.{common_prefix_len}
-use Rattle.pm_model.proofs.named.common_prefix_len.Given as goal
+use Rattle.pm_lists.proofs.named.common_prefix_len.Given as goal
 
 abbrev pub invariant-loop-i : goal.invariant-loop-i
 invariant-loop-i l = record {

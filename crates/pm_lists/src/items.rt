@@ -1,10 +1,10 @@
-//! A list of a plan.
+//! A list.
 
 ghost use Rattle.std.specs.Prelude.{◌≡◌, length};
 
 use std::marker::Model;
 
-/// A list of a plan, which contracts see as the list of its items. It is made of a `Vec` and gives
+/// A list, which contracts see as the list of its items. It is made of a `Vec` and gives
 /// it back, and takes no memory for either.
 #[derive(Debug, Drop)]
 pub struct Items<T> {

@@ -1,6 +1,6 @@
 use Rattle.std.proofs.Common.{rules}
-use Rattle.pm_model.proofs.NameSearch.{split_by_name}
-use Rattle.pm_model.proofs.named.count_before.Goals as goal
+use Rattle.pm_lists.proofs.NameSearch.{split_by_name}
+use Rattle.pm_lists.proofs.named.count_before.Goals as goal
 
 pub returns : goal.returns
 returns g c =

@@ -1,7 +1,7 @@
 use Rattle.std.proofs.Common.{◌≡◌, map}
-use Rattle.pm_model.specs.NamedList.{place_named}
-use Rattle.pm_model.proofs.PlaceNamed.{place_named-found, place_named-missing}
-use Rattle.pm_model.proofs.named.NamedList.find.Goals as goal
+use Rattle.pm_lists.specs.NamedList.{place_named}
+use Rattle.pm_lists.proofs.PlaceNamed.{place_named-found, place_named-missing}
+use Rattle.pm_lists.proofs.named.NamedList.find.Goals as goal
 
 pub returns-clause-found : goal.returns-clause-found
 returns-clause-found g c =
