@@ -80,6 +80,14 @@ impl Requests {
         request
     }
 
+    /// All that is pending for the device.
+    pub fn pending(&self, dev: DevId) -> Pending
+        requires { dev.0 < length self.now }
+        ensures { result ≡ pending_at self.now dev }
+    {
+        self.entries[dev.0 as usize]
+    }
+
     /// Whether the work item of the device is queued.
     pub fn queued(&self, dev: DevId) -> bool
         requires { dev.0 < length self.now }

@@ -1,0 +1,118 @@
+//! The counters of all devices: what the lines of a run add up to, so that a run never looks back at
+//! its lines (`runtime_pm.rst`, section 3).
+#![tactic(auto)]
+
+ghost use Rattle.std.specs.Prelude.{◌≡◌, ◌<◌, ◌+◌, ◌^◌, true, length, slice_set, IfOk};
+ghost use Rattle.pm_model.specs.Views.{device, with_device};
+ghost use Rattle.pm_device.specs.Children.{child_count_at, counts, device_at, parent_at, recounted};
+ghost use Rattle.pm_device.specs.Parts.{Counters, IsFor, IsInTime, is_quiet, shape_of};
+
+mod readers;
+mod rows;
+
+pub use rows::{
+    code_of, domain, has_domain, has_idle, has_parent, marks_busy, ms_of, no_callbacks, parent, parent_of,
+};
+
+use pm_base::{DevId, NoMemory, Status};
+use pm_link::Links;
+use pm_model::{Device, Plan};
+use pm_request::Requests;
+use pm_timer::Timers;
+use std::alloc::Global;
+use std::marker::Model;
+
+/// The counters of all devices, links and domains. Contracts see the views that they keep, and what
+/// they were made for.
+#[derive(Debug, Drop)]
+pub struct Parts {
+    devices: Vec<Device>,
+    requests: Requests,
+    timers: Timers,
+    on: Vec<bool>,
+    links: Links,
+    parents: Vec<Option<DevId>>,
+    // How many children of each device are Active or Suspending.
+    children: Vec<u32>,
+    // Whether each device is Suspended and enabled.
+    quiet: Vec<bool>,
+}
+
+impl Model for Parts {
+    ghost use Rattle.pm_device.specs.Parts.{Counters, IsKept};
+
+    ghost Value = { Counters };
+
+    ghost view = { λ p. record {
+      shape = record { parents = p.parents.items; links = p.links.rows };
+      views = record {
+        devices = p.devices.items;
+        pending = p.requests;
+        timers = p.timers;
+        on = p.on.items;
+        held = p.links.held;
+        present = p.links.present;
+      };
+    } };
+
+    ghost invariant = { λ p. IsKept p.parents.items p.devices.items p.requests p.timers p.children.items p.quiet.items };
+}
+
+/// Whether a child of this status counts.
+fn counts(status: Status) -> bool
+    ensures { result ≡ counts status }
+{
+    matches!(status, Status::Active | Status::Suspending)
+}
+
+/// Whether a device is Suspended and enabled.
+fn is_quiet(device: &Device) -> bool
+    ensures { result ≡ is_quiet device.now }
+{
+    matches!(device.status, Status::Suspended) && device.depth == 0
+}
+
+// One child of this device counted and now doesn't, or the other way round.
+fn recount(children: &mut Vec<u32>, parent: DevId, was: bool, is: bool)
+    requires in_range { parent.0 < length children.old.items }
+    requires fits { child_count_at children.old.items parent.0 + 1 < 2 ^ 32 }
+    requires counted { was ≡ true → 0 < child_count_at children.old.items parent.0 }
+    ensures { children.new.items ≡ slice_set children.old.items parent.0 (recounted (child_count_at children.old.items parent.0) was is) }
+{
+    let count = &mut children[parent.0 as usize];
+    *count = *count + u32::from(is) - u32::from(was);
+}
+
+// The parent of a device, by its place.
+fn parent_at(parents: &[Option<DevId>], place: usize) -> Option<DevId>
+    requires { place < length parents.now }
+    ensures { result ≡ parent_at parents.now place }
+{
+    parents[place]
+}
+
+// Whether a device, by its place, is a child that counts.
+fn counts_at(devices: &[Device], place: usize) -> bool
+    requires { place < length devices.now }
+    ensures { result ≡ counts (device_at devices.now place).status }
+{
+    counts(devices[place].status)
+}
+
+impl Parts {
+    // The views of one device change.
+    fn set_device(&mut self, dev: DevId, device: Device)
+        requires in_range { dev.0 < length self.old.shape.parents }
+        requires in_time { IsInTime device }
+        ensures { self.new ≡ record self.old { views = with_device self.old.views dev device } }
+    {
+        let place = dev.0 as usize;
+        let was = counts_at(&self.devices, place);
+        let is = counts(device.status);
+        self.quiet[place] = is_quiet(&device);
+        self.devices[place] = device;
+        if let Some(parent) = parent_at(&self.parents, place) {
+            recount(&mut self.children, parent, was, is);
+        }
+    }
+}
