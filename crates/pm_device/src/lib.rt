@@ -7,6 +7,7 @@ ghost use Rattle.pm_model.specs.Views.{device, with_device};
 ghost use Rattle.pm_device.specs.Children.{child_count_at, counts, device_at, parent_at, recounted};
 ghost use Rattle.pm_device.specs.Parts.{Counters, IsFor, IsInTime, is_quiet, shape_of};
 
+mod changes;
 mod readers;
 mod rows;
 

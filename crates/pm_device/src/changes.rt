@@ -1,0 +1,210 @@
+//! The single changes of the views of a device (`runtime_pm.rst`, section 3).
+
+ghost use Rattle.std.specs.Prelude.{◌≡◌, ◌+◌, ◌-◌, ◌<◌, ◌≤◌, ◌≤ℤ◌, ◌^◌, Bool, true, false, ℤ, pos, neg_ℤ, length};
+ghost use Rattle.pm_base.specs.declared.limits.TheConstants.{MAX_MS};
+ghost use Rattle.pm_base.specs.declared.Req.TheVariants.{Nothing};
+ghost use Rattle.pm_base.specs.declared.Cb.TheVariants.{Idle};
+ghost use Rattle.pm_model.specs.Changes.{cancel, cancel_all, disables, disarm, enables, rcancel, set_deferred, set_ignores, set_last, set_last_busy, set_queued, set_request, set_setting};
+ghost use Rattle.pm_model.specs.Derived.{begun};
+ghost use Rattle.pm_model.specs.Events.{by_begin, by_timer, set_auto, set_error, set_share, set_status, set_usage};
+ghost use Rattle.pm_model.specs.Views.{device, with_timer};
+
+use crate::Parts;
+use pm_base::{Cb, DevId, Req, Status};
+use pm_model::Device;
+
+impl Parts {
+    /// The status of a device becomes this one; the children of its parent are counted anew.
+    pub fn set_status(&mut self, dev: DevId, status: Status)
+        requires { dev.0 < length self.old.shape.parents }
+        ensures { self.new ≡ record self.old { views = set_status status dev self.old.views } }
+    {
+        let device = Device {
+            status,
+            ..*self.device(dev)
+        };
+        self.set_device(dev, device);
+    }
+
+    /// The stored error becomes this code.
+    pub fn set_error(&mut self, dev: DevId, error: i32)
+        requires { dev.0 < length self.old.shape.parents }
+        ensures { self.new ≡ record self.old { views = set_error error dev self.old.views } }
+    {
+        let device = Device {
+            error,
+            ..*self.device(dev)
+        };
+        self.set_device(dev, device);
+    }
+
+    /// One more count is taken.
+    pub fn take_count(&mut self, dev: DevId)
+        requires in_range { dev.0 < length self.old.shape.parents }
+        requires fits { (device self.old.views dev).usage + 1 < 2 ^ 32 }
+        ensures { self.new ≡ record self.old { views = set_usage ((device self.old.views dev).usage + 1) dev self.old.views } }
+    {
+        let device = *self.device(dev);
+        self.set_device(
+            dev,
+            Device {
+                usage: device.usage + 1,
+                ..device
+            },
+        );
+    }
+
+    /// One count is given back.
+    pub fn give_count(&mut self, dev: DevId)
+        requires in_range { dev.0 < length self.old.shape.parents }
+        requires taken { 0 < (device self.old.views dev).usage }
+        ensures { self.new ≡ record self.old { views = set_usage ((device self.old.views dev).usage - 1) dev self.old.views } }
+    {
+        let device = *self.device(dev);
+        self.set_device(
+            dev,
+            Device {
+                usage: device.usage - 1,
+                ..device
+            },
+        );
+    }
+
+    /// One more count is a caller's.
+    pub fn take_share(&mut self, dev: DevId)
+        requires in_range { dev.0 < length self.old.shape.parents }
+        requires fits { (device self.old.views dev).share + 1 < 2 ^ 32 }
+        ensures { self.new ≡ record self.old { views = set_share ((device self.old.views dev).share + 1) dev self.old.views } }
+    {
+        let device = *self.device(dev);
+        self.set_device(
+            dev,
+            Device {
+                share: device.share + 1,
+                ..device
+            },
+        );
+    }
+
+    /// One count is no caller's any more.
+    pub fn give_share(&mut self, dev: DevId)
+        requires in_range { dev.0 < length self.old.shape.parents }
+        requires taken { 0 < (device self.old.views dev).share }
+        ensures { self.new ≡ record self.old { views = set_share ((device self.old.views dev).share - 1) dev self.old.views } }
+    {
+        let device = *self.device(dev);
+        self.set_device(
+            dev,
+            Device {
+                share: device.share - 1,
+                ..device
+            },
+        );
+    }
+
+    /// Whether a device isn't forbidden (`runtime_auto`).
+    pub fn set_auto(&mut self, dev: DevId, auto_on: bool)
+        requires { dev.0 < length self.old.shape.parents }
+        ensures { self.new ≡ record self.old { views = set_auto auto_on dev self.old.views } }
+    {
+        let device = Device {
+            auto_on,
+            ..*self.device(dev)
+        };
+        self.set_device(dev, device);
+    }
+
+    /// The device is marked as last busy at this moment, in milliseconds of the run.
+    pub fn set_last_busy(&mut self, dev: DevId, time: u64)
+        requires in_range { dev.0 < length self.old.shape.parents }
+        requires in_time { time < 2 ^ 63 }
+        ensures { self.new ≡ record self.old { views = set_last_busy time dev self.old.views } }
+    {
+        let device = Device {
+            last_busy: time,
+            ..*self.device(dev)
+        };
+        self.set_device(dev, device);
+    }
+
+    /// Whether the device was Active as it was disabled.
+    pub fn set_last(&mut self, dev: DevId, last_active: bool)
+        requires { dev.0 < length self.old.shape.parents }
+        ensures { self.new ≡ record self.old { views = set_last last_active dev self.old.views } }
+    {
+        let device = Device {
+            last_active,
+            ..*self.device(dev)
+        };
+        self.set_device(dev, device);
+    }
+
+    /// The depth rises by one.
+    pub fn disables(&mut self, dev: DevId)
+        requires in_range { dev.0 < length self.old.shape.parents }
+        requires fits { (device self.old.views dev).depth + 1 < 2 ^ 32 }
+        ensures { self.new ≡ record self.old { views = disables dev self.old.views } }
+    {
+        let device = *self.device(dev);
+        self.set_device(
+            dev,
+            Device {
+                depth: device.depth + 1,
+                ..device
+            },
+        );
+    }
+
+    /// Whether autosuspend is in use, and its delay in milliseconds, -1,000,000 to 1,000,000.
+    pub fn set_setting(&mut self, dev: DevId, use_auto: bool, delay: i64)
+        requires in_range { dev.0 < length self.old.shape.parents }
+        requires least { neg_ℤ (pos MAX_MS) ≤ℤ delay }
+        requires most { delay ≤ℤ pos MAX_MS }
+        ensures { self.new ≡ record self.old { views = set_setting use_auto delay dev self.old.views } }
+    {
+        let device = Device {
+            use_auto,
+            delay,
+            ..*self.device(dev)
+        };
+        self.set_device(dev, device);
+    }
+
+    /// Whether the children of a device don't count.
+    pub fn set_ignores(&mut self, dev: DevId, ignores: bool)
+        requires { dev.0 < length self.old.shape.parents }
+        ensures { self.new ≡ record self.old { views = set_ignores ignores dev self.old.views } }
+    {
+        let device = Device {
+            ignores,
+            ..*self.device(dev)
+        };
+        self.set_device(dev, device);
+    }
+
+    /// A callback begins: that of suspend makes the device Suspending.
+    pub fn begin(&mut self, dev: DevId, cb: Cb)
+        requires in_range { dev.0 < length self.old.shape.parents }
+        requires fits { begun self.old.views cb dev + 1 < 2 ^ 32 }
+        ensures { self.new ≡ record self.old { views = by_begin dev cb self.old.views } }
+    {
+        let device = *self.device(dev);
+        let begun = match cb {
+            Cb::Idle => Device {
+                idle_running: true,
+                begun_idle: device.begun_idle + 1,
+                ..device
+            },
+            Cb::Suspend => Device {
+                status: Status::Suspending,
+                begun_suspend: device.begun_suspend + 1,
+                ..device
+            },
+            Cb::Resume => Device {
+                begun_resume: device.begun_resume + 1,
+                ..device
+            },
+        };
+        self.set_device(dev, begun);
+    }
+}
