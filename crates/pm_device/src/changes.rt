@@ -4,9 +4,10 @@ ghost use Rattle.std.specs.Prelude.{◌≡◌, ◌+◌, ◌-◌, ◌<◌, ◌≤
 ghost use Rattle.pm_base.specs.declared.limits.TheConstants.{MAX_MS};
 ghost use Rattle.pm_base.specs.declared.Req.TheVariants.{Nothing};
 ghost use Rattle.pm_base.specs.declared.Cb.TheVariants.{Idle};
-ghost use Rattle.pm_model.specs.Changes.{cancel, cancel_all, disables, disarm, enables, rcancel, set_deferred, set_ignores, set_last, set_last_busy, set_queued, set_request, set_setting};
+ghost use Rattle.pm_model.specs.declared.event.TimerAct.TheVariants.{Arm};
+ghost use Rattle.pm_model.specs.Changes.{cancel, cancel_all, disables, disarm, enables, rcancel, set_deferred, set_depth, set_ignores, set_last, set_last_busy, set_queued, set_request, set_setting};
 ghost use Rattle.pm_model.specs.Derived.{begun};
-ghost use Rattle.pm_model.specs.Events.{by_begin, by_timer, set_auto, set_error, set_share, set_status, set_usage};
+ghost use Rattle.pm_model.specs.Events.{by_begin, by_end, by_timer, set_auto, set_error, set_share, set_status, set_usage};
 ghost use Rattle.pm_model.specs.Views.{device, with_timer};
 
 use crate::Parts;
@@ -206,5 +207,126 @@ impl Parts {
             },
         };
         self.set_device(dev, begun);
+    }
+
+    /// The idle callback has ended.
+    pub fn end_idle(&mut self, dev: DevId)
+        requires { dev.0 < length self.old.shape.parents }
+        ensures { self.new ≡ record self.old { views = by_end dev Idle (pos 0) self.old.views } }
+    {
+        let device = Device {
+            idle_running: false,
+            ..*self.device(dev)
+        };
+        self.set_device(dev, device);
+    }
+
+    /// The depth falls by one; at 0 the last status is forgotten.
+    #[tactic(auto, unfolding(pm_model::specs::Changes::enables))]
+    pub fn enables(&mut self, dev: DevId)
+        requires in_range { dev.0 < length self.old.shape.parents }
+        requires disabled { 0 < (device self.old.views dev).depth }
+        ensures { self.new ≡ record self.old { views = enables dev self.old.views } }
+    {
+        let device = *self.device(dev);
+        if device.depth == 1 {
+            self.set_depth(dev, 0);
+            self.set_last(dev, false);
+        } else {
+            self.set_depth(dev, device.depth - 1);
+        }
+    }
+
+    // The depth becomes this.
+    fn set_depth(&mut self, dev: DevId, depth: u32)
+        requires { dev.0 < length self.old.shape.parents }
+        ensures { self.new ≡ record self.old { views = set_depth depth dev self.old.views } }
+    {
+        let device = Device {
+            depth,
+            ..*self.device(dev)
+        };
+        self.set_device(dev, device);
+    }
+
+    /// The work item of a device is queued with this request.
+    #[tactic(auto, using(crate::proofs::PendingLemmas::placed))]
+    pub fn place(&mut self, dev: DevId, req: Req)
+        requires { dev.0 < length self.old.shape.parents }
+        ensures { self.new ≡ record self.old { views = set_queued true dev (set_request req dev self.old.views) } }
+    {
+        self.requests.place(dev, req);
+    }
+
+    /// No request is pending and the work item isn't queued.
+    #[tactic(auto, using(crate::proofs::PendingLemmas::placed))]
+    pub fn clear(&mut self, dev: DevId)
+        requires { dev.0 < length self.old.shape.parents }
+        ensures { self.new ≡ record self.old { views = set_queued false dev (set_request Nothing dev self.old.views) } }
+    {
+        self.requests.clear(dev);
+    }
+
+    /// No request is pending.
+    pub fn cancel_request(&mut self, dev: DevId)
+        requires { dev.0 < length self.old.shape.parents }
+        ensures { self.new ≡ record self.old { views = set_request Nothing dev self.old.views } }
+    {
+        self.requests.cancel(dev);
+    }
+
+    /// Whether a resume is deferred.
+    pub fn set_deferred(&mut self, dev: DevId, deferred: bool)
+        requires { dev.0 < length self.old.shape.parents }
+        ensures { self.new ≡ record self.old { views = set_deferred deferred dev self.old.views } }
+    {
+        self.requests.set_deferred(dev, deferred);
+    }
+
+    /// The timer fires at this moment, in milliseconds of the run.
+    pub fn arm(&mut self, dev: DevId, at: u64, auto_on: bool)
+        requires { dev.0 < length self.old.shape.parents }
+        ensures { self.new ≡ record self.old { views = by_timer dev (Arm at auto_on) self.old.views } }
+    {
+        self.timers.arm(dev, at, auto_on);
+    }
+
+    /// No timer is armed.
+    pub fn disarm(&mut self, dev: DevId)
+        requires { dev.0 < length self.old.shape.parents }
+        ensures { self.new ≡ record self.old { views = disarm dev self.old.views } }
+    {
+        self.timers.disarm(dev);
+    }
+
+    /// No request is pending and no timer is armed.
+    pub fn cancel(&mut self, dev: DevId)
+        requires { dev.0 < length self.old.shape.parents }
+        ensures { self.new ≡ record self.old { views = cancel dev self.old.views } }
+    {
+        self.cancel_request(dev);
+        self.disarm(dev);
+    }
+
+    /// No request is pending, no timer is armed and the work item isn't queued.
+    pub fn cancel_all(&mut self, dev: DevId)
+        requires { dev.0 < length self.old.shape.parents }
+        ensures { self.new ≡ record self.old { views = cancel_all dev self.old.views } }
+    {
+        self.disarm(dev);
+        self.clear(dev);
+    }
+
+    /// What a resume cancels: the request, and the timer unless it is an autosuspend's.
+    #[tactic(auto, unfolding(pm_model::specs::Changes::rcancel))]
+    pub fn rcancel(&mut self, dev: DevId)
+        requires { dev.0 < length self.old.shape.parents }
+        ensures { self.new ≡ record self.old { views = rcancel dev self.old.views } }
+    {
+        if self.has_auto_timer(dev) {
+            self.cancel_request(dev);
+        } else {
+            self.cancel(dev);
+        }
     }
 }

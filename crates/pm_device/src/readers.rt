@@ -110,4 +110,16 @@ impl Parts {
     {
         matches!(self.status(dev), Status::Suspending | Status::Resuming)
     }
+
+    /// Whether an autosuspend is scheduled.
+    #[tactic(auto, unfolding(pm_model::specs::Changes::has_auto_timer))]
+    pub fn has_auto_timer(&self, dev: DevId) -> bool
+        requires { dev.0 < length self.now.shape.parents }
+        ensures { result ≡ has_auto_timer self.now.views dev }
+    {
+        match self.timer(dev) {
+            Some(armed) => armed.auto_on,
+            None => false,
+        }
+    }
 }
