@@ -8,9 +8,11 @@ ghost use Rattle.pm_device.specs.Children.{child_count_at, counts, device_at, pa
 ghost use Rattle.pm_device.specs.Parts.{Counters, IsFor, IsInTime, is_quiet, shape_of};
 
 mod changes;
+mod guards;
 mod readers;
 mod rows;
 
+pub use guards::{has, may_not_wait, prevented};
 pub use rows::{
     code_of, domain, has_domain, has_idle, has_parent, marks_busy, ms_of, no_callbacks, parent, parent_of,
 };
