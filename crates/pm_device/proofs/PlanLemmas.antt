@@ -39,3 +39,20 @@ row_earlier domains d row law = grind (arith, common_steps)
 -- its parent stands earlier
 pub parent_earlier : (plan : Plan) (d : DevId) (row : DeviceRow) → slice_get plan.devices d.0 ≡ Some row → IfSome row.parent (λ p. p.0 < d.0)
 parent_earlier plan d row is = earlier d.0 row.parent (row_earlier (length plan.domains) d.0 row (device_row plan d row is))
+
+each_item : {A : Type 0} (test : A → Bool) (n : ℕ) (rows : List A) (row : A) → list_all test rows ≡ true → slice_get rows n ≡ Some row → test row ≡ true
+each_item test n [] row all is = cc
+each_item test zero (x ∷ rows) row all is = let same : x ≡ row = cc in subst (λ r. test r ≡ true) same (and_parts (test x) (list_all test rows) all).0
+each_item test (suc n) (x ∷ rows) row all is = each_item test n rows row (and_parts (test x) (list_all test rows) all).1 is
+
+links_law : (lines trace : ℕ) (domains : List DomainRow) (devices : List DeviceRow) (links : List LinkRow) (callers : List CallerRow) → is_plan lines trace domains devices links callers ≡ true
+    → list_all (is_link devices) links ≡ true
+links_law lines trace domains devices links callers law = grind (arith, common_steps)
+
+ends_in : (devices : List DeviceRow) (row : LinkRow) → is_link devices row ≡ true → row.supplier.0 < length devices
+ends_in devices row law = grind (arith, common_steps)
+
+-- the supplier of a link is a device
+pub supplier_in_range : (plan : Plan) (l : ℕ) (row : LinkRow) → slice_get plan.links l ≡ Some row → row.supplier.0 < length plan.devices
+supplier_in_range plan l row is =
+    ends_in plan.devices row (each_item (is_link plan.devices) l plan.links row (links_law plan.lines plan.trace plan.domains plan.devices plan.links plan.callers plan.law) is)

@@ -9,6 +9,7 @@ ghost use Rattle.pm_device.specs.Parts.{Counters, IsFor, IsInTime, is_quiet, sha
 
 mod changes;
 mod guards;
+mod links;
 mod readers;
 mod rows;
 

@@ -183,8 +183,63 @@ impl Links {
         ensures bits_set { (bits : List Bool) (b : Bool) → length bits ≡ length plan.now.links → at_pair plan.now consumer supplier b bits ≡ option_map_or (λ link. slice_set bits link b) result bits }
         ensures bits_read { (bits : List Bool) → length bits ≡ length plan.now.links → is_pair_in plan.now consumer supplier bits ≡ option_map_or (bit_at bits) result false }
         ensures later { may_be_absent plan.now consumer supplier ≡ option_map_or (λ link. (row_at plan.now.links link).later) result false }
+        ensures held_len { length self.now.held ≡ length plan.now.links }
+        ensures present_len { length self.now.present ≡ length plan.now.links }
     {
         self.first(plan, consumer, Want::To(supplier))
+    }
+
+    /// The link of a pair becomes held or free, if there is one.
+    pub fn set_held(&mut self, plan: &Plan, consumer: DevId, supplier: DevId, held: bool)
+        requires made_for { self.old.rows ≡ plan.now.links }
+        ensures { self.new ≡ record self.old { held = at_pair plan.now consumer supplier held self.old.held } }
+    {
+        if let Some(link) = self.find(plan, consumer, supplier) {
+            self.held[link] = held;
+        }
+    }
+
+    /// The link of a pair becomes present or absent, if there is one.
+    pub fn set_present(&mut self, plan: &Plan, consumer: DevId, supplier: DevId, present: bool)
+        requires made_for { self.old.rows ≡ plan.now.links }
+        ensures { self.new ≡ record self.old { present = at_pair plan.now consumer supplier present self.old.present } }
+    {
+        if let Some(link) = self.find(plan, consumer, supplier) {
+            self.present[link] = present;
+        }
+    }
+
+    /// Whether the link of a pair is held.
+    pub fn is_held(&self, plan: &Plan, consumer: DevId, supplier: DevId) -> bool
+        requires made_for { self.now.rows ≡ plan.now.links }
+        ensures { result ≡ is_pair_in plan.now consumer supplier self.now.held }
+    {
+        match self.find(plan, consumer, supplier) {
+            Some(link) => self.held(link),
+            None => false,
+        }
+    }
+
+    /// Whether the link of a pair is present.
+    pub fn is_present(&self, plan: &Plan, consumer: DevId, supplier: DevId) -> bool
+        requires made_for { self.now.rows ≡ plan.now.links }
+        ensures { result ≡ is_pair_in plan.now consumer supplier self.now.present }
+    {
+        match self.find(plan, consumer, supplier) {
+            Some(link) => self.present(link),
+            None => false,
+        }
+    }
+
+    /// Whether the link of a pair begins absent.
+    pub fn may_be_absent(&self, plan: &Plan, consumer: DevId, supplier: DevId) -> bool
+        requires made_for { self.now.rows ≡ plan.now.links }
+        ensures { result ≡ may_be_absent plan.now consumer supplier }
+    {
+        match self.find(plan, consumer, supplier) {
+            Some(link) => plan.links.as_slice()[link].later,
+            None => false,
+        }
     }
 
     /// Gives back every held link of a consumer.

@@ -1,0 +1,125 @@
+//! The links of a device among the counters (`device_link.rst`).
+
+ghost use Rattle.std.specs.Prelude.{◌≡◌, ◌<◌, Bool, IfSome, false, length, option_map, true};
+ghost use Rattle.pm_link.specs.Links.{with_supplier};
+ghost use Rattle.pm_model.specs.Changes.{set_held, set_present};
+ghost use Rattle.pm_model.specs.ControlTable.{is_pair_in, may_be_absent};
+ghost use Rattle.pm_model.specs.Derived.{first_free, first_held, has_link, next_supplier};
+ghost use Rattle.pm_device.specs.Parts.{IsFor};
+
+use crate::Parts;
+use pm_base::DevId;
+use pm_model::Plan;
+
+// A link by its place, with its supplier.
+fn with_supplier(plan: &Plan, link: Option<usize>) -> Option<(u32, DevId)>
+    requires { IfSome link (λ l. l < length plan.now.links) }
+    ensures supplier { result ≡ option_map (with_supplier plan.now.links) link }
+    ensures in_range { IfSome result (λ l. l.1.0 < length plan.now.devices) }
+{
+    let link = link?;
+    Some((link as u32, plan.links.as_slice()[link].supplier))
+}
+
+impl Parts {
+    /// The link of a consumer that is held and has the least supplier, by its place in the plan, and
+    /// that supplier. It looks at this consumer's links alone, as do the next three.
+    pub fn first_held(&self, plan: &Plan, dev: DevId) -> Option<(u32, DevId)>
+        requires { IsFor plan.now self.now.shape }
+        ensures first { result ≡ first_held plan.now self.now.views dev }
+        ensures in_range { IfSome result (λ l. l.1.0 < length plan.now.devices) }
+    {
+        with_supplier(plan, self.links.first_held(plan, dev))
+    }
+
+    /// The link of a consumer that is free and has the least supplier, and that supplier.
+    pub fn first_free(&self, plan: &Plan, dev: DevId) -> Option<(u32, DevId)>
+        requires { IsFor plan.now self.now.shape }
+        ensures first { result ≡ first_free plan.now self.now.views dev }
+        ensures in_range { IfSome result (λ l. l.1.0 < length plan.now.devices) }
+    {
+        with_supplier(plan, self.links.first_free(plan, dev))
+    }
+
+    /// The link of a consumer that has the least supplier behind the last one, and that supplier.
+    pub fn next_supplier(
+        &self,
+        plan: &Plan,
+        dev: DevId,
+        last: Option<DevId>,
+    ) -> Option<(u32, DevId)>
+        requires { IsFor plan.now self.now.shape }
+        ensures first { result ≡ next_supplier plan.now self.now.views dev last }
+        ensures in_range { IfSome result (λ l. l.1.0 < length plan.now.devices) }
+    {
+        with_supplier(plan, self.links.next_supplier(plan, dev, last))
+    }
+
+    /// Whether a consumer has a link.
+    #[tactic(auto, unfolding(pm_model::specs::Derived::has_link))]
+    pub fn has_link(&self, plan: &Plan, dev: DevId) -> bool
+        requires { IsFor plan.now self.now.shape }
+        ensures { result ≡ has_link plan.now self.now.views dev }
+    {
+        self.next_supplier(plan, dev, None).is_some()
+    }
+
+    /// The link of the pair is held, if there is one.
+    #[tactic(auto, unfolding(pm_model::specs::Changes::set_held))]
+    pub fn hold(&mut self, plan: &Plan, consumer: DevId, supplier: DevId)
+        requires { IsFor plan.now self.old.shape }
+        ensures { self.new ≡ record self.old { views = set_held plan.now consumer supplier true self.old.views } }
+    {
+        if let Some(link) = self.links.find(plan, consumer, supplier) {
+            if !self.links.held(link) {
+                self.links.take(link);
+            }
+        }
+    }
+
+    /// The link of the pair is free, if there is one.
+    #[tactic(auto, unfolding(pm_model::specs::Changes::set_held))]
+    pub fn release(&mut self, plan: &Plan, consumer: DevId, supplier: DevId)
+        requires { IsFor plan.now self.old.shape }
+        ensures { self.new ≡ record self.old { views = set_held plan.now consumer supplier false self.old.views } }
+    {
+        if let Some(link) = self.links.find(plan, consumer, supplier) {
+            if self.links.held(link) {
+                self.links.give(link);
+            }
+        }
+    }
+
+    /// Whether the link of a pair begins absent (this project's own).
+    pub fn may_be_absent(&self, plan: &Plan, consumer: DevId, supplier: DevId) -> bool
+        requires { IsFor plan.now self.now.shape }
+        ensures { result ≡ may_be_absent plan.now consumer supplier }
+    {
+        match self.links.find(plan, consumer, supplier) {
+            Some(link) => plan.links.as_slice()[link].later,
+            None => false,
+        }
+    }
+
+    /// Whether the link of a pair is present.
+    pub fn is_present(&self, plan: &Plan, consumer: DevId, supplier: DevId) -> bool
+        requires { IsFor plan.now self.now.shape }
+        ensures { result ≡ is_pair_in plan.now consumer supplier self.now.views.present }
+    {
+        match self.links.find(plan, consumer, supplier) {
+            Some(link) => self.links.present(link),
+            None => false,
+        }
+    }
+
+    /// Whether the link of a pair is held.
+    pub fn is_held(&self, plan: &Plan, consumer: DevId, supplier: DevId) -> bool
+        requires { IsFor plan.now self.now.shape }
+        ensures { result ≡ is_pair_in plan.now consumer supplier self.now.views.held }
+    {
+        match self.links.find(plan, consumer, supplier) {
+            Some(link) => self.links.held(link),
+            None => false,
+        }
+    }
+}
