@@ -143,3 +143,7 @@ few_going_off plan domains d quiet =
 -- a domain more
 pub counted_off : (plan : Plan) (domains : DomainViews) (d : DevId) (quiet : List Bool) (from : Option DomId) (o : DomId) (rest : List ℕ) (count total : ℕ) → goes_off_from plan domains d quiet from o.0 ≡ true → count + length (going_off_from plan domains d quiet from (o.0 ∷ rest)) ≡ total → count + 1 + length (going_off_from plan domains d quiet (Some o) rest) ≡ total
 counted_off plan domains d quiet from o rest count total off was = let h = rw off at was in omega arith
+
+-- and the last
+pub counted_last : (plan : Plan) (domains : DomainViews) (d : DevId) (quiet : List Bool) (from : Option DomId) (o : DomId) (rest : List ℕ) (count total : ℕ) → goes_off_from plan domains d quiet from o.0 ≡ false → count + length (going_off_from plan domains d quiet from (o.0 ∷ rest)) ≡ total → count ≡ total
+counted_last plan domains d quiet from o rest count total stays was = let h = rw stays at was in omega arith

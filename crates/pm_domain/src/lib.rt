@@ -2,16 +2,17 @@
 //! generic power domains).
 #![tactic(auto)]
 
-ghost use Rattle.std.specs.Prelude.{◌≡◌, ◌<◌, ℕ, length, true, false, IfOk};
+ghost use Rattle.std.specs.Prelude.{◌≡◌, ◌<◌, length, true, false, IfOk};
 ghost use Rattle.pm_model.specs.Derived.{down, up};
 ghost use Rattle.pm_model.specs.Events.{switches};
-ghost use Rattle.pm_model.specs.PlanRows.{chain, domains_of};
 ghost use Rattle.pm_model.specs.Views.{Views};
 ghost use Rattle.pm_domain.specs.Domains.{IsMadeFor, IsQuietOf, bit_at, fresh_on};
-ghost use Rattle.pm_domain.specs.Walk.{goes_off_from, going_off_from};
+ghost use Rattle.pm_domain.specs.Walk.{goes_off_from};
 
 mod groups;
 mod start;
+#[cfg(test)]
+mod tests;
 mod walk;
 
 use groups::Groups;
@@ -80,7 +81,13 @@ impl Domains {
         ensures made_for { IsMadeFor plan.now self.new }
     {
         let count = self.up_count(plan, dev);
-        switch(&mut self.on, plan, home(plan, dev), plan.domains.len(), true);
+        switch(
+            &mut self.on,
+            plan,
+            home(plan, dev),
+            plan.domains.len(),
+            true,
+        );
         count
     }
 
@@ -104,10 +111,14 @@ impl Domains {
             && are_off_but(from, &self.on, self.below.of(dom))
     }
 
-    // How many domains go off, by the walk.
-    fn count_going_off(&self, plan: &Plan, dev: DevId, quiet: &[bool]) -> u32
+    /// How many domains go off once a device is suspended: of its domain and that one's ancestors,
+    /// nearest first, each that is on and not always on, has no other device but quiet ones, and no
+    /// subdomain that is on, until the first that isn't so. `quiet` says of each device whether it
+    /// is Suspended and enabled. It looks at the devices and the subdomains of these domains alone.
+    pub fn down_count(&self, plan: &Plan, dev: DevId, quiet: &[bool]) -> u32
         requires made_for { IsMadeFor plan.now self.now }
-        ensures { result ≡ length (going_off_from plan.now self.now dev quiet.now None (domains_of plan.now dev)) }
+        requires quiet_len { length quiet.now ≡ length plan.now.devices }
+        ensures { (v : Views) → v.on ≡ self.now.on → IsQuietOf quiet.now v → result ≡ length (down plan.now v dev) }
     {
         let mut count = 0;
         let mut from = None;
@@ -123,18 +134,6 @@ impl Domains {
         count
     }
 
-    /// How many domains go off once a device is suspended: of its domain and that one's ancestors,
-    /// nearest first, each that is on and not always on, has no other device but quiet ones, and no
-    /// subdomain that is on, until the first that isn't so. `quiet` says of each device whether it
-    /// is Suspended and enabled. It looks at the devices and the subdomains of these domains alone.
-    pub fn down_count(&self, plan: &Plan, dev: DevId, quiet: &[bool]) -> u32
-        requires made_for { IsMadeFor plan.now self.now }
-        requires quiet_len { length quiet.now ≡ length plan.now.devices }
-        ensures { (v : Views) → v.on ≡ self.now.on → IsQuietOf quiet.now v → result ≡ length (down plan.now v dev) }
-    {
-        self.count_going_off(plan, dev, quiet)
-    }
-
     /// Switches them off, and answers their number.
     pub fn down(&mut self, plan: &Plan, dev: DevId, quiet: &[bool]) -> u32
         requires made_for { IsMadeFor plan.now self.old }
@@ -144,7 +143,7 @@ impl Domains {
         ensures on_alone { self.new ≡ record self.old { on = self.new.on } }
         ensures made_for { IsMadeFor plan.now self.new }
     {
-        let count = self.count_going_off(plan, dev, quiet);
+        let count = self.down_count(plan, dev, quiet);
         switch(&mut self.on, plan, home(plan, dev), count as usize, false);
         count
     }

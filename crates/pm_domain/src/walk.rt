@@ -52,7 +52,9 @@ pub fn bit(bits: &[bool], place: u32) -> bool
 pub fn are_quiet_but(dev: DevId, quiet: &[bool], devices: &[u32]) -> bool
     ensures { result ≡ are_quiet_but dev quiet.now devices.now }
 {
-    devices.iter().all(|place| *place == dev.0 || bit(quiet, *place))
+    devices
+        .iter()
+        .all(|place| *place == dev.0 || bit(quiet, *place))
 }
 
 // Whether the walk came from this domain.
@@ -69,7 +71,9 @@ fn is_from(from: Option<DomId>, place: u32) -> bool
 pub fn are_off_but(from: Option<DomId>, on: &[bool], domains: &[u32]) -> bool
     ensures { result ≡ are_off_but from on.now domains.now }
 {
-    domains.iter().all(|place| is_from(from, *place) || !bit(on, *place))
+    domains
+        .iter()
+        .all(|place| is_from(from, *place) || !bit(on, *place))
 }
 
 /// Switches a domain and its ancestors, so many at most, the nearest first.

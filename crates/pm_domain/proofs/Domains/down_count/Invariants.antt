@@ -3,7 +3,7 @@ use Rattle.std.specs.Prelude.{IfSome}
 use Rattle.pm_model.specs.PlanRows.{chain, domains_of}
 use Rattle.pm_domain.specs.Groups.{rank}
 use Rattle.pm_domain.specs.Walk.{going_off_from}
-use Rattle.pm_domain.proofs.Domains.count_going_off.Given as goal
+use Rattle.pm_domain.proofs.Domains.down_count.Given as goal
 
 abbrev pub invariant-loop-next : goal.invariant-loop-next
 invariant-loop-next l = record {
