@@ -73,14 +73,15 @@ counted_with d (Some p) children y x n m within count change = elim (eqb_tells p
     finish false true was_is is_is = omega (arith, change)
     finish false false was_is is_is = omega (arith, change)
 
-kept_with : (parents : List (Option DevId)) (devices : List Device) (pending : List Pending) (timers : List (Option Armed)) (children : List ℕ) (quiet : List Bool)
-    → IsKept parents devices pending timers children quiet → (i : ℕ) (x : Device) → i < length devices → IsInTime x
-    → IsKept parents (slice_set devices i x) pending timers (counts_with children (parent_at parents i) (counts (device_at devices i).status) (counts x.status)) (slice_set quiet i (is_quiet x))
-kept_with parents devices pending timers children quiet kept i x within in_time = record {
+kept_with : (parents : List (Option DevId)) (devices : List Device) (pending : List Pending) (timers : List (Option Armed)) (on : List Bool) (below : List (List ℕ)) (children : List ℕ) (quiet : List Bool)
+    → IsKept parents devices pending timers on below children quiet → (i : ℕ) (x : Device) → i < length devices → IsInTime x
+    → IsKept parents (slice_set devices i x) pending timers on below (counts_with children (parent_at parents i) (counts (device_at devices i).status) (counts x.status)) (slice_set quiet i (is_quiet x))
+kept_with parents devices pending timers on below children quiet kept i x within in_time = record {
   few = kept.few;
   devices_len = length-set devices i x ∙ kept.devices_len;
   pending_len = kept.pending_len;
   timers_len = kept.timers_len;
+  on_len = kept.on_len;
   earlier = kept.earlier;
   children_len = length-counts_with children (parent_at parents i) _ _ ∙ kept.children_len;
   counted = λ d below.
@@ -92,18 +93,18 @@ kept_with parents devices pending timers children quiet kept i x within in_time 
 }
 
 -- one device's views change, and the counter of its parent and its own mark with them
-pub kept_with_device : (parents : List (Option DevId)) (devices : List Device) (pending : List Pending) (timers : List (Option Armed)) (children : List ℕ) (quiet : List Bool)
-    → IsKept parents devices pending timers children quiet → (i : ℕ) (x : Device) → i < length devices → IsInTime x
+pub kept_with_device : (parents : List (Option DevId)) (devices : List Device) (pending : List Pending) (timers : List (Option Armed)) (on : List Bool) (below : List (List ℕ)) (children : List ℕ) (quiet : List Bool)
+    → IsKept parents devices pending timers on below children quiet → (i : ℕ) (x : Device) → i < length devices → IsInTime x
     → (parent : Option DevId) (was is now : Bool) (after : List ℕ) → parent ≡ parent_at parents i → was ≡ counts (device_at devices i).status → is ≡ counts x.status → now ≡ is_quiet x
-    → after ≡ counts_with children parent was is → IsKept parents (slice_set devices i x) pending timers after (slice_set quiet i now)
-kept_with_device parents devices pending timers children quiet kept i x within in_time parent was is now after parent_is was_is is_is now_is after_is =
-    rw (after_is, parent_is, was_is, is_is, now_is) (kept_with parents devices pending timers children quiet kept i x within in_time)
+    → after ≡ counts_with children parent was is → IsKept parents (slice_set devices i x) pending timers on below after (slice_set quiet i now)
+kept_with_device parents devices pending timers on below children quiet kept i x within in_time parent was is now after parent_is was_is is_is now_is after_is =
+    rw (after_is, parent_is, was_is, is_is, now_is) (kept_with parents devices pending timers on below children quiet kept i x within in_time)
 
 -- a parent counts one child that counts, at most as many as there are devices
-pub child_is_counted : (parents : List (Option DevId)) (devices : List Device) (pending : List Pending) (timers : List (Option Armed)) (children : List ℕ) (quiet : List Bool)
-    → IsKept parents devices pending timers children quiet → (i : ℕ) (p : DevId) → i < length devices → parent_at parents i ≡ Some p
+pub child_is_counted : (parents : List (Option DevId)) (devices : List Device) (pending : List Pending) (timers : List (Option Armed)) (on : List Bool) (below : List (List ℕ)) (children : List ℕ) (quiet : List Bool)
+    → IsKept parents devices pending timers on below children quiet → (i : ℕ) (p : DevId) → i < length devices → parent_at parents i ≡ Some p
     → (p.0 < length children) × (child_count_at children p.0 + 1 < 2 ^ 32) × (counts (device_at devices i).status ≡ true → 0 < child_count_at children p.0)
-child_is_counted parents devices pending timers children quiet kept i p within is =
+child_is_counted parents devices pending timers on below children quiet kept i p within is =
     let before : p.0 < i = subst (λ o. IfSome o (λ q. q.0 < i)) is (kept.earlier i) in
     let below : p.0 < length children = omega (arith, kept.devices_len, kept.children_len) in
     let most : children_of parents devices p ≤ length parents = omega (arith, count_by-le-length (λ q. is_child p q.0 q.1) (zip parents devices), length-zip parents devices, kept.devices_len) in

@@ -10,21 +10,25 @@ use Rattle.pm_model.specs.declared.rows.LinkRow.{LinkRow}
 use Rattle.pm_model.specs.declared.views.Device.{Device}
 use Rattle.pm_model.specs.Derived.{is_suspended_status}
 use Rattle.pm_model.specs.Views.{Views}
+use Rattle.pm_domain.specs.Domains.{homes, parents}
+use Rattle.pm_domain.specs.Groups.{AreGroups}
 use Rattle.pm_device.specs.Children.{child_count_at, children_of, parent_at}
 
 -- what no line and no script changes
 pub record Shape : Type 0 where
   pub parents : List (Option DevId)
   pub links : List LinkRow
+  pub attached : List (List ℕ)
+  pub below : List (List ℕ)
 
-abbrev pub shape_of : Plan → Shape
-shape_of plan = record { parents = map (λ row. row.parent) plan.devices; links = plan.links }
-
--- counters of this shape were made for this plan, whatever its scripts
+-- counters of this shape were made for this plan, whatever its scripts: it has the parent of each device, the links, and
+-- for each domain the devices and the domains that belong to it
 pub record IsFor (plan : Plan) (shape : Shape) : Type 0 where
-  pub shape_is : shape ≡ shape_of plan
+  pub parents_are : shape.parents ≡ map (λ row. row.parent) plan.devices
   pub devices_len : length shape.parents ≡ length plan.devices
   pub links_are : shape.links ≡ plan.links
+  pub attached_are : AreGroups (homes plan) (length plan.domains) shape.attached
+  pub below_are : AreGroups (parents plan) (length plan.domains) shape.below
 
 -- the counters of all devices
 pub record Counters : Type 0 where
@@ -42,11 +46,12 @@ pub record IsInTime (x : Device) : Type 0 where
   pub most : x.delay ≤ℤ pos MAX_MS
 
 -- what the counters keep beside the views: how many children of each device count, and which devices are quiet
-pub record IsKept (parents : List (Option DevId)) (devices : List Device) (pending : List Pending) (timers : List (Option Armed)) (children : List ℕ) (quiet : List Bool) : Type 0 where
+pub record IsKept (parents : List (Option DevId)) (devices : List Device) (pending : List Pending) (timers : List (Option Armed)) (on : List Bool) (below : List (List ℕ)) (children : List ℕ) (quiet : List Bool) : Type 0 where
   pub few : length parents ≤ MAX_DEVICES
   pub devices_len : length devices ≡ length parents
   pub pending_len : length pending ≡ length parents
   pub timers_len : length timers ≡ length parents
+  pub on_len : length on ≡ length below
   pub earlier : (d : ℕ) → IfSome (parent_at parents d) (λ p. p.0 < d)
   pub children_len : length children ≡ length parents
   pub counted : (d : DevId) → d.0 < length children → child_count_at children d.0 ≡ children_of parents devices d

@@ -5,7 +5,7 @@
 ghost use Rattle.std.specs.Prelude.{◌≡◌, ◌<◌, ◌+◌, ◌^◌, true, length, slice_set, IfOk};
 ghost use Rattle.pm_model.specs.Views.{device, with_device};
 ghost use Rattle.pm_device.specs.Children.{child_count_at, counts, device_at, parent_at, recounted};
-ghost use Rattle.pm_device.specs.Parts.{Counters, IsFor, IsInTime, is_quiet, shape_of};
+ghost use Rattle.pm_device.specs.Parts.{Counters, IsFor, IsInTime, is_quiet};
 
 mod changes;
 mod guards;
@@ -19,6 +19,7 @@ pub use rows::{
 };
 
 use pm_base::{DevId, NoMemory, Status};
+use pm_domain::Domains;
 use pm_link::Links;
 use pm_model::{Device, Plan};
 use pm_request::Requests;
@@ -33,7 +34,7 @@ pub struct Parts {
     devices: Vec<Device>,
     requests: Requests,
     timers: Timers,
-    on: Vec<bool>,
+    domains: Domains,
     links: Links,
     parents: Vec<Option<DevId>>,
     // How many children of each device are Active or Suspending.
@@ -48,18 +49,18 @@ impl Model for Parts {
     ghost Value = { Counters };
 
     ghost view = { λ p. record {
-      shape = record { parents = p.parents.items; links = p.links.rows };
+      shape = record { parents = p.parents.items; links = p.links.rows; attached = p.domains.attached; below = p.domains.below };
       views = record {
         devices = p.devices.items;
         pending = p.requests;
         timers = p.timers;
-        on = p.on.items;
+        on = p.domains.on;
         held = p.links.held;
         present = p.links.present;
       };
     } };
 
-    ghost invariant = { λ p. IsKept p.parents.items p.devices.items p.requests p.timers p.children.items p.quiet.items };
+    ghost invariant = { λ p. IsKept p.parents.items p.devices.items p.requests p.timers p.domains.on p.domains.below p.children.items p.quiet.items };
 }
 
 /// Whether a child of this status counts.

@@ -1,6 +1,6 @@
 //! The links of a device among the counters (`device_link.rst`).
 
-ghost use Rattle.std.specs.Prelude.{◌≡◌, ◌<◌, Bool, IfSome, false, length, option_map, true};
+ghost use Rattle.std.specs.Prelude.{◌≡◌, ◌<◌, IfSome, length, option_map};
 ghost use Rattle.pm_link.specs.Links.{with_supplier};
 ghost use Rattle.pm_model.specs.Changes.{set_held, set_present};
 ghost use Rattle.pm_model.specs.ControlTable.{is_pair_in, may_be_absent};
@@ -64,30 +64,22 @@ impl Parts {
         self.next_supplier(plan, dev, None).is_some()
     }
 
-    /// The link of the pair is held, if there is one.
+    /// The link of a pair becomes held or free, if there is one.
     #[tactic(auto, unfolding(pm_model::specs::Changes::set_held))]
-    pub fn hold(&mut self, plan: &Plan, consumer: DevId, supplier: DevId)
+    pub fn set_held(&mut self, plan: &Plan, consumer: DevId, supplier: DevId, held: bool)
         requires { IsFor plan.now self.old.shape }
-        ensures { self.new ≡ record self.old { views = set_held plan.now consumer supplier true self.old.views } }
+        ensures { self.new ≡ record self.old { views = set_held plan.now consumer supplier held self.old.views } }
     {
-        if let Some(link) = self.links.find(plan, consumer, supplier) {
-            if !self.links.held(link) {
-                self.links.take(link);
-            }
-        }
+        self.links.set_held(plan, consumer, supplier, held);
     }
 
-    /// The link of the pair is free, if there is one.
-    #[tactic(auto, unfolding(pm_model::specs::Changes::set_held))]
-    pub fn release(&mut self, plan: &Plan, consumer: DevId, supplier: DevId)
+    /// The link of a pair becomes present or absent, if there is one.
+    #[tactic(auto, unfolding(pm_model::specs::Changes::set_present))]
+    pub fn set_present(&mut self, plan: &Plan, consumer: DevId, supplier: DevId, present: bool)
         requires { IsFor plan.now self.old.shape }
-        ensures { self.new ≡ record self.old { views = set_held plan.now consumer supplier false self.old.views } }
+        ensures { self.new ≡ record self.old { views = set_present plan.now consumer supplier present self.old.views } }
     {
-        if let Some(link) = self.links.find(plan, consumer, supplier) {
-            if self.links.held(link) {
-                self.links.give(link);
-            }
-        }
+        self.links.set_present(plan, consumer, supplier, present);
     }
 
     /// Whether the link of a pair begins absent (this project's own).
@@ -95,10 +87,7 @@ impl Parts {
         requires { IsFor plan.now self.now.shape }
         ensures { result ≡ may_be_absent plan.now consumer supplier }
     {
-        match self.links.find(plan, consumer, supplier) {
-            Some(link) => plan.links.as_slice()[link].later,
-            None => false,
-        }
+        self.links.may_be_absent(plan, consumer, supplier)
     }
 
     /// Whether the link of a pair is present.
@@ -106,10 +95,7 @@ impl Parts {
         requires { IsFor plan.now self.now.shape }
         ensures { result ≡ is_pair_in plan.now consumer supplier self.now.views.present }
     {
-        match self.links.find(plan, consumer, supplier) {
-            Some(link) => self.links.present(link),
-            None => false,
-        }
+        self.links.is_present(plan, consumer, supplier)
     }
 
     /// Whether the link of a pair is held.
@@ -117,9 +103,6 @@ impl Parts {
         requires { IsFor plan.now self.now.shape }
         ensures { result ≡ is_pair_in plan.now consumer supplier self.now.views.held }
     {
-        match self.links.find(plan, consumer, supplier) {
-            Some(link) => self.links.held(link),
-            None => false,
-        }
+        self.links.is_held(plan, consumer, supplier)
     }
 }

@@ -10,6 +10,6 @@ returns c = λ plan made.
     let place = c.args.dev.0 in
     let device : place < length i.parents.items = subst (λ s. place < length s.shape.parents) (sym c.self.view_is) c.requires in
     let below : place < length i.children.items = subst (λ n. place < n) (sym c.self.invariant.children_len) device in
-    let parents = ap (λ s. s.shape.parents) c.self.view_is ∙ ap (λ shape. shape.parents) made.shape_is in
+    let parents = ap (λ s. s.shape.parents) c.self.view_is ∙ made.parents_are in
     subst (λ s. c.index.result.now ≡ children plan s.views c.args.dev) c.self.view_is
     (c.index.ensures ∙ get_or_default i.children.items place c.index.result.now 0 below ∙ c.self.invariant.counted c.args.dev below ∙ children_is plan _ i.parents.items c.args.dev parents)
