@@ -8,6 +8,8 @@ ghost use Rattle.pm_device.specs.Children.{child_count_at, counts, device_at, pa
 ghost use Rattle.pm_device.specs.Parts.{Counters, IsFor, IsInTime, is_quiet};
 
 mod changes;
+mod domains;
+mod fresh;
 mod guards;
 mod links;
 mod readers;
