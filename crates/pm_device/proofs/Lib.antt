@@ -1,3 +1,4 @@
 pub mod ChildLemmas
 pub mod PlanLemmas
 pub mod PendingLemmas
+pub mod FreshLemmas

@@ -21,7 +21,7 @@ each_row test i zero (x ∷ rows) row all is =
 each_row test i (suc n) (x ∷ rows) row all is =
     subst (λ k. test k row ≡ true) (omega arith) (each_row test (i + 1) n rows row (and_parts (test i x) (each_at test (i + 1) rows) all).1 is)
 
-devices_law : (lines trace : ℕ) (domains : List DomainRow) (devices : List DeviceRow) (links : List LinkRow) (callers : List CallerRow) → is_plan lines trace domains devices links callers ≡ true
+pub devices_law : (lines trace : ℕ) (domains : List DomainRow) (devices : List DeviceRow) (links : List LinkRow) (callers : List CallerRow) → is_plan lines trace domains devices links callers ≡ true
     → each_at (is_device (length domains)) 0 devices ≡ true
 devices_law lines trace domains devices links callers law = grind (arith, common_steps)
 
@@ -37,8 +37,11 @@ row_earlier : (domains d : ℕ) (row : DeviceRow) → is_device domains d row �
 row_earlier domains d row law = grind (arith, common_steps)
 
 -- its parent stands earlier
+pub row_parent_earlier : (domains d : ℕ) (row : DeviceRow) → is_device domains d row ≡ true → IfSome row.parent (λ p. p.0 < d)
+row_parent_earlier domains d row law = earlier d row.parent (row_earlier domains d row law)
+
 pub parent_earlier : (plan : Plan) (d : DevId) (row : DeviceRow) → slice_get plan.devices d.0 ≡ Some row → IfSome row.parent (λ p. p.0 < d.0)
-parent_earlier plan d row is = earlier d.0 row.parent (row_earlier (length plan.domains) d.0 row (device_row plan d row is))
+parent_earlier plan d row is = row_parent_earlier (length plan.domains) d.0 row (device_row plan d row is)
 
 each_item : {A : Type 0} (test : A → Bool) (n : ℕ) (rows : List A) (row : A) → list_all test rows ≡ true → slice_get rows n ≡ Some row → test row ≡ true
 each_item test n [] row all is = cc

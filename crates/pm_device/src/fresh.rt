@@ -1,6 +1,6 @@
 //! The counters before any line.
 
-ghost use Rattle.std.specs.Prelude.{◌≡◌, IfOk, length, map, replicate};
+ghost use Rattle.std.specs.Prelude.{◌≡◌, IfOk, false, length, map, replicate};
 ghost use Rattle.pm_model.specs.Views.{fresh_device};
 ghost use Rattle.pm_model.specs.World.{start_views};
 ghost use Rattle.pm_device.specs.Children.{counts};
@@ -54,6 +54,20 @@ fn parents(alloc: Global, rows: &[DeviceRow]) -> Result<Vec<Option<DevId>>, Allo
     rows.iter().map(|row| row.parent).collect(alloc)
 }
 
+// No child of any device counts.
+fn zeros(alloc: Global, count: usize) -> Result<Vec<u32>, AllocError>
+    ensures { IfOk result (λ v. v.items ≡ replicate count 0) }
+{
+    vec![in alloc; 0; count]
+}
+
+// No device is quiet.
+fn falses(alloc: Global, count: usize) -> Result<Vec<bool>, AllocError>
+    ensures { IfOk result (λ v. v.items ≡ replicate count false) }
+{
+    vec![in alloc; false; count]
+}
+
 impl Parts {
     /// The counters of a plan before any line. Fails where memory runs out; no other call takes any.
     pub fn fresh(alloc: Global, plan: &Plan) -> Result<Parts, NoMemory>
@@ -61,16 +75,23 @@ impl Parts {
         ensures start { IfOk result (λ parts. parts.views ≡ start_views plan.now) }
     {
         let rows = plan.devices.as_slice();
-        let count = rows.len();
+        let devices = fresh_devices(alloc, rows)?;
+        let parents = parents(alloc, rows)?;
+        let requests = Requests::fresh(alloc, rows.len())?;
+        let timers = Timers::fresh(alloc, rows.len())?;
+        let domains = Domains::fresh(alloc, plan)?;
+        let links = Links::fresh(alloc, plan)?;
+        let children = zeros(alloc, rows.len())?;
+        let quiet = falses(alloc, rows.len())?;
         Ok(Parts {
-            devices: fresh_devices(alloc, rows)?,
-            requests: Requests::fresh(alloc, count)?,
-            timers: Timers::fresh(alloc, count)?,
-            domains: Domains::fresh(alloc, plan)?,
-            links: Links::fresh(alloc, plan)?,
-            parents: parents(alloc, rows)?,
-            children: vec![in alloc; 0; count]?,
-            quiet: vec![in alloc; false; count]?,
+            devices,
+            requests,
+            timers,
+            domains,
+            links,
+            parents,
+            children,
+            quiet,
         })
     }
 }
