@@ -1,0 +1,6 @@
+pub mod ChainLemmas
+pub mod GroupLemmas
+pub mod MemberLemmas
+pub mod StartLemmas
+pub mod SwitchLemmas
+pub mod WalkLemmas

@@ -1,0 +1,17 @@
+use Rattle.std.proofs.Common.{ℕ, suc, ◌-◌, arith}
+use Rattle.pm_domain.proofs.ChainLemmas.{chain-none}
+use Rattle.pm_domain.proofs.walk.switch.Goals as goal
+
+pub returns-in_default : goal.returns-in_default
+returns-in_default c =
+    let k : ℕ = c.args.most - c.chain.counter in
+    rw (c.in_default.is, chain-none c.args.plan.now.domains k) at (c.chain.invariant.left k (omega arith))
+
+pub chain-preserved : goal.chain-preserved
+chain-preserved c = record {
+  in_range = c.parent-next.ensures.in_range;
+  left = λ k sum. rw c.parent-next.ensures.parent (rw c.in-Some.is at (c.chain.invariant.left (suc k) (omega arith)));
+}
+
+pub returns : goal.returns
+returns c = c.chain.invariant.left 0 (omega arith)
