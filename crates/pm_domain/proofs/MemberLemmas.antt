@@ -1,5 +1,5 @@
 -- A test of the devices or the subdomains of one domain, and the same test over all of them as the definitions have it.
-use Rattle.std.proofs.Common.{◌≡◌, ℕ, zero, suc, ◌+◌, ◌<◌, Bool, true, false, not, ◌&&◌, ◌||◌, List, [], ◌∷◌, Option, None, Some, map, length, get_or, refl, sym, ap, ◌∙◌, inl, inr, zero-add, arith}
+use Rattle.std.proofs.Common.{◌≡◌, ℕ, ◌+◌, ◌<◌, Bool, true, false, not, ◌&&◌, ◌||◌, List, [], ◌∷◌, Option, None, length, get_or, refl, sym, ap, ◌∙◌, inl, inr, zero-add, arith}
 use Rattle.std.specs.Prelude.{nat_eq}
 use Rattle.std.specs.List.{enumerate_from, list_all, zip}
 use Rattle.std.specs.Option.{option_map_or}

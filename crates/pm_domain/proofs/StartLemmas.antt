@@ -1,9 +1,8 @@
 -- Which domains are on at the start.
-use Rattle.std.proofs.Common.{◌≡◌, ℕ, zero, suc, ◌+◌, ◌<◌, ◌≤◌, Bool, true, false, ◌&&◌, ◌||◌, List, [], ◌∷◌, Option, None, Some, map, length, take, get_or, refl, sym, ap, ◌∙◌, inl, inr, zero-add, arith}
-use Rattle.std.specs.Prelude.{nat_eq, replicate, slice_get}
+use Rattle.std.proofs.Common.{◌≡◌, ℕ, ◌+◌, ◌<◌, ◌≤◌, Bool, true, false, ◌&&◌, ◌||◌, List, Option, Some, length, take, get_or, sym, ap, ◌∙◌, zero-add, arith}
+use Rattle.std.specs.Prelude.{nat_eq, slice_get}
 use Rattle.std.specs.List.{enumerate_from, list_any}
 use Rattle.std.specs.Option.{option_map_or}
-use Rattle.std.proofs.lemmas.Bool.{and_left, cases_Bool, true≢false}
 use Rattle.std.proofs.Math.Bool.{or-false}
 use Rattle.std.proofs.lemmas.List.{get_or-map, get_or_default, length-map, same_lists, take_all}
 use Rattle.std.proofs.lemmas.List.Folds.{list_any_more}

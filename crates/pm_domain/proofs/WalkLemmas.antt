@@ -1,6 +1,6 @@
 -- The walk that counts the domains that go off, in the words of `going_off`.
-use Rattle.std.proofs.Common.{◌≡◌, ℕ, zero, suc, ◌+◌, ◌<◌, ◌≤◌, Bool, true, false, not, ◌&&◌, ◌||◌, cond, List, [], ◌∷◌, Option, None, Some, map, length, get_or, set, refl, sym, ap, ◌∙◌, subst, inl, inr, arith}
-use Rattle.std.specs.Prelude.{IfSome, nat_eq, option_and_then, slice_get}
+use Rattle.std.proofs.Common.{◌≡◌, ℕ, zero, suc, ◌+◌, ◌<◌, ◌≤◌, Bool, true, false, not, ◌&&◌, List, [], ◌∷◌, Option, None, Some, map, length, set, refl, sym, ap, ◌∙◌, inl, inr, arith}
+use Rattle.std.specs.Prelude.{IfSome, nat_eq, slice_get}
 use Rattle.std.specs.Option.{option_map_or}
 use Rattle.std.proofs.lemmas.Bool.{and_right, cases_Bool, cases_eq, cond-false, cond-true, eq-eqb, eqb-true, false_from_ne_true, ne_eqb, true≢false}
 use Rattle.std.proofs.Math.Bool.{and-true}
@@ -11,12 +11,12 @@ use Rattle.pm_base.specs.declared.DevId.{DevId}
 use Rattle.pm_base.specs.declared.DomId.{DomId}
 use Rattle.pm_model.specs.declared.plan.Plan.{Plan}
 use Rattle.pm_model.specs.declared.rows.DomainRow.{DomainRow}
-use Rattle.pm_model.specs.Derived.{are_off, are_quiet, down, goes_off, going_off}
-use Rattle.pm_model.specs.PlanRows.{chain, domain, domain_parent, domains_of, is_always_on}
+use Rattle.pm_model.specs.Derived.{down, goes_off, going_off}
+use Rattle.pm_model.specs.PlanRows.{chain, domain, domain_parent, domains_of}
 use Rattle.pm_model.specs.Views.{Views}
-use Rattle.pm_domain.specs.Groups.{group_at, is_keyed, key_at, rank}
+use Rattle.pm_domain.specs.Groups.{is_keyed, key_at, rank}
 use Rattle.pm_domain.specs.Domains.{DomainViews, IsMadeFor, IsQuietOf, bit_at, parents}
-use Rattle.pm_domain.specs.Walk.{are_off_but, are_quiet_but, goes_off_from, going_off_from, is_from, switched}
+use Rattle.pm_domain.specs.Walk.{goes_off_from, going_off_from, is_from, switched}
 use Rattle.pm_domain.proofs.ChainLemmas.{few_domains, home_within, length-chain, parent_earlier}
 use Rattle.pm_domain.proofs.MemberLemmas.{are_off-group, are_quiet-group}
 

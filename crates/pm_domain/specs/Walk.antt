@@ -1,6 +1,6 @@
 -- A walk from a domain up to its ancestors, by the lists of each (this project's own). While nothing is switched, the
 -- domain from which the walk came counts as off.
-use Rattle.std.specs.Prelude.{ℕ, Bool, false, not, ◌&&◌, ◌||◌, List, [], ◌∷◌, Option, None, Some, fold, length, nat_eq, slice_set, if◌then◌else◌}
+use Rattle.std.specs.Prelude.{ℕ, Bool, false, not, ◌&&◌, ◌||◌, List, [], ◌∷◌, Option, Some, fold, length, nat_eq, slice_set, if◌then◌else◌}
 use Rattle.std.specs.List.{filter, list_all, list_any}
 use Rattle.std.specs.Option.{option_map_or}
 use Rattle.pm_base.specs.declared.DevId.{DevId}

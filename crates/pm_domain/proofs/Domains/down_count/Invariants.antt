@@ -1,4 +1,4 @@
-use Rattle.std.proofs.Common.{◌≡◌, ◌+◌, ◌<◌, ℕ, None, length}
+use Rattle.std.proofs.Common.{◌≡◌, ◌+◌, ◌<◌, None, length}
 use Rattle.std.specs.Prelude.{IfSome}
 use Rattle.pm_model.specs.PlanRows.{chain, domains_of}
 use Rattle.pm_domain.specs.Groups.{rank}

@@ -1,4 +1,4 @@
-use Rattle.std.proofs.Common.{◌≡◌, ◌+◌, ◌<◌, ℕ, length}
+use Rattle.std.proofs.Common.{◌≡◌, ◌+◌, ◌<◌, length}
 use Rattle.std.specs.Prelude.{IfSome}
 use Rattle.pm_model.specs.PlanRows.{chain}
 use Rattle.pm_domain.specs.Groups.{rank}

@@ -1,5 +1,3 @@
-use Rattle.std.proofs.Common.{◌≡◌, ap, rules}
-use Rattle.std.proofs.lemmas.Grind.{common_steps}
 use Rattle.pm_model.specs.PlanRows.{domain}
 use Rattle.pm_domain.proofs.ChainLemmas.{home_within}
 use Rattle.pm_domain.proofs.walk.home.Goals as goal

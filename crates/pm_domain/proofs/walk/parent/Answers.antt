@@ -1,4 +1,3 @@
-use Rattle.std.proofs.Common.{◌<◌}
 use Rattle.std.proofs.lemmas.Option.{IfSome_then}
 use Rattle.pm_domain.proofs.ChainLemmas.{parent_earlier}
 use Rattle.pm_domain.proofs.walk.parent.Goals as goal

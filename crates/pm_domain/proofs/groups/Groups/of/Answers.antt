@@ -1,5 +1,5 @@
-use Rattle.std.proofs.Common.{◌≡◌, ◌+◌, ◌<◌, ◌∙◌, ap, length, sym, arith}
-use Rattle.pm_domain.specs.Groups.{group_at, part_at}
+use Rattle.std.proofs.Common.{◌+◌, ◌<◌, ◌∙◌, ap, length, sym, arith}
+use Rattle.pm_domain.specs.Groups.{group_at}
 use Rattle.pm_domain.proofs.GroupLemmas.{group_at-groups_of, length-groups_of}
 use Rattle.pm_domain.proofs.groups.Groups.of.Goals as goal
 
