@@ -9,7 +9,6 @@ ghost use Rattle.pm_device.specs.Parts.{Counters, IsFor, IsInTime, is_quiet};
 
 mod changes;
 mod domains;
-mod events;
 mod fresh;
 mod guards;
 mod links;
