@@ -708,7 +708,7 @@ disabled_twice_text =
     ∷ "20 c pm_ret: resume a 1"
     ∷ [])
 
--- Two callers, side by side, and a work item that finds what is left of a request.
+-- Two callers side by side: what the call of one leaves of the request of the other for the work item.
 abbrev pub side_by_side_plan : Plan
 side_by_side_plan =
     let a = dev 0 in

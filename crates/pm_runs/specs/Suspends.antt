@@ -1,6 +1,6 @@
 -- Runs of suspends, by calls, by autosuspend and by timers: the plans, and what one thread writes.
 use Rattle.std.specs.Prelude.{ℕ, pos, true, List, [], ◌∷◌, Some, refl}
-use Rattle.pm_model.specs.declared.event.Helper.TheVariants.{Autosuspend, DontUseAutosuspend, Enable, GetSync, MarkLastBusy, PutNoidle, PutSync, PutSyncAutosuspend, RequestResume, Resume, ScheduleSuspend, SetActive, SetAutosuspendDelay, SetSuspended, Suspend, UseAutosuspend}
+use Rattle.pm_model.specs.declared.event.Helper.TheVariants.{Autosuspend, Disable, DontUseAutosuspend, Enable, GetSync, MarkLastBusy, PutNoidle, PutSync, PutSyncAutosuspend, RequestResume, Resume, ScheduleSuspend, SetActive, SetAutosuspendDelay, SetSuspended, Suspend, UseAutosuspend}
 use Rattle.pm_model.specs.declared.plan.Plan.{Plan}
 use Rattle.pm_runs.specs.Words.{empty_plan, dev, device, caller, call, call_with, delay, minus, text}
 
@@ -543,13 +543,13 @@ rearmed_timer_text =
     ∷ "25 work.a rpm_return_int: rpm_suspend:a ret=0"
     ∷ [])
 
--- The codes, the times and the mark of a device without callbacks are not used.
+-- A device without callbacks uses none of its codes, and none marks it busy.
 abbrev pub callbacks_unused_plan : Plan
 callbacks_unused_plan =
     let a = dev 0 in
     record empty_plan {
       devices = record (device "a") { no_callbacks = true; busy = true; idle = Some (minus 5 ∷ []); suspend = minus 16 ∷ []; resume = minus 5 ∷ []; idle_ms = 9; suspend_ms = 9; resume_ms = 9 } ∷ [];
-      callers = caller "e" (delay 2 ∷ call RequestResume a ∷ []) ∷ caller "c" (call Enable a ∷ call_with SetAutosuspendDelay a (pos 5) ∷ call UseAutosuspend a ∷ delay 2 ∷ call Resume a ∷ call Suspend a ∷ []) ∷ [];
+      callers = caller "e" (delay 2 ∷ call RequestResume a ∷ []) ∷ caller "c" (call Enable a ∷ call_with SetAutosuspendDelay a (pos 5) ∷ call UseAutosuspend a ∷ delay 2 ∷ call Resume a ∷ delay 2 ∷ call Suspend a ∷ call Disable a ∷ call SetActive a ∷ call Enable a ∷ call Autosuspend a ∷ []) ∷ [];
       law = refl;
     }
 
@@ -586,11 +586,29 @@ callbacks_unused_text =
     ∷ "2 c rpm_return_int: rpm_suspend:a ret=0"
     ∷ "2 c rpm_return_int: rpm_resume:a ret=0"
     ∷ "2 c pm_ret: resume a 0"
-    ∷ "2 c pm_call: suspend a"
-    ∷ "2 c rpm_suspend: a flags-0 cnt-0  dep-0  auto-1 p-0 irq-0 child-0"
-    ∷ "2 c pm_status: a suspended"
-    ∷ "2 c rpm_return_int: rpm_suspend:a ret=0"
-    ∷ "2 c pm_ret: suspend a 0"
+    ∷ "2 c pm_call: delay 2"
+    ∷ "4 c pm_ret: delay 0"
+    ∷ "4 c pm_call: suspend a"
+    ∷ "4 c rpm_suspend: a flags-0 cnt-0  dep-0  auto-1 p-0 irq-0 child-0"
+    ∷ "4 c pm_status: a suspended"
+    ∷ "4 c rpm_return_int: rpm_suspend:a ret=0"
+    ∷ "4 c pm_ret: suspend a 0"
+    ∷ "4 c pm_call: disable a"
+    ∷ "4 c pm_ret: disable a 0"
+    ∷ "4 c pm_call: set_active a"
+    ∷ "4 c pm_status: a forced_active"
+    ∷ "4 c pm_ret: set_active a 0"
+    ∷ "4 c pm_call: enable a"
+    ∷ "4 c pm_ret: enable a 0"
+    ∷ "4 c pm_call: autosuspend a"
+    ∷ "4 c rpm_suspend: a flags-8 cnt-0  dep-0  auto-1 p-0 irq-0 child-0"
+    ∷ "4 c pm_timer: a arm 7 auto"
+    ∷ "4 c rpm_return_int: rpm_suspend:a ret=0"
+    ∷ "4 c pm_ret: autosuspend a 0"
+    ∷ "7 timer.a pm_timer: a fire auto"
+    ∷ "7 timer.a rpm_suspend: a flags-9 cnt-0  dep-0  auto-1 p-0 irq-0 child-0"
+    ∷ "7 timer.a pm_status: a suspended"
+    ∷ "7 timer.a rpm_return_int: rpm_suspend:a ret=0"
     ∷ [])
 
 -- A suspend callback that answers -11 has the autosuspend wait anew; one that answers -5 ends it, and the resume deferred meanwhile is forgotten; without autosuspend -16 ends it too.

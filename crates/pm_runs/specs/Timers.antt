@@ -4,7 +4,7 @@ use Rattle.pm_model.specs.declared.event.Helper.TheVariants.{Autosuspend, Barrie
 use Rattle.pm_model.specs.declared.plan.Plan.{Plan}
 use Rattle.pm_runs.specs.Words.{empty_plan, dev, device, caller, call, call_with, delay, minus, text}
 
--- Who asks a device that suspends cancels a scheduled suspend, and so does a callback that fails; one that answers -16 keeps it.
+-- Whoever asks a device that suspends cancels a scheduled suspend, and so does a callback that fails; one that answers -16 keeps it.
 abbrev pub cancelled_in_suspend_plan : Plan
 cancelled_in_suspend_plan =
     let a = dev 0 in
@@ -145,7 +145,7 @@ cancelled_in_suspend_text =
     ∷ "51 timer.a rpm_return_int: rpm_suspend:a ret=-11"
     ∷ [])
 
--- Who asks a device that resumes cancels a scheduled suspend and no autosuspend; a queued suspend takes the place of either.
+-- Whoever asks a device that resumes cancels a scheduled suspend and no autosuspend; a queued suspend takes the place of either.
 abbrev pub cancelled_in_resume_plan : Plan
 cancelled_in_resume_plan =
     let a = dev 0 in
@@ -351,7 +351,7 @@ failed_resume_text =
     ∷ "10 c pm_ret: resume a -5"
     ∷ [])
 
--- A barrier, a disable and a suspend that begins cancel an autosuspend, also where they wait for a callback.
+-- barrier and disable, waiting or not, and a suspend that begins cancel an autosuspend.
 abbrev pub cancelled_by_control_plan : Plan
 cancelled_by_control_plan =
     let a = dev 0 in

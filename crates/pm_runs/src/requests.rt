@@ -72,13 +72,14 @@ pub fn disabled_twice()
     ensures finished { IsFinished disabled_twice_plan (run_of disabled_twice_plan) }
 {}
 
-/// Two callers, side by side, and a work item that finds what is left of a request.
+/// Two callers side by side: what the call of one leaves of the request of the other for the work
+/// item.
 pub fn side_by_side()
     ensures text { text_of side_by_side_plan ≡ side_by_side_text }
     ensures finished { IsFinished side_by_side_plan (run_of side_by_side_plan) }
 {}
 
-/// A nested disable leaves what the first one remembered, whatever the status has become since.
+/// A nested `disable` leaves what the first one remembered, whatever the status has become since.
 pub fn nested_disable()
     ensures text { text_of nested_disable_plan ≡ nested_disable_text }
     ensures finished { IsFinished nested_disable_plan (run_of nested_disable_plan) }

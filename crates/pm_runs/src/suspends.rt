@@ -56,7 +56,7 @@ pub fn rearmed_timer()
     ensures finished { IsFinished rearmed_timer_plan (run_of rearmed_timer_plan) }
 {}
 
-/// The codes, the times and the mark of a device without callbacks are not used.
+/// A device without callbacks uses none of its codes, and none marks it busy.
 pub fn callbacks_unused()
     ensures text { text_of callbacks_unused_plan ≡ callbacks_unused_text }
     ensures finished { IsFinished callbacks_unused_plan (run_of callbacks_unused_plan) }
