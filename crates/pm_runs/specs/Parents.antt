@@ -1,6 +1,6 @@
 -- Runs of parents and their children: the plans, and what one thread writes.
 use Rattle.std.specs.Prelude.{ℕ, pos, true, List, [], ◌∷◌, Some, refl}
-use Rattle.pm_model.specs.declared.event.Helper.TheVariants.{Enable, GetNoresume, GetSync, Idle, IgnoreChildren, LinkAdd, PutSyncSuspend, Resume, Suspend}
+use Rattle.pm_model.specs.declared.event.Helper.TheVariants.{Enable, GetNoresume, GetSync, Idle, IgnoreChildren, LinkAdd, PutSyncSuspend, RequestResume, Resume, Suspend}
 use Rattle.pm_model.specs.declared.plan.Plan.{Plan}
 use Rattle.pm_runs.specs.Words.{empty_plan, dev, device, link, caller, call, call_with, of_pair, delay, minus, text}
 
@@ -465,4 +465,76 @@ kept_marks_text =
     ∷ "20 work.p pm_callback: p suspend end 0"
     ∷ "20 work.p pm_status: p suspended"
     ∷ "20 work.p rpm_return_int: rpm_suspend:p ret=0"
+    ∷ [])
+
+-- A resume that waited for another one gives back the count on the parent that it took before.
+abbrev pub child_waits_plan : Plan
+child_waits_plan =
+    let p = dev 0 in
+    let k = dev 1 in
+    record empty_plan {
+      devices = record (device "p") { resume_ms = 10 } ∷ record (device "k") { parent = Some p; resume_ms = 10 } ∷ [];
+      callers = caller "c" (call Enable p ∷ call Enable k ∷ call RequestResume k ∷ []) ∷ caller "e" (delay 1 ∷ call GetSync k ∷ []) ∷ caller "f" (delay 2 ∷ call Resume k ∷ []) ∷ [];
+      law = refl;
+    }
+
+abbrev pub child_waits_text : List ℕ
+child_waits_text =
+    text (
+    "0 c pm_call: enable p"
+    ∷ "0 e pm_call: delay 1"
+    ∷ "0 f pm_call: delay 2"
+    ∷ "0 c pm_ret: enable p 0"
+    ∷ "0 c pm_call: enable k"
+    ∷ "0 c pm_ret: enable k 0"
+    ∷ "0 c pm_call: request_resume k"
+    ∷ "0 c rpm_resume: k flags-1 cnt-0  dep-0  auto-1 p-0 irq-0 child-0"
+    ∷ "0 c pm_work: k queue resume"
+    ∷ "0 work.k pm_work: k run resume"
+    ∷ "0 c rpm_return_int: rpm_resume:k ret=0"
+    ∷ "0 work.k rpm_resume: k flags-2 cnt-0  dep-0  auto-1 p-0 irq-0 child-0"
+    ∷ "0 c pm_ret: request_resume k 0"
+    ∷ "0 work.k pm_get: p child k"
+    ∷ "0 work.k rpm_resume: p flags-0 cnt-1  dep-0  auto-1 p-0 irq-0 child-0"
+    ∷ "0 work.k pm_status: p resuming"
+    ∷ "0 work.k pm_callback: p resume begin"
+    ∷ "1 e pm_ret: delay 0"
+    ∷ "1 e pm_call: get_sync k"
+    ∷ "1 e pm_get: k caller"
+    ∷ "1 e rpm_resume: k flags-4 cnt-1  dep-0  auto-1 p-0 irq-0 child-0"
+    ∷ "1 e pm_get: p child k"
+    ∷ "1 e rpm_resume: p flags-0 cnt-2  dep-0  auto-1 p-0 irq-0 child-0"
+    ∷ "1 e pm_wait: p"
+    ∷ "2 f pm_ret: delay 0"
+    ∷ "2 f pm_call: resume k"
+    ∷ "2 f rpm_resume: k flags-0 cnt-1  dep-0  auto-1 p-0 irq-0 child-0"
+    ∷ "2 f pm_get: p child k"
+    ∷ "2 f rpm_resume: p flags-0 cnt-3  dep-0  auto-1 p-0 irq-0 child-0"
+    ∷ "2 f pm_wait: p"
+    ∷ "10 work.k pm_callback: p resume end 0"
+    ∷ "10 work.k pm_status: p active"
+    ∷ "10 e rpm_return_int: rpm_resume:p ret=1"
+    ∷ "10 f rpm_return_int: rpm_resume:p ret=1"
+    ∷ "10 work.k rpm_idle: p flags-1 cnt-3  dep-0  auto-1 p-0 irq-0 child-0"
+    ∷ "10 e pm_status: k resuming"
+    ∷ "10 f pm_wait: k"
+    ∷ "10 work.k rpm_return_int: rpm_idle:p ret=-11"
+    ∷ "10 e pm_callback: k resume begin"
+    ∷ "10 work.k rpm_return_int: rpm_resume:p ret=0"
+    ∷ "10 work.k rpm_return_int: rpm_resume:k ret=-115"
+    ∷ "10 work.k pm_put: p child k"
+    ∷ "10 work.k rpm_usage: p flags-5 cnt-2  dep-0  auto-1 p-0 irq-0 child-0"
+    ∷ "20 e pm_callback: k resume end 0"
+    ∷ "20 e pm_status: k active"
+    ∷ "20 f rpm_return_int: rpm_resume:k ret=1"
+    ∷ "20 e rpm_idle: k flags-1 cnt-1  dep-0  auto-1 p-0 irq-0 child-0"
+    ∷ "20 f pm_put: p child k"
+    ∷ "20 e rpm_return_int: rpm_idle:k ret=-11"
+    ∷ "20 f rpm_usage: p flags-5 cnt-1  dep-0  auto-1 p-0 irq-0 child-1"
+    ∷ "20 e rpm_return_int: rpm_resume:k ret=0"
+    ∷ "20 f pm_ret: resume k 1"
+    ∷ "20 e pm_put: p child k"
+    ∷ "20 e rpm_idle: p flags-5 cnt-0  dep-0  auto-1 p-0 irq-0 child-1"
+    ∷ "20 e rpm_return_int: rpm_idle:p ret=-16"
+    ∷ "20 e pm_ret: get_sync k 0"
     ∷ [])

@@ -9,7 +9,7 @@ use Rattle.pm_base.specs.declared.Why.TheVariants as why
 use Rattle.pm_model.specs.declared.event.Event.{Event}
 use Rattle.pm_model.specs.declared.event.Event.TheVariants as event
 use Rattle.pm_model.specs.declared.event.Fields.{Fields}
-use Rattle.pm_model.specs.declared.event.Helper.TheVariants.{Enable, Forbid, GetSync}
+use Rattle.pm_model.specs.declared.event.Helper.TheVariants.{Enable, Forbid, GetSync, Resume}
 use Rattle.pm_model.specs.declared.event.Line.{Line}
 use Rattle.pm_model.specs.declared.event.TimerAct.TheVariants as timer
 use Rattle.pm_model.specs.declared.event.Word.TheVariants as word
@@ -118,13 +118,14 @@ fired t auto = line t (Timer 0) (event.Timer (dev 0) (timer.Fire auto))
 -- what a rare guard rules out: an idle callback of a device that has none; a code that isn't answered, since the
 -- callback marked the device busy; a request that another call took away; the last status as a nested disable found
 -- it, and not as the first one did; a supplier whose link is absent; a parent that is disabled; a second count on the
--- parent; the code of a call that doesn't matter
+-- parent; a return before the count on the parent is given back; suppliers given back in the order of links; the code
+-- of a call that doesn't matter
 
 abbrev pub idle_begun : Line
 idle_begun = line 2 (Caller 1) (event.Begin (dev 0) cb.Idle)
 
 abbrev pub not_awaited : Line
-not_awaited = line 15 (Caller 0) (event.Return cb.Suspend (dev 0) (minus 11))
+not_awaited = line 18 (Caller 0) (event.Return cb.Suspend (dev 0) (minus 11))
 
 abbrev pub taken_away : Line
 taken_away = line 3 (Work 0) (event.Work (dev 0) (work.Run req.Suspend))
@@ -143,6 +144,12 @@ disabled_called = line 0 (Caller 0) (event.Resume (dev 0) (record (payload 0 1 0
 
 abbrev pub counted_twice : Line
 counted_twice = line 20 (Caller 0) (event.Get (dev 0) (why.Child (dev 2)))
+
+abbrev pub put_left_out : Line
+put_left_out = line 20 (Caller 2) (event.Ret Resume (dev 1) (pos 1))
+
+abbrev pub given_in_link_order : Line
+given_in_link_order = line 0 (Caller 0) (event.Put (dev 2) (why.Link (dev 3)))
 
 abbrev pub code_of_call : Line
 code_of_call = line 0 (Caller 0) (event.Ret Forbid (dev 0) (minus 13))

@@ -875,7 +875,7 @@ nested_disable_plan =
     let a = dev 0 in
     record empty_plan {
       devices = record (device "a") { resume = minus 5 ∷ [] } ∷ [];
-      callers = caller "c" (call SetActive a ∷ call Disable a ∷ call Resume a ∷ call Enable a ∷ call Resume a ∷ call Enable a ∷ call Disable a ∷ call SetSuspended a ∷ call Resume a ∷ call Disable a ∷ call SetActive a ∷ call Enable a ∷ call Resume a ∷ call Enable a ∷ call Suspend a ∷ call Disable a ∷ call SetActive a ∷ call Disable a ∷ call Enable a ∷ call Resume a ∷ call SetSuspended a ∷ call Enable a ∷ call Resume a ∷ call Disable a ∷ call Resume a ∷ call Suspend a ∷ []) ∷ [];
+      callers = caller "c" (call SetActive a ∷ call Disable a ∷ call Resume a ∷ call Enable a ∷ call Resume a ∷ call Enable a ∷ call Disable a ∷ call SetSuspended a ∷ call Resume a ∷ call Disable a ∷ call SetActive a ∷ call Enable a ∷ call Resume a ∷ call Enable a ∷ call Suspend a ∷ call Disable a ∷ call SetActive a ∷ call Disable a ∷ call Enable a ∷ call Resume a ∷ call SetSuspended a ∷ call Enable a ∷ call Resume a ∷ call Disable a ∷ call Resume a ∷ call Suspend a ∷ call_with ScheduleSuspend a (pos 0) ∷ []) ∷ [];
       law = refl;
     }
 
@@ -964,4 +964,8 @@ nested_disable_text =
     ∷ "0 c rpm_suspend: a flags-0 cnt-0  dep-1  auto-1 p-0 irq-0 child-0"
     ∷ "0 c rpm_return_int: rpm_suspend:a ret=-22"
     ∷ "0 c pm_ret: suspend a -22"
+    ∷ "0 c pm_call: schedule_suspend a 0"
+    ∷ "0 c rpm_suspend: a flags-1 cnt-0  dep-1  auto-1 p-0 irq-0 child-0"
+    ∷ "0 c rpm_return_int: rpm_suspend:a ret=-22"
+    ∷ "0 c pm_ret: schedule_suspend a -22"
     ∷ [])

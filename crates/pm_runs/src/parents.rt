@@ -4,7 +4,7 @@ ghost use Rattle.std.specs.Prelude.{◌≡◌, true, false, length};
 ghost use Rattle.pm_model.specs.Excuse.{is_excused_from_parent};
 ghost use Rattle.pm_model.specs.Lawful.{IsFinished};
 ghost use Rattle.pm_runs.specs.Words.{dev, run_of, text_of};
-ghost use Rattle.pm_runs.specs.Parents.{parents_plan, parents_text, limit_plan, limit_text, ignored_child_plan, ignored_child_text, failed_parent_plan, failed_parent_text, child_let_go_plan, child_let_go_text, parent_follows_plan, parent_follows_text, disabled_parent_plan, disabled_parent_text, kept_marks_plan, kept_marks_text};
+ghost use Rattle.pm_runs.specs.Parents.{parents_plan, parents_text, limit_plan, limit_text, ignored_child_plan, ignored_child_text, failed_parent_plan, failed_parent_text, child_let_go_plan, child_let_go_text, parent_follows_plan, parent_follows_text, disabled_parent_plan, disabled_parent_text, kept_marks_plan, kept_marks_text, child_waits_plan, child_waits_text};
 
 /// A resume takes a count on the parent, resumes it first, and gives the count back at its end.
 pub fn parents()
@@ -57,4 +57,10 @@ pub fn disabled_parent()
 pub fn kept_marks()
     ensures text { text_of kept_marks_plan ≡ kept_marks_text }
     ensures finished { IsFinished kept_marks_plan (run_of kept_marks_plan) }
+{}
+
+/// A resume that waited for another one gives back the count on the parent that it took before.
+pub fn child_waits()
+    ensures text { text_of child_waits_plan ≡ child_waits_text }
+    ensures finished { IsFinished child_waits_plan (run_of child_waits_plan) }
 {}

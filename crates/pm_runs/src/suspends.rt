@@ -63,7 +63,8 @@ pub fn callbacks_unused()
 {}
 
 /// A suspend callback that answers -11 has the autosuspend wait anew; one that answers -5 ends it,
-/// and the resume deferred meanwhile is forgotten; without autosuspend -16 ends it too.
+/// and the resume deferred meanwhile is forgotten; without autosuspend -16 ends it too. Each end
+/// marks the device busy.
 pub fn tried_again()
     ensures text { text_of tried_again_plan ≡ tried_again_text }
     ensures finished { IsFinished tried_again_plan (run_of tried_again_plan) }

@@ -39,3 +39,11 @@ returns-clause-counted_twice c = refused _ _ _ _ refl refl
 pub returns-clause-code_of_call : goal.returns-clause-code_of_call
 unfolding call_table
 returns-clause-code_of_call c = refused _ _ _ _ refl refl
+
+pub returns-clause-put_left_out : goal.returns-clause-put_left_out
+unfolding call_table
+returns-clause-put_left_out c = refused _ _ _ _ refl refl
+
+pub returns-clause-given_in_link_order : goal.returns-clause-given_in_link_order
+unfolding call_table
+returns-clause-given_in_link_order c = refused _ _ _ _ refl refl
