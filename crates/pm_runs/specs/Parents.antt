@@ -538,3 +538,51 @@ child_waits_text =
     ∷ "20 e rpm_return_int: rpm_idle:p ret=-16"
     ∷ "20 e pm_ret: get_sync k 0"
     ∷ [])
+
+-- A resume takes a pending one away as soon as it has a count on the parent, and again where the parent fails.
+abbrev pub taken_request_plan : Plan
+taken_request_plan =
+    let p = dev 0 in
+    let k = dev 1 in
+    record empty_plan {
+      devices = record (device "p") { resume = minus 5 ∷ []; resume_ms = 10 } ∷ record (device "k") { parent = Some p } ∷ [];
+      callers = caller "e" (call Enable p ∷ call RequestResume k ∷ delay 10 ∷ call RequestResume k ∷ []) ∷ caller "c" (call Enable k ∷ call Resume k ∷ []) ∷ [];
+      law = refl;
+    }
+
+abbrev pub taken_request_text : List ℕ
+taken_request_text =
+    text (
+    "0 e pm_call: enable p"
+    ∷ "0 c pm_call: enable k"
+    ∷ "0 e pm_ret: enable p 0"
+    ∷ "0 c pm_ret: enable k 0"
+    ∷ "0 e pm_call: request_resume k"
+    ∷ "0 c pm_call: resume k"
+    ∷ "0 e rpm_resume: k flags-1 cnt-0  dep-0  auto-1 p-0 irq-0 child-0"
+    ∷ "0 c rpm_resume: k flags-0 cnt-0  dep-0  auto-1 p-0 irq-0 child-0"
+    ∷ "0 e pm_work: k queue resume"
+    ∷ "0 c pm_get: p child k"
+    ∷ "0 work.k pm_work: k run none"
+    ∷ "0 e rpm_return_int: rpm_resume:k ret=0"
+    ∷ "0 c rpm_resume: p flags-0 cnt-1  dep-0  auto-1 p-0 irq-0 child-0"
+    ∷ "0 e pm_ret: request_resume k 0"
+    ∷ "0 c pm_status: p resuming"
+    ∷ "0 e pm_call: delay 10"
+    ∷ "0 c pm_callback: p resume begin"
+    ∷ "10 e pm_ret: delay 0"
+    ∷ "10 c pm_callback: p resume end -5"
+    ∷ "10 e pm_call: request_resume k"
+    ∷ "10 c pm_status: p suspended"
+    ∷ "10 e rpm_resume: k flags-1 cnt-0  dep-0  auto-1 p-0 irq-0 child-0"
+    ∷ "10 c rpm_return_int: rpm_resume:p ret=-5"
+    ∷ "10 e pm_work: k queue resume"
+    ∷ "10 c rpm_return_int: rpm_resume:k ret=-16"
+    ∷ "10 work.k pm_work: k run none"
+    ∷ "10 e rpm_return_int: rpm_resume:k ret=0"
+    ∷ "10 c pm_put: p child k"
+    ∷ "10 e pm_ret: request_resume k 0"
+    ∷ "10 c rpm_idle: p flags-5 cnt-0  dep-0  auto-1 p-0 irq-0 child-0"
+    ∷ "10 c rpm_return_int: rpm_idle:p ret=-22"
+    ∷ "10 c pm_ret: resume k -16"
+    ∷ [])

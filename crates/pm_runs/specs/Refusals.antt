@@ -116,10 +116,10 @@ abbrev pub fired : ℕ → Bool → Line
 fired t auto = line t (Timer 0) (event.Timer (dev 0) (timer.Fire auto))
 
 -- what a rare guard rules out: an idle callback of a device that has none; a code that isn't answered, since the
--- callback marked the device busy; a request that another call took away; the last status as a nested disable found
--- it, and not as the first one did; a supplier whose link is absent; a parent that is disabled; a second count on the
--- parent; a return before the count on the parent is given back; suppliers given back in the order of links; the code
--- of a call that doesn't matter
+-- callback marked the device busy; a request that a suspend, a barrier or a resume took away; the last status as a
+-- nested disable found it, and not as the first one did; a supplier whose link is absent; a parent that is disabled; a
+-- second count on the parent; a return before the count on the parent is given back; suppliers given back in the order
+-- of links; the code of a call that doesn't matter
 
 abbrev pub idle_begun : Line
 idle_begun = line 2 (Caller 1) (event.Begin (dev 0) cb.Idle)
@@ -129,6 +129,12 @@ not_awaited = line 18 (Caller 0) (event.Return cb.Suspend (dev 0) (minus 11))
 
 abbrev pub taken_away : Line
 taken_away = line 3 (Work 0) (event.Work (dev 0) (work.Run req.Suspend))
+
+abbrev pub taken_by_barrier : Line
+taken_by_barrier = line 10 (Work 0) (event.Work (dev 0) (work.Run req.Autosuspend))
+
+abbrev pub taken_by_resume : Line
+taken_by_resume = line 0 (Work 1) (event.Work (dev 1) (work.Run req.Resume))
 
 abbrev pub found_active : Line
 found_active = line 0 (Caller 0) (event.Return cb.Resume (dev 0) (pos 1))

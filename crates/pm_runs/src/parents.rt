@@ -4,7 +4,7 @@ ghost use Rattle.std.specs.Prelude.{◌≡◌, true, false, length};
 ghost use Rattle.pm_model.specs.Excuse.{is_excused_from_parent};
 ghost use Rattle.pm_model.specs.Lawful.{IsFinished};
 ghost use Rattle.pm_runs.specs.Words.{dev, run_of, text_of};
-ghost use Rattle.pm_runs.specs.Parents.{parents_plan, parents_text, limit_plan, limit_text, ignored_child_plan, ignored_child_text, failed_parent_plan, failed_parent_text, child_let_go_plan, child_let_go_text, parent_follows_plan, parent_follows_text, disabled_parent_plan, disabled_parent_text, kept_marks_plan, kept_marks_text, child_waits_plan, child_waits_text};
+ghost use Rattle.pm_runs.specs.Parents.{parents_plan, parents_text, limit_plan, limit_text, ignored_child_plan, ignored_child_text, failed_parent_plan, failed_parent_text, child_let_go_plan, child_let_go_text, parent_follows_plan, parent_follows_text, disabled_parent_plan, disabled_parent_text, kept_marks_plan, kept_marks_text, child_waits_plan, child_waits_text, taken_request_plan, taken_request_text};
 
 /// A resume takes a count on the parent, resumes it first, and gives the count back at its end.
 pub fn parents()
@@ -63,4 +63,11 @@ pub fn kept_marks()
 pub fn child_waits()
     ensures text { text_of child_waits_plan ≡ child_waits_text }
     ensures finished { IsFinished child_waits_plan (run_of child_waits_plan) }
+{}
+
+/// A resume takes a pending one away as soon as it has a count on the parent, and again where the
+/// parent fails.
+pub fn taken_request()
+    ensures text { text_of taken_request_plan ≡ taken_request_text }
+    ensures finished { IsFinished taken_request_plan (run_of taken_request_plan) }
 {}

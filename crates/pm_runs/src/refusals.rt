@@ -4,12 +4,12 @@
 ghost use Rattle.std.specs.Prelude.{true, false};
 ghost use Rattle.pm_runs.specs.Counts.{conditional_gets_plan, first_plan, forbidden_plan, refused_settings_plan};
 ghost use Rattle.pm_runs.specs.Suspends.{autosuspend_plan, busy_suspend_plan, callbacks_unused_plan, failed_suspend_plan, tried_again_plan};
-ghost use Rattle.pm_runs.specs.Parents.{child_waits_plan, disabled_parent_plan, failed_parent_plan, kept_marks_plan, limit_plan, parents_plan};
+ghost use Rattle.pm_runs.specs.Parents.{child_waits_plan, disabled_parent_plan, failed_parent_plan, kept_marks_plan, limit_plan, parents_plan, taken_request_plan};
 ghost use Rattle.pm_runs.specs.Links.{absent_link_plan, failed_supplier_plan, suppliers_given_back_plan};
 ghost use Rattle.pm_runs.specs.Domains.{domains_plan};
-ghost use Rattle.pm_runs.specs.Requests.{deferred_resume_plan, nested_disable_plan, side_by_side_plan, waiting_resume_plan};
+ghost use Rattle.pm_runs.specs.Requests.{barrier_takes_plan, deferred_resume_plan, nested_disable_plan, side_by_side_plan, waiting_resume_plan};
 ghost use Rattle.pm_runs.specs.Timers.{cancelled_by_control_plan, cancelled_in_resume_plan, cancelled_in_suspend_plan, failed_resume_plan};
-ghost use Rattle.pm_runs.specs.Refusals.{IsRefused, wrong_count, wrong_children, wrong_code, wrong_domains, wrong_moment, swapped, left_out, given_back_early, begun_early, ended_early, fired_early, falling_time, other_caller, not_a_work_item, waiting, suspend_begun, forbidden_count, busy_as_error, without_parent, after_end, past_limit, fired, idle_begun, not_awaited, taken_away, found_active, found_suspended, absent_told, disabled_called, counted_twice, put_left_out, given_in_link_order, code_of_call};
+ghost use Rattle.pm_runs.specs.Refusals.{IsRefused, wrong_count, wrong_children, wrong_code, wrong_domains, wrong_moment, swapped, left_out, given_back_early, begun_early, ended_early, fired_early, falling_time, other_caller, not_a_work_item, waiting, suspend_begun, forbidden_count, busy_as_error, without_parent, after_end, past_limit, fired, idle_begun, not_awaited, taken_away, taken_by_barrier, taken_by_resume, found_active, found_suspended, absent_told, disabled_called, counted_twice, put_left_out, given_in_link_order, code_of_call};
 
 /// Fields of a line that aren't the views before it.
 pub fn wrong_fields()
@@ -120,6 +120,10 @@ pub fn rare_guards()
         "18 c rpm_return_int: rpm_suspend:a ret=-11" }
     ensures taken_away { IsRefused side_by_side_plan 35 taken_away
         "3 work.a pm_work: a run suspend" }
+    ensures taken_by_barrier { IsRefused barrier_takes_plan 32 taken_by_barrier
+        "10 work.a pm_work: a run autosuspend" }
+    ensures taken_by_resume { IsRefused taken_request_plan 10 taken_by_resume
+        "0 work.k pm_work: k run resume" }
     ensures found_active { IsRefused nested_disable_plan 57 found_active
         "0 c rpm_return_int: rpm_resume:a ret=1" }
     ensures found_suspended { IsRefused nested_disable_plan 35 found_suspended
@@ -130,7 +134,8 @@ pub fn rare_guards()
         "0 c rpm_resume: p flags-0 cnt-1  dep-1  auto-1 p-0 irq-0 child-0" }
     ensures counted_twice { IsRefused kept_marks_plan 42 counted_twice "20 c pm_get: p child k" }
     ensures put_left_out { IsRefused child_waits_plan 46 put_left_out "20 f pm_ret: resume k 1" }
-    ensures given_in_link_order { IsRefused suppliers_given_back_plan 36 given_in_link_order "0 c pm_put: t link k" }
+    ensures given_in_link_order { IsRefused suppliers_given_back_plan 36 given_in_link_order
+        "0 c pm_put: t link k" }
     ensures code_of_call { IsRefused refused_settings_plan 4 code_of_call
         "0 c pm_ret: forbid a -13" }
 {}

@@ -47,3 +47,11 @@ returns-clause-put_left_out c = refused _ _ _ _ refl refl
 pub returns-clause-given_in_link_order : goal.returns-clause-given_in_link_order
 unfolding call_table
 returns-clause-given_in_link_order c = refused _ _ _ _ refl refl
+
+pub returns-clause-taken_by_barrier : goal.returns-clause-taken_by_barrier
+unfolding call_table
+returns-clause-taken_by_barrier c = refused _ _ _ _ refl refl
+
+pub returns-clause-taken_by_resume : goal.returns-clause-taken_by_resume
+unfolding call_table
+returns-clause-taken_by_resume c = refused _ _ _ _ refl refl
