@@ -353,7 +353,15 @@ refused_settings_plan =
     let a = dev 0 in
     record empty_plan {
       devices = device "a" ∷ [];
-      callers = caller "c" (call Forbid a ∷ call Allow a ∷ call_with SetAutosuspendDelay a (minus 1) ∷ call UseAutosuspend a ∷ call DontUseAutosuspend a ∷ []) ∷ [];
+      callers =
+          caller "c" (
+          call Forbid a
+          ∷ call Allow a
+          ∷ call_with SetAutosuspendDelay a (minus 1)
+          ∷ call UseAutosuspend a
+          ∷ call DontUseAutosuspend a
+          ∷ [])
+          ∷ [];
       law = refl;
     }
 

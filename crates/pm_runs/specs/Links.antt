@@ -471,9 +471,28 @@ absent_link_plan =
     let t = dev 2 in
     let k = dev 3 in
     record empty_plan {
-      devices = record (device "p") { ignore_children = true } ∷ device "s" ∷ device "t" ∷ record (device "k") { parent = Some p } ∷ [];
+      devices =
+          record (device "p") { ignore_children = true }
+          ∷ device "s"
+          ∷ device "t"
+          ∷ record (device "k") { parent = Some p }
+          ∷ [];
       links = record (link k s) { later = true } ∷ record (link k t) { later = true } ∷ [];
-      callers = caller "c" (call Enable s ∷ call SetActive k ∷ call SetSuspended k ∷ of_pair LinkAdd k t ∷ call SetActive k ∷ call SetSuspended k ∷ call SetActive p ∷ call Enable p ∷ call GetNoresume p ∷ call_with IgnoreChildren p (pos 0) ∷ call SetActive k ∷ []) ∷ [];
+      callers =
+          caller "c" (
+          call Enable s
+          ∷ call SetActive k
+          ∷ call SetSuspended k
+          ∷ of_pair LinkAdd k t
+          ∷ call SetActive k
+          ∷ call SetSuspended k
+          ∷ call SetActive p
+          ∷ call Enable p
+          ∷ call GetNoresume p
+          ∷ call_with IgnoreChildren p (pos 0)
+          ∷ call SetActive k
+          ∷ [])
+          ∷ [];
       law = refl;
     }
 
@@ -531,7 +550,16 @@ suppliers_given_back_plan =
     record empty_plan {
       devices = device "p" ∷ device "s" ∷ device "t" ∷ record (device "k") { parent = Some p } ∷ [];
       links = link k t ∷ link k s ∷ [];
-      callers = caller "c" (call Enable p ∷ call SetActive k ∷ call Disable p ∷ call SetActive k ∷ call Enable k ∷ call Suspend k ∷ []) ∷ [];
+      callers =
+          caller "c" (
+          call Enable p
+          ∷ call SetActive k
+          ∷ call Disable p
+          ∷ call SetActive k
+          ∷ call Enable k
+          ∷ call Suspend k
+          ∷ [])
+          ∷ [];
       law = refl;
     }
 

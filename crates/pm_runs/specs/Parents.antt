@@ -346,7 +346,15 @@ disabled_parent_plan =
     let k = dev 1 in
     record empty_plan {
       devices = device "p" ∷ record (device "k") { parent = Some p } ∷ [];
-      callers = caller "c" (call Enable k ∷ call GetSync k ∷ call GetNoresume p ∷ call Enable p ∷ call Idle p ∷ []) ∷ [];
+      callers =
+          caller "c" (
+          call Enable k
+          ∷ call GetSync k
+          ∷ call GetNoresume p
+          ∷ call Enable p
+          ∷ call Idle p
+          ∷ [])
+          ∷ [];
       law = refl;
     }
 
@@ -388,9 +396,17 @@ kept_marks_plan =
     let s = dev 1 in
     let k = dev 2 in
     record empty_plan {
-      devices = record (device "p") { resume_ms = 10 } ∷ record (device "s") { resume = minus 5 ∷ []; resume_ms = 10 } ∷ record (device "k") { parent = Some p } ∷ [];
+      devices =
+          record (device "p") { resume_ms = 10 }
+          ∷ record (device "s") { resume = minus 5 ∷ []; resume_ms = 10 }
+          ∷ record (device "k") { parent = Some p }
+          ∷ [];
       links = link k s ∷ record (link k p) { later = true } ∷ [];
-      callers = caller "c" (call Enable p ∷ call Enable s ∷ call Enable k ∷ call Resume k ∷ []) ∷ caller "e" (delay 5 ∷ call Resume k ∷ []) ∷ caller "f" (delay 15 ∷ of_pair LinkAdd k p ∷ []) ∷ [];
+      callers =
+          caller "c" (call Enable p ∷ call Enable s ∷ call Enable k ∷ call Resume k ∷ [])
+          ∷ caller "e" (delay 5 ∷ call Resume k ∷ [])
+          ∷ caller "f" (delay 15 ∷ of_pair LinkAdd k p ∷ [])
+          ∷ [];
       law = refl;
     }
 
@@ -473,8 +489,15 @@ child_waits_plan =
     let p = dev 0 in
     let k = dev 1 in
     record empty_plan {
-      devices = record (device "p") { resume_ms = 10 } ∷ record (device "k") { parent = Some p; resume_ms = 10 } ∷ [];
-      callers = caller "c" (call Enable p ∷ call Enable k ∷ call RequestResume k ∷ []) ∷ caller "e" (delay 1 ∷ call GetSync k ∷ []) ∷ caller "f" (delay 2 ∷ call Resume k ∷ []) ∷ [];
+      devices =
+          record (device "p") { resume_ms = 10 }
+          ∷ record (device "k") { parent = Some p; resume_ms = 10 }
+          ∷ [];
+      callers =
+          caller "c" (call Enable p ∷ call Enable k ∷ call RequestResume k ∷ [])
+          ∷ caller "e" (delay 1 ∷ call GetSync k ∷ [])
+          ∷ caller "f" (delay 2 ∷ call Resume k ∷ [])
+          ∷ [];
       law = refl;
     }
 
@@ -545,8 +568,14 @@ taken_request_plan =
     let p = dev 0 in
     let k = dev 1 in
     record empty_plan {
-      devices = record (device "p") { resume = minus 5 ∷ []; resume_ms = 10 } ∷ record (device "k") { parent = Some p } ∷ [];
-      callers = caller "e" (call Enable p ∷ call RequestResume k ∷ delay 10 ∷ call RequestResume k ∷ []) ∷ caller "c" (call Enable k ∷ call Resume k ∷ []) ∷ [];
+      devices =
+          record (device "p") { resume = minus 5 ∷ []; resume_ms = 10 }
+          ∷ record (device "k") { parent = Some p }
+          ∷ [];
+      callers =
+          caller "e" (call Enable p ∷ call RequestResume k ∷ delay 10 ∷ call RequestResume k ∷ [])
+          ∷ caller "c" (call Enable k ∷ call Resume k ∷ [])
+          ∷ [];
       law = refl;
     }
 

@@ -112,8 +112,11 @@ abbrev pub past_limit : Line
 past_limit = line 0 (Caller 0) (event.Resume (dev 1) (payload 0 1 0))
 
 -- a timer fires that was cancelled, or that isn't due
+abbrev pub fired_of : ℕ → ℕ → Bool → Line
+fired_of d t auto = line t (Timer d) (event.Timer (dev d) (timer.Fire auto))
+
 abbrev pub fired : ℕ → Bool → Line
-fired t auto = line t (Timer 0) (event.Timer (dev 0) (timer.Fire auto))
+fired = fired_of 0
 
 -- what a rare guard rules out: an idle callback of a device that has none; a code that isn't answered, since the
 -- callback marked the device busy; a request that a suspend, a barrier or a resume took away; the last status as a

@@ -1,6 +1,6 @@
 -- Runs of requests that meet on one device: the plans, and what one thread writes.
 use Rattle.std.specs.Prelude.{ℕ, pos, List, [], ◌∷◌, Some, refl}
-use Rattle.pm_model.specs.declared.event.Helper.TheVariants.{Barrier, Disable, Enable, Get, GetNoresume, GetSync, Idle, IgnoreChildren, MarkLastBusy, PutNoidle, PutSyncSuspend, RequestAutosuspend, RequestIdle, RequestResume, Resume, ScheduleSuspend, SetActive, SetSuspended, Suspend}
+use Rattle.pm_model.specs.declared.event.Helper.TheVariants.{Autosuspend, Barrier, Disable, Enable, Get, GetNoresume, GetSync, Idle, IgnoreChildren, MarkLastBusy, PutNoidle, PutSyncSuspend, RequestAutosuspend, RequestIdle, RequestResume, Resume, ScheduleSuspend, SetActive, SetAutosuspendDelay, SetSuspended, Suspend, UseAutosuspend}
 use Rattle.pm_model.specs.declared.plan.Plan.{Plan}
 use Rattle.pm_runs.specs.Words.{empty_plan, dev, device, caller, call, call_with, delay, minus, text}
 
@@ -713,8 +713,75 @@ abbrev pub side_by_side_plan : Plan
 side_by_side_plan =
     let a = dev 0 in
     record empty_plan {
-      devices = record (device "a") { idle = Some ((minus 16) ∷ (minus 16) ∷ (minus 16) ∷ []); suspend = (minus 16) ∷ (minus 16) ∷ (minus 16) ∷ []; suspend_ms = 1 } ∷ [];
-      callers = caller "c" (call SetActive a ∷ delay 1 ∷ call_with ScheduleSuspend a (pos 0) ∷ delay 2 ∷ call_with ScheduleSuspend a (pos 0) ∷ delay 2 ∷ call MarkLastBusy a ∷ call_with ScheduleSuspend a (pos 0) ∷ delay 2 ∷ call_with ScheduleSuspend a (pos 0) ∷ delay 2 ∷ call RequestIdle a ∷ delay 2 ∷ call_with ScheduleSuspend a (pos 0) ∷ delay 2 ∷ call MarkLastBusy a ∷ call_with ScheduleSuspend a (pos 0) ∷ call Enable a ∷ call Idle a ∷ []) ∷ caller "e" (call MarkLastBusy a ∷ call Enable a ∷ delay 1 ∷ call Idle a ∷ delay 2 ∷ call Suspend a ∷ delay 1 ∷ call_with ScheduleSuspend a (pos 5) ∷ call Suspend a ∷ delay 1 ∷ call MarkLastBusy a ∷ call GetNoresume a ∷ call PutNoidle a ∷ call Idle a ∷ delay 2 ∷ call Idle a ∷ delay 2 ∷ call Resume a ∷ call MarkLastBusy a ∷ delay 2 ∷ call_with ScheduleSuspend a (pos 5) ∷ call Disable a ∷ []) ∷ [];
+      devices =
+          record (device "a") {
+            idle = Some ((minus 16) ∷ (minus 16) ∷ (minus 16) ∷ []);
+            suspend = (minus 16) ∷ (minus 16) ∷ (minus 16) ∷ [];
+            suspend_ms = 1;
+          }
+          ∷ [];
+      callers =
+          caller "c" (
+          call SetActive a
+          ∷ delay 1
+          ∷ call_with ScheduleSuspend a (pos 0)
+          ∷ delay 2
+          ∷ call_with ScheduleSuspend a (pos 0)
+          ∷ delay 2
+          ∷ call MarkLastBusy a
+          ∷ call_with ScheduleSuspend a (pos 0)
+          ∷ delay 2
+          ∷ call_with ScheduleSuspend a (pos 0)
+          ∷ delay 2
+          ∷ call RequestIdle a
+          ∷ delay 2
+          ∷ call_with ScheduleSuspend a (pos 0)
+          ∷ delay 2
+          ∷ call MarkLastBusy a
+          ∷ call_with ScheduleSuspend a (pos 0)
+          ∷ call_with SetAutosuspendDelay a (pos 5)
+          ∷ call UseAutosuspend a
+          ∷ delay 2
+          ∷ call_with ScheduleSuspend a (pos 0)
+          ∷ delay 1
+          ∷ call MarkLastBusy a
+          ∷ call_with ScheduleSuspend a (pos 0)
+          ∷ [])
+          ∷ caller "e" (
+          call MarkLastBusy a
+          ∷ call Enable a
+          ∷ delay 1
+          ∷ call Idle a
+          ∷ delay 2
+          ∷ call Suspend a
+          ∷ delay 1
+          ∷ call_with ScheduleSuspend a (pos 5)
+          ∷ call Suspend a
+          ∷ delay 1
+          ∷ call MarkLastBusy a
+          ∷ call GetNoresume a
+          ∷ call PutNoidle a
+          ∷ call Idle a
+          ∷ delay 2
+          ∷ call Idle a
+          ∷ delay 2
+          ∷ call Resume a
+          ∷ call MarkLastBusy a
+          ∷ delay 2
+          ∷ call_with ScheduleSuspend a (pos 5)
+          ∷ call Disable a
+          ∷ delay 1
+          ∷ call Enable a
+          ∷ call Idle a
+          ∷ delay 1
+          ∷ call Autosuspend a
+          ∷ call MarkLastBusy a
+          ∷ delay 1
+          ∷ call_with ScheduleSuspend a (pos 5)
+          ∷ call_with ScheduleSuspend a (pos 5)
+          ∷ call Barrier a
+          ∷ [])
+          ∷ [];
       law = refl;
     }
 
@@ -858,15 +925,64 @@ side_by_side_text =
     ∷ "13 c pm_work: a queue suspend"
     ∷ "13 e pm_ret: disable a 0"
     ∷ "13 c rpm_return_int: rpm_suspend:a ret=0"
+    ∷ "13 e pm_call: delay 1"
     ∷ "13 c pm_ret: schedule_suspend a 0"
-    ∷ "13 c pm_call: enable a"
-    ∷ "13 c pm_ret: enable a 0"
-    ∷ "13 c pm_call: idle a"
-    ∷ "13 c rpm_idle: a flags-0 cnt-0  dep-0  auto-1 p-0 irq-0 child-0"
-    ∷ "13 c pm_callback: a idle begin"
-    ∷ "13 c pm_callback: a idle end -16"
-    ∷ "13 c rpm_return_int: rpm_idle:a ret=-16"
-    ∷ "13 c pm_ret: idle a -16"
+    ∷ "13 c pm_call: set_autosuspend_delay a 5"
+    ∷ "13 c rpm_idle: a flags-8 cnt-0  dep-1  auto-1 p-0 irq-0 child-0"
+    ∷ "13 c rpm_return_int: rpm_idle:a ret=-13"
+    ∷ "13 c pm_ret: set_autosuspend_delay a 0"
+    ∷ "13 c pm_call: use_autosuspend a"
+    ∷ "13 c rpm_idle: a flags-8 cnt-0  dep-1  auto-1 p-0 irq-0 child-0"
+    ∷ "13 c rpm_return_int: rpm_idle:a ret=-13"
+    ∷ "13 c pm_ret: use_autosuspend a 0"
+    ∷ "13 c pm_call: delay 2"
+    ∷ "14 e pm_ret: delay 0"
+    ∷ "14 e pm_call: enable a"
+    ∷ "14 e pm_ret: enable a 0"
+    ∷ "14 e pm_call: idle a"
+    ∷ "14 e rpm_idle: a flags-0 cnt-0  dep-0  auto-1 p-0 irq-0 child-0"
+    ∷ "14 e pm_callback: a idle begin"
+    ∷ "14 e pm_callback: a idle end -16"
+    ∷ "14 e rpm_return_int: rpm_idle:a ret=-16"
+    ∷ "14 e pm_ret: idle a -16"
+    ∷ "14 e pm_call: delay 1"
+    ∷ "15 c pm_ret: delay 0"
+    ∷ "15 e pm_ret: delay 0"
+    ∷ "15 c pm_call: schedule_suspend a 0"
+    ∷ "15 e pm_call: autosuspend a"
+    ∷ "15 c rpm_suspend: a flags-1 cnt-0  dep-0  auto-1 p-0 irq-0 child-0"
+    ∷ "15 e rpm_suspend: a flags-8 cnt-0  dep-0  auto-1 p-0 irq-0 child-0"
+    ∷ "15 c pm_work: a queue suspend"
+    ∷ "15 e pm_timer: a arm 18 auto"
+    ∷ "15 work.a pm_work: a run none"
+    ∷ "15 c rpm_return_int: rpm_suspend:a ret=0"
+    ∷ "15 e rpm_return_int: rpm_suspend:a ret=0"
+    ∷ "15 c pm_ret: schedule_suspend a 0"
+    ∷ "15 e pm_ret: autosuspend a 0"
+    ∷ "15 c pm_call: delay 1"
+    ∷ "15 e pm_call: mark_last_busy a"
+    ∷ "15 e pm_ret: mark_last_busy a 0"
+    ∷ "15 e pm_call: delay 1"
+    ∷ "16 c pm_ret: delay 0"
+    ∷ "16 e pm_ret: delay 0"
+    ∷ "16 c pm_call: mark_last_busy a"
+    ∷ "16 e pm_call: schedule_suspend a 5"
+    ∷ "16 c pm_ret: mark_last_busy a 0"
+    ∷ "16 e pm_timer: a arm 21 plain"
+    ∷ "16 c pm_call: schedule_suspend a 0"
+    ∷ "16 e pm_ret: schedule_suspend a 0"
+    ∷ "16 c rpm_suspend: a flags-1 cnt-0  dep-0  auto-1 p-0 irq-0 child-0"
+    ∷ "16 e pm_call: schedule_suspend a 5"
+    ∷ "16 c pm_work: a queue suspend"
+    ∷ "16 e pm_timer: a arm 21 plain"
+    ∷ "16 work.a pm_work: a run none"
+    ∷ "16 c rpm_return_int: rpm_suspend:a ret=0"
+    ∷ "16 e pm_ret: schedule_suspend a 0"
+    ∷ "16 c pm_ret: schedule_suspend a 0"
+    ∷ "16 e pm_call: barrier a"
+    ∷ "16 e pm_get: a control"
+    ∷ "16 e pm_put: a control"
+    ∷ "16 e pm_ret: barrier a 0"
     ∷ [])
 
 -- A nested disable leaves what the first one remembered, whatever the status has become since.
@@ -875,7 +991,37 @@ nested_disable_plan =
     let a = dev 0 in
     record empty_plan {
       devices = record (device "a") { resume = minus 5 ∷ [] } ∷ [];
-      callers = caller "c" (call SetActive a ∷ call Disable a ∷ call Resume a ∷ call Enable a ∷ call Resume a ∷ call Enable a ∷ call Disable a ∷ call SetSuspended a ∷ call Resume a ∷ call Disable a ∷ call SetActive a ∷ call Enable a ∷ call Resume a ∷ call Enable a ∷ call Suspend a ∷ call Disable a ∷ call SetActive a ∷ call Disable a ∷ call Enable a ∷ call Resume a ∷ call SetSuspended a ∷ call Enable a ∷ call Resume a ∷ call Disable a ∷ call Resume a ∷ call Suspend a ∷ call_with ScheduleSuspend a (pos 0) ∷ []) ∷ [];
+      callers =
+          caller "c" (
+          call SetActive a
+          ∷ call Disable a
+          ∷ call Resume a
+          ∷ call Enable a
+          ∷ call Resume a
+          ∷ call Enable a
+          ∷ call Disable a
+          ∷ call SetSuspended a
+          ∷ call Resume a
+          ∷ call Disable a
+          ∷ call SetActive a
+          ∷ call Enable a
+          ∷ call Resume a
+          ∷ call Enable a
+          ∷ call Suspend a
+          ∷ call Disable a
+          ∷ call SetActive a
+          ∷ call Disable a
+          ∷ call Enable a
+          ∷ call Resume a
+          ∷ call SetSuspended a
+          ∷ call Enable a
+          ∷ call Resume a
+          ∷ call Disable a
+          ∷ call Resume a
+          ∷ call Suspend a
+          ∷ call_with ScheduleSuspend a (pos 0)
+          ∷ [])
+          ∷ [];
       law = refl;
     }
 
@@ -976,7 +1122,28 @@ barrier_takes_plan =
     let a = dev 0 in
     record empty_plan {
       devices = record (device "a") { resume_ms = 10 } ∷ [];
-      callers = caller "c" (call Enable a ∷ call RequestResume a ∷ delay 20 ∷ call RequestResume a ∷ delay 20 ∷ call RequestResume a ∷ []) ∷ caller "e" (delay 1 ∷ call Resume a ∷ call MarkLastBusy a ∷ call Barrier a ∷ call Idle a ∷ delay 11 ∷ call_with ScheduleSuspend a (pos 0) ∷ call Barrier a ∷ delay 11 ∷ call_with ScheduleSuspend a (pos 0) ∷ []) ∷ [];
+      callers =
+          caller "c" (
+          call Enable a
+          ∷ call RequestResume a
+          ∷ delay 20
+          ∷ call RequestResume a
+          ∷ delay 20
+          ∷ call RequestResume a
+          ∷ [])
+          ∷ caller "e" (
+          delay 1
+          ∷ call Resume a
+          ∷ call MarkLastBusy a
+          ∷ call Barrier a
+          ∷ call Idle a
+          ∷ delay 11
+          ∷ call_with ScheduleSuspend a (pos 0)
+          ∷ call Barrier a
+          ∷ delay 11
+          ∷ call_with ScheduleSuspend a (pos 0)
+          ∷ [])
+          ∷ [];
       law = refl;
     }
 

@@ -548,8 +548,34 @@ abbrev pub callbacks_unused_plan : Plan
 callbacks_unused_plan =
     let a = dev 0 in
     record empty_plan {
-      devices = record (device "a") { no_callbacks = true; busy = true; idle = Some (minus 5 ∷ []); suspend = minus 16 ∷ []; resume = minus 5 ∷ []; idle_ms = 9; suspend_ms = 9; resume_ms = 9 } ∷ [];
-      callers = caller "e" (delay 2 ∷ call RequestResume a ∷ []) ∷ caller "c" (call Enable a ∷ call_with SetAutosuspendDelay a (pos 5) ∷ call UseAutosuspend a ∷ delay 2 ∷ call Resume a ∷ delay 2 ∷ call Suspend a ∷ call Disable a ∷ call SetActive a ∷ call Enable a ∷ call Autosuspend a ∷ []) ∷ [];
+      devices =
+          record (device "a") {
+            no_callbacks = true;
+            busy = true;
+            idle = Some (minus 5 ∷ []);
+            suspend = minus 16 ∷ [];
+            resume = minus 5 ∷ [];
+            idle_ms = 9;
+            suspend_ms = 9;
+            resume_ms = 9;
+          }
+          ∷ [];
+      callers =
+          caller "e" (delay 2 ∷ call RequestResume a ∷ [])
+          ∷ caller "c" (
+          call Enable a
+          ∷ call_with SetAutosuspendDelay a (pos 5)
+          ∷ call UseAutosuspend a
+          ∷ delay 2
+          ∷ call Resume a
+          ∷ delay 2
+          ∷ call Suspend a
+          ∷ call Disable a
+          ∷ call SetActive a
+          ∷ call Enable a
+          ∷ call Autosuspend a
+          ∷ [])
+          ∷ [];
       law = refl;
     }
 
@@ -611,13 +637,46 @@ callbacks_unused_text =
     ∷ "7 timer.a rpm_return_int: rpm_suspend:a ret=0"
     ∷ [])
 
--- A suspend callback that answers -11 has the autosuspend wait anew; one that answers -5 ends it, and the resume deferred meanwhile is forgotten; without autosuspend -16 ends it too. Each end marks the device busy.
+-- A suspend callback that answers -11 has the autosuspend wait anew; one that answers -5 ends it, and the resume
+-- deferred meanwhile is forgotten; without autosuspend -16 ends it too. Each end marks the device busy.
 abbrev pub tried_again_plan : Plan
 tried_again_plan =
     let a = dev 0 in
     record empty_plan {
-      devices = record (device "a") { busy = true; idle = Some (minus 16 ∷ []); suspend = (minus 11) ∷ (minus 5) ∷ (minus 16) ∷ []; idle_ms = 3; suspend_ms = 10 } ∷ [];
-      callers = caller "c" (call SetActive a ∷ call_with SetAutosuspendDelay a (pos 5) ∷ call UseAutosuspend a ∷ call Enable a ∷ call Idle a ∷ call Autosuspend a ∷ delay 5 ∷ call Autosuspend a ∷ delay 6 ∷ call RequestResume a ∷ delay 10 ∷ call SetActive a ∷ call DontUseAutosuspend a ∷ call Suspend a ∷ call UseAutosuspend a ∷ call Disable a ∷ call SetActive a ∷ call Enable a ∷ call Autosuspend a ∷ call Barrier a ∷ []) ∷ caller "e" (delay 40 ∷ call_with ScheduleSuspend a (pos 20) ∷ []) ∷ [];
+      devices =
+          record (device "a") {
+            busy = true;
+            idle = Some (minus 16 ∷ []);
+            suspend = (minus 11) ∷ (minus 5) ∷ (minus 16) ∷ [];
+            idle_ms = 3;
+            suspend_ms = 10;
+          }
+          ∷ [];
+      callers =
+          caller "c" (
+          call SetActive a
+          ∷ call_with SetAutosuspendDelay a (pos 5)
+          ∷ call UseAutosuspend a
+          ∷ call Enable a
+          ∷ call Idle a
+          ∷ call Autosuspend a
+          ∷ delay 5
+          ∷ call Autosuspend a
+          ∷ delay 6
+          ∷ call RequestResume a
+          ∷ delay 10
+          ∷ call SetActive a
+          ∷ call DontUseAutosuspend a
+          ∷ call Suspend a
+          ∷ call UseAutosuspend a
+          ∷ call Disable a
+          ∷ call SetActive a
+          ∷ call Enable a
+          ∷ call Autosuspend a
+          ∷ call Barrier a
+          ∷ [])
+          ∷ caller "e" (delay 40 ∷ call_with ScheduleSuspend a (pos 20) ∷ [])
+          ∷ [];
       law = refl;
     }
 

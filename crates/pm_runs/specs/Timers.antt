@@ -2,15 +2,57 @@
 use Rattle.std.specs.Prelude.{ℕ, pos, List, [], ◌∷◌, Some, refl}
 use Rattle.pm_model.specs.declared.event.Helper.TheVariants.{Autosuspend, Barrier, Disable, Enable, GetIfActive, GetNoresume, Idle, MarkLastBusy, RequestAutosuspend, RequestResume, Resume, ScheduleSuspend, SetActive, SetAutosuspendDelay, SetSuspended, Suspend, UseAutosuspend}
 use Rattle.pm_model.specs.declared.plan.Plan.{Plan}
-use Rattle.pm_runs.specs.Words.{empty_plan, dev, device, caller, call, call_with, delay, minus, text}
+use Rattle.pm_runs.specs.Words.{empty_plan, dev, device, link, caller, call, call_with, delay, minus, text}
 
--- Whoever asks a device that suspends cancels a scheduled suspend, and so does a callback that fails; one that answers -16 keeps it.
+-- Whoever asks a device that suspends cancels a scheduled suspend, and so does a callback that fails; one that
+-- answers -16 keeps it.
 abbrev pub cancelled_in_suspend_plan : Plan
 cancelled_in_suspend_plan =
     let a = dev 0 in
     record empty_plan {
-      devices = record (device "a") { suspend = (minus 16) ∷ (minus 5) ∷ []; suspend_ms = 10; resume_ms = 10 } ∷ [];
-      callers = caller "c" (call SetActive a ∷ call Enable a ∷ call_with ScheduleSuspend a (pos 1) ∷ call_with ScheduleSuspend a (pos 2) ∷ call Suspend a ∷ delay 7 ∷ call_with ScheduleSuspend a (pos 1) ∷ call Resume a ∷ delay 2 ∷ call SetActive a ∷ call Suspend a ∷ []) ∷ caller "e" (delay 3 ∷ call_with ScheduleSuspend a (pos 1) ∷ call RequestAutosuspend a ∷ call Idle a ∷ call GetIfActive a ∷ delay 2 ∷ call_with ScheduleSuspend a (pos 8) ∷ delay 9 ∷ call_with ScheduleSuspend a (pos 2) ∷ call Suspend a ∷ []) ∷ caller "f" (delay 19 ∷ call_with ScheduleSuspend a (pos 5) ∷ delay 7 ∷ call_with ScheduleSuspend a (pos 2) ∷ call RequestResume a ∷ call_with ScheduleSuspend a (pos 1) ∷ delay 10 ∷ call_with ScheduleSuspend a (pos 0) ∷ call Idle a ∷ call_with ScheduleSuspend a (pos 15) ∷ call GetNoresume a ∷ []) ∷ [];
+      devices =
+          record (device "a") { suspend = (minus 16) ∷ (minus 5) ∷ []; suspend_ms = 10; resume_ms = 10 }
+          ∷ [];
+      callers =
+          caller "c" (
+          call SetActive a
+          ∷ call Enable a
+          ∷ call_with ScheduleSuspend a (pos 1)
+          ∷ call_with ScheduleSuspend a (pos 2)
+          ∷ call Suspend a
+          ∷ delay 7
+          ∷ call_with ScheduleSuspend a (pos 1)
+          ∷ call Resume a
+          ∷ delay 2
+          ∷ call SetActive a
+          ∷ call Suspend a
+          ∷ [])
+          ∷ caller "e" (
+          delay 3
+          ∷ call_with ScheduleSuspend a (pos 1)
+          ∷ call RequestAutosuspend a
+          ∷ call Idle a
+          ∷ call GetIfActive a
+          ∷ delay 2
+          ∷ call_with ScheduleSuspend a (pos 8)
+          ∷ delay 9
+          ∷ call_with ScheduleSuspend a (pos 2)
+          ∷ call Suspend a
+          ∷ [])
+          ∷ caller "f" (
+          delay 19
+          ∷ call_with ScheduleSuspend a (pos 5)
+          ∷ delay 7
+          ∷ call_with ScheduleSuspend a (pos 2)
+          ∷ call RequestResume a
+          ∷ call_with ScheduleSuspend a (pos 1)
+          ∷ delay 10
+          ∷ call_with ScheduleSuspend a (pos 0)
+          ∷ call Idle a
+          ∷ call_with ScheduleSuspend a (pos 15)
+          ∷ call GetNoresume a
+          ∷ [])
+          ∷ [];
       law = refl;
     }
 
@@ -145,13 +187,49 @@ cancelled_in_suspend_text =
     ∷ "51 timer.a rpm_return_int: rpm_suspend:a ret=-11"
     ∷ [])
 
--- Whoever asks a device that resumes cancels a scheduled suspend and no autosuspend; a queued suspend takes the place of either.
+-- Whoever asks a device that resumes cancels a scheduled suspend and no autosuspend; a queued suspend takes the
+-- place of either.
 abbrev pub cancelled_in_resume_plan : Plan
 cancelled_in_resume_plan =
     let a = dev 0 in
     record empty_plan {
-      devices = record (device "a") { resume = (pos 0) ∷ (minus 5) ∷ (minus 5) ∷ []; resume_ms = 10 } ∷ [];
-      callers = caller "c" (call Enable a ∷ call UseAutosuspend a ∷ call_with SetAutosuspendDelay a (pos 3) ∷ call RequestResume a ∷ delay 20 ∷ call RequestResume a ∷ delay 4 ∷ call Resume a ∷ call SetSuspended a ∷ call RequestResume a ∷ []) ∷ caller "e" (delay 1 ∷ call_with ScheduleSuspend a (pos 1) ∷ call RequestResume a ∷ call RequestAutosuspend a ∷ call RequestResume a ∷ delay 3 ∷ call RequestResume a ∷ delay 19 ∷ call MarkLastBusy a ∷ call RequestAutosuspend a ∷ delay 8 ∷ call_with ScheduleSuspend a (pos 1) ∷ call_with ScheduleSuspend a (pos 0) ∷ delay 4 ∷ call MarkLastBusy a ∷ call RequestAutosuspend a ∷ call_with ScheduleSuspend a (pos 0) ∷ []) ∷ caller "f" (delay 21 ∷ call_with ScheduleSuspend a (pos 1) ∷ call Resume a ∷ []) ∷ [];
+      devices =
+          record (device "a") { resume = (pos 0) ∷ (minus 5) ∷ (minus 5) ∷ []; resume_ms = 10 }
+          ∷ [];
+      callers =
+          caller "c" (
+          call Enable a
+          ∷ call UseAutosuspend a
+          ∷ call_with SetAutosuspendDelay a (pos 3)
+          ∷ call RequestResume a
+          ∷ delay 20
+          ∷ call RequestResume a
+          ∷ delay 4
+          ∷ call Resume a
+          ∷ call SetSuspended a
+          ∷ call RequestResume a
+          ∷ [])
+          ∷ caller "e" (
+          delay 1
+          ∷ call_with ScheduleSuspend a (pos 1)
+          ∷ call RequestResume a
+          ∷ call RequestAutosuspend a
+          ∷ call RequestResume a
+          ∷ delay 3
+          ∷ call RequestResume a
+          ∷ delay 19
+          ∷ call MarkLastBusy a
+          ∷ call RequestAutosuspend a
+          ∷ delay 8
+          ∷ call_with ScheduleSuspend a (pos 1)
+          ∷ call_with ScheduleSuspend a (pos 0)
+          ∷ delay 4
+          ∷ call MarkLastBusy a
+          ∷ call RequestAutosuspend a
+          ∷ call_with ScheduleSuspend a (pos 0)
+          ∷ [])
+          ∷ caller "f" (delay 21 ∷ call_with ScheduleSuspend a (pos 1) ∷ call Resume a ∷ [])
+          ∷ [];
       law = refl;
     }
 
@@ -317,7 +395,15 @@ failed_resume_plan =
     let a = dev 0 in
     record empty_plan {
       devices = record (device "a") { resume = minus 5 ∷ []; resume_ms = 10 } ∷ [];
-      callers = caller "c" (call Enable a ∷ call_with SetAutosuspendDelay a (pos 10) ∷ call UseAutosuspend a ∷ call Resume a ∷ []) ∷ caller "e" (delay 1 ∷ call RequestAutosuspend a ∷ []) ∷ [];
+      callers =
+          caller "c" (
+          call Enable a
+          ∷ call_with SetAutosuspendDelay a (pos 10)
+          ∷ call UseAutosuspend a
+          ∷ call Resume a
+          ∷ [])
+          ∷ caller "e" (delay 1 ∷ call RequestAutosuspend a ∷ [])
+          ∷ [];
       law = refl;
     }
 
@@ -356,8 +442,50 @@ abbrev pub cancelled_by_control_plan : Plan
 cancelled_by_control_plan =
     let a = dev 0 in
     record empty_plan {
-      devices = record (device "a") { idle = Some ((minus 16) ∷ (minus 16) ∷ []); idle_ms = 10; suspend_ms = 10 } ∷ [];
-      callers = caller "c" (delay 3 ∷ call SetActive a ∷ call UseAutosuspend a ∷ call_with SetAutosuspendDelay a (pos 5) ∷ call Enable a ∷ call Autosuspend a ∷ call MarkLastBusy a ∷ call Autosuspend a ∷ call Barrier a ∷ delay 3 ∷ call MarkLastBusy a ∷ call Autosuspend a ∷ call Disable a ∷ delay 6 ∷ call Enable a ∷ call Idle a ∷ call Idle a ∷ call Enable a ∷ call MarkLastBusy a ∷ call Autosuspend a ∷ call Suspend a ∷ []) ∷ caller "e" (delay 13 ∷ call MarkLastBusy a ∷ call Autosuspend a ∷ call Barrier a ∷ delay 1 ∷ call MarkLastBusy a ∷ call Autosuspend a ∷ call Disable a ∷ delay 6 ∷ call MarkLastBusy a ∷ call RequestAutosuspend a ∷ call Disable a ∷ call SetActive a ∷ call Resume a ∷ []) ∷ [];
+      devices =
+          record (device "a") { idle = Some ((minus 16) ∷ (minus 16) ∷ []); idle_ms = 10; suspend_ms = 10 }
+          ∷ [];
+      callers =
+          caller "c" (
+          delay 3
+          ∷ call SetActive a
+          ∷ call UseAutosuspend a
+          ∷ call_with SetAutosuspendDelay a (pos 5)
+          ∷ call Enable a
+          ∷ call Autosuspend a
+          ∷ call MarkLastBusy a
+          ∷ call Autosuspend a
+          ∷ call Barrier a
+          ∷ delay 3
+          ∷ call MarkLastBusy a
+          ∷ call Autosuspend a
+          ∷ call Disable a
+          ∷ delay 6
+          ∷ call Enable a
+          ∷ call Idle a
+          ∷ call Idle a
+          ∷ call Enable a
+          ∷ call MarkLastBusy a
+          ∷ call Autosuspend a
+          ∷ call Suspend a
+          ∷ [])
+          ∷ caller "e" (
+          delay 13
+          ∷ call MarkLastBusy a
+          ∷ call Autosuspend a
+          ∷ call Barrier a
+          ∷ delay 1
+          ∷ call MarkLastBusy a
+          ∷ call Autosuspend a
+          ∷ call Disable a
+          ∷ delay 6
+          ∷ call MarkLastBusy a
+          ∷ call RequestAutosuspend a
+          ∷ call Disable a
+          ∷ call SetActive a
+          ∷ call Resume a
+          ∷ [])
+          ∷ [];
       law = refl;
     }
 
@@ -482,4 +610,61 @@ cancelled_by_control_text =
     ∷ "42 e rpm_resume: a flags-0 cnt-0  dep-1  auto-1 p-0 irq-0 child-0"
     ∷ "42 e rpm_return_int: rpm_resume:a ret=-13"
     ∷ "42 e pm_ret: resume a -13"
+    ∷ [])
+
+-- A timer that is armed while set_active resumes the suppliers stays.
+abbrev pub enabled_meanwhile_plan : Plan
+enabled_meanwhile_plan =
+    let s = dev 0 in
+    let k = dev 1 in
+    record empty_plan {
+      devices = record (device "s") { resume_ms = 10 } ∷ device "k" ∷ [];
+      links = link k s ∷ [];
+      callers =
+          caller "c" (call Enable s ∷ call SetActive k ∷ call GetNoresume s ∷ [])
+          ∷ caller "e" (delay 1 ∷ call Enable k ∷ call_with ScheduleSuspend k (pos 14) ∷ [])
+          ∷ [];
+      law = refl;
+    }
+
+abbrev pub enabled_meanwhile_text : List ℕ
+enabled_meanwhile_text =
+    text (
+    "0 c pm_call: enable s"
+    ∷ "0 e pm_call: delay 1"
+    ∷ "0 c pm_ret: enable s 0"
+    ∷ "0 c pm_call: set_active k"
+    ∷ "0 c pm_status: k resuming"
+    ∷ "0 c pm_get: s link k"
+    ∷ "0 c rpm_resume: s flags-4 cnt-1  dep-0  auto-1 p-0 irq-0 child-0"
+    ∷ "0 c pm_status: s resuming"
+    ∷ "0 c pm_callback: s resume begin"
+    ∷ "1 e pm_ret: delay 0"
+    ∷ "1 e pm_call: enable k"
+    ∷ "1 e pm_ret: enable k 0"
+    ∷ "1 e pm_call: schedule_suspend k 14"
+    ∷ "1 e pm_timer: k arm 15 plain"
+    ∷ "1 e pm_ret: schedule_suspend k 0"
+    ∷ "10 c pm_callback: s resume end 0"
+    ∷ "10 c pm_status: s active"
+    ∷ "10 c rpm_idle: s flags-1 cnt-1  dep-0  auto-1 p-0 irq-0 child-0"
+    ∷ "10 c rpm_return_int: rpm_idle:s ret=-11"
+    ∷ "10 c rpm_return_int: rpm_resume:s ret=0"
+    ∷ "10 c pm_status: k forced_active"
+    ∷ "10 c pm_ret: set_active k 0"
+    ∷ "10 c pm_call: get_noresume s"
+    ∷ "10 c pm_get: s caller"
+    ∷ "10 c pm_ret: get_noresume s 0"
+    ∷ "15 timer.k pm_timer: k fire plain"
+    ∷ "15 timer.k rpm_suspend: k flags-1 cnt-0  dep-0  auto-1 p-0 irq-0 child-0"
+    ∷ "15 timer.k pm_work: k queue suspend"
+    ∷ "15 work.k pm_work: k run suspend"
+    ∷ "15 work.k rpm_suspend: k flags-2 cnt-0  dep-0  auto-1 p-0 irq-0 child-0"
+    ∷ "15 work.k pm_callback: k suspend begin"
+    ∷ "15 work.k pm_callback: k suspend end 0"
+    ∷ "15 work.k pm_put: s link k"
+    ∷ "15 work.k rpm_usage: s flags-5 cnt-1  dep-0  auto-1 p-0 irq-0 child-0"
+    ∷ "15 work.k pm_status: k suspended"
+    ∷ "15 work.k rpm_return_int: rpm_suspend:k ret=0"
+    ∷ "15 timer.k rpm_return_int: rpm_suspend:k ret=0"
     ∷ [])

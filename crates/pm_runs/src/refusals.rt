@@ -8,8 +8,8 @@ ghost use Rattle.pm_runs.specs.Parents.{child_waits_plan, disabled_parent_plan, 
 ghost use Rattle.pm_runs.specs.Links.{absent_link_plan, failed_supplier_plan, suppliers_given_back_plan};
 ghost use Rattle.pm_runs.specs.Domains.{domains_plan};
 ghost use Rattle.pm_runs.specs.Requests.{barrier_takes_plan, deferred_resume_plan, nested_disable_plan, side_by_side_plan, waiting_resume_plan};
-ghost use Rattle.pm_runs.specs.Timers.{cancelled_by_control_plan, cancelled_in_resume_plan, cancelled_in_suspend_plan, failed_resume_plan};
-ghost use Rattle.pm_runs.specs.Refusals.{IsRefused, wrong_count, wrong_children, wrong_code, wrong_domains, wrong_moment, swapped, left_out, given_back_early, begun_early, ended_early, fired_early, falling_time, other_caller, not_a_work_item, waiting, suspend_begun, forbidden_count, busy_as_error, without_parent, after_end, past_limit, fired, idle_begun, not_awaited, taken_away, taken_by_barrier, taken_by_resume, found_active, found_suspended, absent_told, disabled_called, counted_twice, put_left_out, given_in_link_order, code_of_call};
+ghost use Rattle.pm_runs.specs.Timers.{cancelled_by_control_plan, cancelled_in_resume_plan, cancelled_in_suspend_plan, enabled_meanwhile_plan, failed_resume_plan};
+ghost use Rattle.pm_runs.specs.Refusals.{IsRefused, wrong_count, wrong_children, wrong_code, wrong_domains, wrong_moment, swapped, left_out, given_back_early, begun_early, ended_early, fired_early, falling_time, other_caller, not_a_work_item, waiting, suspend_begun, forbidden_count, busy_as_error, without_parent, after_end, past_limit, fired, fired_of, idle_begun, not_awaited, taken_away, taken_by_barrier, taken_by_resume, found_active, found_suspended, absent_told, disabled_called, counted_twice, put_left_out, given_in_link_order, code_of_call};
 
 /// Fields of a line that aren't the views before it.
 pub fn wrong_fields()
@@ -72,7 +72,7 @@ pub fn after_the_end()
         "0 c rpm_resume: p flags-0 cnt-1  dep-0  auto-1 p-0 irq-0 child-0" }
 {}
 
-/// Timers that fire though a line has cancelled them, and one that does before it is due.
+/// Timers that fire though a line has cancelled them, and two that do before they are due.
 pub fn cancelled_timers()
     ensures begun { IsRefused cancelled_in_suspend_plan 16 (fired 2 false)
         "2 timer.a pm_timer: a fire plain" }
@@ -80,6 +80,8 @@ pub fn cancelled_timers()
         "4 timer.a pm_timer: a fire plain" }
     ensures too_early { IsRefused cancelled_in_suspend_plan 39 (fired 12 false)
         "12 timer.a pm_timer: a fire plain" }
+    ensures too_early_after_force { IsRefused enabled_meanwhile_plan 25 (fired_of 1 14 false)
+        "14 timer.k pm_timer: k fire plain" }
     ensures suspend_waits { IsRefused cancelled_in_suspend_plan 54 (fired 16 false)
         "16 timer.a pm_timer: a fire plain" }
     ensures resume_waits { IsRefused cancelled_in_suspend_plan 61 (fired 18 false)

@@ -75,3 +75,7 @@ returns-clause-disable_waits c = refused _ _ _ _ refl refl
 pub returns-clause-begun_over_auto : goal.returns-clause-begun_over_auto
 unfolding call_table
 returns-clause-begun_over_auto c = refused _ _ _ _ refl refl
+
+pub returns-clause-too_early_after_force : goal.returns-clause-too_early_after_force
+unfolding call_table
+returns-clause-too_early_after_force c = refused _ _ _ _ refl refl
