@@ -346,3 +346,50 @@ held_once_text =
     ∷ "0 c rpm_return_int: rpm_suspend:a ret=0"
     ∷ "0 c pm_ret: dont_use_autosuspend a 0"
     ∷ [])
+
+-- forbid, allow and the autosuspend settings answer 0 whatever the calls that they make answer.
+abbrev pub refused_settings_plan : Plan
+refused_settings_plan =
+    let a = dev 0 in
+    record empty_plan {
+      devices = device "a" ∷ [];
+      callers =
+          caller "c" (
+          call Forbid a
+          ∷ call Allow a
+          ∷ call_with SetAutosuspendDelay a (minus 1)
+          ∷ call UseAutosuspend a
+          ∷ call DontUseAutosuspend a
+          ∷ [])
+          ∷ [];
+      law = refl;
+    }
+
+abbrev pub refused_settings_text : List ℕ
+refused_settings_text =
+    text (
+    "0 c pm_call: forbid a"
+    ∷ "0 c pm_get: a forbid"
+    ∷ "0 c rpm_resume: a flags-0 cnt-1  dep-1  auto-0 p-0 irq-0 child-0"
+    ∷ "0 c rpm_return_int: rpm_resume:a ret=-13"
+    ∷ "0 c pm_ret: forbid a 0"
+    ∷ "0 c pm_call: allow a"
+    ∷ "0 c pm_put: a forbid"
+    ∷ "0 c rpm_idle: a flags-9 cnt-0  dep-1  auto-1 p-0 irq-0 child-0"
+    ∷ "0 c rpm_return_int: rpm_idle:a ret=-13"
+    ∷ "0 c pm_ret: allow a 0"
+    ∷ "0 c pm_call: set_autosuspend_delay a -1"
+    ∷ "0 c rpm_idle: a flags-8 cnt-0  dep-1  auto-1 p-0 irq-0 child-0"
+    ∷ "0 c rpm_return_int: rpm_idle:a ret=-13"
+    ∷ "0 c pm_ret: set_autosuspend_delay a 0"
+    ∷ "0 c pm_call: use_autosuspend a"
+    ∷ "0 c pm_get: a delay"
+    ∷ "0 c rpm_resume: a flags-0 cnt-1  dep-1  auto-1 p-0 irq-0 child-0"
+    ∷ "0 c rpm_return_int: rpm_resume:a ret=-13"
+    ∷ "0 c pm_ret: use_autosuspend a 0"
+    ∷ "0 c pm_call: dont_use_autosuspend a"
+    ∷ "0 c pm_put: a delay"
+    ∷ "0 c rpm_idle: a flags-8 cnt-0  dep-1  auto-1 p-0 irq-0 child-0"
+    ∷ "0 c rpm_return_int: rpm_idle:a ret=-13"
+    ∷ "0 c pm_ret: dont_use_autosuspend a 0"
+    ∷ [])

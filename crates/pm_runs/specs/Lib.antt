@@ -1,6 +1,7 @@
 pub mod Words
 pub mod Counts
 pub mod Suspends
+pub mod Timers
 pub mod Parents
 pub mod Links
 pub mod Domains

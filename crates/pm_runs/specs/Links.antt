@@ -1,8 +1,8 @@
 -- Runs of links from consumers to suppliers: the plans, and what one thread writes.
-use Rattle.std.specs.Prelude.{ℕ, true, List, [], ◌∷◌, Some, refl}
-use Rattle.pm_model.specs.declared.event.Helper.TheVariants.{Enable, GetNoresume, GetSync, LinkAdd, LinkDel, PutSync, PutSyncSuspend, Resume, SetActive, SetSuspended, Suspend}
+use Rattle.std.specs.Prelude.{ℕ, pos, true, List, [], ◌∷◌, Some, refl}
+use Rattle.pm_model.specs.declared.event.Helper.TheVariants.{Disable, Enable, GetNoresume, GetSync, IgnoreChildren, LinkAdd, LinkDel, PutSync, PutSyncSuspend, Resume, SetActive, SetSuspended, Suspend}
 use Rattle.pm_model.specs.declared.plan.Plan.{Plan}
-use Rattle.pm_runs.specs.Words.{empty_plan, dev, device, link, caller, call, of_pair, delay, minus, text}
+use Rattle.pm_runs.specs.Words.{empty_plan, dev, device, link, caller, call, call_with, of_pair, delay, minus, text}
 
 -- A supplier that fails to resume has the consumer give back its counts on all suppliers.
 abbrev pub failed_supplier_plan : Plan
@@ -461,4 +461,156 @@ forced_status_text =
     ∷ "0 c rpm_resume: s flags-0 cnt-0  dep-0  auto-1 p-0 irq-0 child-0"
     ∷ "0 c rpm_return_int: rpm_resume:s ret=1"
     ∷ "0 c pm_ret: resume s 1"
+    ∷ [])
+
+-- set_active and set_suspended pass over a link that is absent, and tell the supplier of one that was added.
+abbrev pub absent_link_plan : Plan
+absent_link_plan =
+    let p = dev 0 in
+    let s = dev 1 in
+    let t = dev 2 in
+    let k = dev 3 in
+    record empty_plan {
+      devices =
+          record (device "p") { ignore_children = true }
+          ∷ device "s"
+          ∷ device "t"
+          ∷ record (device "k") { parent = Some p }
+          ∷ [];
+      links = record (link k s) { later = true } ∷ record (link k t) { later = true } ∷ [];
+      callers =
+          caller "c" (
+          call Enable s
+          ∷ call SetActive k
+          ∷ call SetSuspended k
+          ∷ of_pair LinkAdd k t
+          ∷ call SetActive k
+          ∷ call SetSuspended k
+          ∷ call SetActive p
+          ∷ call Enable p
+          ∷ call GetNoresume p
+          ∷ call_with IgnoreChildren p (pos 0)
+          ∷ call SetActive k
+          ∷ [])
+          ∷ [];
+      law = refl;
+    }
+
+abbrev pub absent_link_text : List ℕ
+absent_link_text =
+    text (
+    "0 c pm_call: enable s"
+    ∷ "0 c pm_ret: enable s 0"
+    ∷ "0 c pm_call: set_active k"
+    ∷ "0 c pm_status: k forced_active"
+    ∷ "0 c pm_ret: set_active k 0"
+    ∷ "0 c pm_call: set_suspended k"
+    ∷ "0 c pm_status: k forced_suspended"
+    ∷ "0 c pm_ret: set_suspended k 0"
+    ∷ "0 c pm_call: link_add k t"
+    ∷ "0 c pm_ret: link_add k 0"
+    ∷ "0 c pm_call: set_active k"
+    ∷ "0 c pm_status: k resuming"
+    ∷ "0 c pm_get: t link k"
+    ∷ "0 c rpm_resume: t flags-4 cnt-1  dep-1  auto-1 p-0 irq-0 child-0"
+    ∷ "0 c rpm_return_int: rpm_resume:t ret=-13"
+    ∷ "0 c pm_status: k forced_active"
+    ∷ "0 c pm_ret: set_active k 0"
+    ∷ "0 c pm_call: set_suspended k"
+    ∷ "0 c pm_status: k forced_suspended"
+    ∷ "0 c rpm_idle: t flags-1 cnt-0  dep-1  auto-1 p-0 irq-0 child-0"
+    ∷ "0 c rpm_return_int: rpm_idle:t ret=-13"
+    ∷ "0 c pm_ret: set_suspended k 0"
+    ∷ "0 c pm_call: set_active p"
+    ∷ "0 c pm_status: p forced_active"
+    ∷ "0 c pm_ret: set_active p 0"
+    ∷ "0 c pm_call: enable p"
+    ∷ "0 c pm_ret: enable p 0"
+    ∷ "0 c pm_call: get_noresume p"
+    ∷ "0 c pm_get: p caller"
+    ∷ "0 c pm_ret: get_noresume p 0"
+    ∷ "0 c pm_call: ignore_children p off"
+    ∷ "0 c pm_ret: ignore_children p 0"
+    ∷ "0 c pm_call: set_active k"
+    ∷ "0 c pm_status: k resuming"
+    ∷ "0 c pm_get: t link k"
+    ∷ "0 c rpm_resume: t flags-4 cnt-1  dep-1  auto-1 p-0 irq-0 child-0"
+    ∷ "0 c rpm_return_int: rpm_resume:t ret=-13"
+    ∷ "0 c pm_status: k forced_active"
+    ∷ "0 c pm_ret: set_active k 0"
+    ∷ [])
+
+-- The suppliers are given back in the order of devices too, by a suspend and by a set_active that fails.
+abbrev pub suppliers_given_back_plan : Plan
+suppliers_given_back_plan =
+    let p = dev 0 in
+    let s = dev 1 in
+    let t = dev 2 in
+    let k = dev 3 in
+    record empty_plan {
+      devices = device "p" ∷ device "s" ∷ device "t" ∷ record (device "k") { parent = Some p } ∷ [];
+      links = link k t ∷ link k s ∷ [];
+      callers =
+          caller "c" (
+          call Enable p
+          ∷ call SetActive k
+          ∷ call Disable p
+          ∷ call SetActive k
+          ∷ call Enable k
+          ∷ call Suspend k
+          ∷ [])
+          ∷ [];
+      law = refl;
+    }
+
+abbrev pub suppliers_given_back_text : List ℕ
+suppliers_given_back_text =
+    text (
+    "0 c pm_call: enable p"
+    ∷ "0 c pm_ret: enable p 0"
+    ∷ "0 c pm_call: set_active k"
+    ∷ "0 c pm_status: k resuming"
+    ∷ "0 c pm_get: s link k"
+    ∷ "0 c rpm_resume: s flags-4 cnt-1  dep-1  auto-1 p-0 irq-0 child-0"
+    ∷ "0 c rpm_return_int: rpm_resume:s ret=-13"
+    ∷ "0 c pm_get: t link k"
+    ∷ "0 c rpm_resume: t flags-4 cnt-1  dep-1  auto-1 p-0 irq-0 child-0"
+    ∷ "0 c rpm_return_int: rpm_resume:t ret=-13"
+    ∷ "0 c pm_put: s link k"
+    ∷ "0 c rpm_idle: s flags-5 cnt-0  dep-1  auto-1 p-0 irq-0 child-0"
+    ∷ "0 c rpm_return_int: rpm_idle:s ret=-13"
+    ∷ "0 c pm_put: t link k"
+    ∷ "0 c rpm_idle: t flags-5 cnt-0  dep-1  auto-1 p-0 irq-0 child-0"
+    ∷ "0 c rpm_return_int: rpm_idle:t ret=-13"
+    ∷ "0 c pm_status: k suspended"
+    ∷ "0 c pm_ret: set_active k -16"
+    ∷ "0 c pm_call: disable p"
+    ∷ "0 c pm_ret: disable p 0"
+    ∷ "0 c pm_call: set_active k"
+    ∷ "0 c pm_status: k resuming"
+    ∷ "0 c pm_get: s link k"
+    ∷ "0 c rpm_resume: s flags-4 cnt-1  dep-1  auto-1 p-0 irq-0 child-0"
+    ∷ "0 c rpm_return_int: rpm_resume:s ret=-13"
+    ∷ "0 c pm_get: t link k"
+    ∷ "0 c rpm_resume: t flags-4 cnt-1  dep-1  auto-1 p-0 irq-0 child-0"
+    ∷ "0 c rpm_return_int: rpm_resume:t ret=-13"
+    ∷ "0 c pm_status: k forced_active"
+    ∷ "0 c pm_ret: set_active k 0"
+    ∷ "0 c pm_call: enable k"
+    ∷ "0 c pm_ret: enable k 0"
+    ∷ "0 c pm_call: suspend k"
+    ∷ "0 c rpm_suspend: k flags-0 cnt-0  dep-0  auto-1 p-0 irq-0 child-0"
+    ∷ "0 c pm_callback: k suspend begin"
+    ∷ "0 c pm_callback: k suspend end 0"
+    ∷ "0 c pm_put: s link k"
+    ∷ "0 c rpm_idle: s flags-5 cnt-0  dep-1  auto-1 p-0 irq-0 child-0"
+    ∷ "0 c rpm_return_int: rpm_idle:s ret=-13"
+    ∷ "0 c pm_put: t link k"
+    ∷ "0 c rpm_idle: t flags-5 cnt-0  dep-1  auto-1 p-0 irq-0 child-0"
+    ∷ "0 c rpm_return_int: rpm_idle:t ret=-13"
+    ∷ "0 c pm_status: k suspended"
+    ∷ "0 c rpm_idle: p flags-1 cnt-0  dep-1  auto-1 p-0 irq-0 child-0"
+    ∷ "0 c rpm_return_int: rpm_idle:p ret=-13"
+    ∷ "0 c rpm_return_int: rpm_suspend:k ret=0"
+    ∷ "0 c pm_ret: suspend k 0"
     ∷ [])

@@ -1,15 +1,15 @@
 -- Lines that may not come: each after the first lines of a run, with one thing changed.
-use Rattle.std.specs.Prelude.{◌≡◌, ℕ, true, false, [], ◌∷◌, pos, codes}
+use Rattle.std.specs.Prelude.{◌≡◌, ℕ, Bool, true, false, [], ◌∷◌, pos, codes}
 use Prim.Native.String.{String}
 use Rattle.pm_base.specs.declared.ActorId.{ActorId}
-use Rattle.pm_base.specs.declared.ActorId.TheVariants.{Caller, Timer}
+use Rattle.pm_base.specs.declared.ActorId.TheVariants.{Caller, Timer, Work}
 use Rattle.pm_base.specs.declared.Cb.TheVariants as cb
 use Rattle.pm_base.specs.declared.Req.TheVariants as req
 use Rattle.pm_base.specs.declared.Why.TheVariants as why
 use Rattle.pm_model.specs.declared.event.Event.{Event}
 use Rattle.pm_model.specs.declared.event.Event.TheVariants as event
 use Rattle.pm_model.specs.declared.event.Fields.{Fields}
-use Rattle.pm_model.specs.declared.event.Helper.TheVariants.{Enable, GetSync}
+use Rattle.pm_model.specs.declared.event.Helper.TheVariants.{Enable, Forbid, GetSync, Resume}
 use Rattle.pm_model.specs.declared.event.Line.{Line}
 use Rattle.pm_model.specs.declared.event.TimerAct.TheVariants as timer
 use Rattle.pm_model.specs.declared.event.Word.TheVariants as word
@@ -110,3 +110,55 @@ after_end = line 0 (Caller 0) (event.Call (call Enable (dev 0)))
 
 abbrev pub past_limit : Line
 past_limit = line 0 (Caller 0) (event.Resume (dev 1) (payload 0 1 0))
+
+-- a timer fires that was cancelled, or that isn't due
+abbrev pub fired_of : ℕ → ℕ → Bool → Line
+fired_of d t auto = line t (Timer d) (event.Timer (dev d) (timer.Fire auto))
+
+abbrev pub fired : ℕ → Bool → Line
+fired = fired_of 0
+
+-- what a rare guard rules out: an idle callback of a device that has none; a code that isn't answered, since the
+-- callback marked the device busy; a request that a suspend, a barrier or a resume took away; the last status as a
+-- nested disable found it, and not as the first one did; a supplier whose link is absent; a parent that is disabled; a
+-- second count on the parent; a return before the count on the parent is given back; suppliers given back in the order
+-- of links; the code of a call that doesn't matter
+
+abbrev pub idle_begun : Line
+idle_begun = line 2 (Caller 1) (event.Begin (dev 0) cb.Idle)
+
+abbrev pub not_awaited : Line
+not_awaited = line 18 (Caller 0) (event.Return cb.Suspend (dev 0) (minus 11))
+
+abbrev pub taken_away : Line
+taken_away = line 3 (Work 0) (event.Work (dev 0) (work.Run req.Suspend))
+
+abbrev pub taken_by_barrier : Line
+taken_by_barrier = line 10 (Work 0) (event.Work (dev 0) (work.Run req.Autosuspend))
+
+abbrev pub taken_by_resume : Line
+taken_by_resume = line 0 (Work 1) (event.Work (dev 1) (work.Run req.Resume))
+
+abbrev pub found_active : Line
+found_active = line 0 (Caller 0) (event.Return cb.Resume (dev 0) (pos 1))
+
+abbrev pub found_suspended : Line
+found_suspended = line 0 (Caller 0) (event.Return cb.Resume (dev 0) (minus 13))
+
+abbrev pub absent_told : Line
+absent_told = line 0 (Caller 0) (event.Idle (dev 1) (payload 1 0 0))
+
+abbrev pub disabled_called : Line
+disabled_called = line 0 (Caller 0) (event.Resume (dev 0) (record (payload 0 1 0) { dep = 1 }))
+
+abbrev pub counted_twice : Line
+counted_twice = line 20 (Caller 0) (event.Get (dev 0) (why.Child (dev 2)))
+
+abbrev pub put_left_out : Line
+put_left_out = line 20 (Caller 2) (event.Ret Resume (dev 1) (pos 1))
+
+abbrev pub given_in_link_order : Line
+given_in_link_order = line 0 (Caller 0) (event.Put (dev 2) (why.Link (dev 3)))
+
+abbrev pub code_of_call : Line
+code_of_call = line 0 (Caller 0) (event.Ret Forbid (dev 0) (minus 13))

@@ -1,6 +1,6 @@
 -- Runs of requests that meet on one device: the plans, and what one thread writes.
 use Rattle.std.specs.Prelude.{ℕ, pos, List, [], ◌∷◌, Some, refl}
-use Rattle.pm_model.specs.declared.event.Helper.TheVariants.{Barrier, Disable, Enable, Get, GetNoresume, GetSync, Idle, IgnoreChildren, MarkLastBusy, PutSyncSuspend, RequestAutosuspend, RequestIdle, RequestResume, Resume, ScheduleSuspend, SetActive, SetSuspended, Suspend}
+use Rattle.pm_model.specs.declared.event.Helper.TheVariants.{Autosuspend, Barrier, Disable, Enable, Get, GetNoresume, GetSync, Idle, IgnoreChildren, MarkLastBusy, PutNoidle, PutSyncSuspend, RequestAutosuspend, RequestIdle, RequestResume, Resume, ScheduleSuspend, SetActive, SetAutosuspendDelay, SetSuspended, Suspend, UseAutosuspend}
 use Rattle.pm_model.specs.declared.plan.Plan.{Plan}
 use Rattle.pm_runs.specs.Words.{empty_plan, dev, device, caller, call, call_with, delay, minus, text}
 
@@ -706,4 +706,555 @@ disabled_twice_text =
     ∷ "20 c rpm_resume: a flags-0 cnt-0  dep-1  auto-1 p-0 irq-0 child-0"
     ∷ "20 c rpm_return_int: rpm_resume:a ret=1"
     ∷ "20 c pm_ret: resume a 1"
+    ∷ [])
+
+-- Two callers side by side: what the call of one leaves of the request of the other for the work item.
+abbrev pub side_by_side_plan : Plan
+side_by_side_plan =
+    let a = dev 0 in
+    record empty_plan {
+      devices =
+          record (device "a") {
+            idle = Some ((minus 16) ∷ (minus 16) ∷ (minus 16) ∷ []);
+            suspend = (minus 16) ∷ (minus 16) ∷ (minus 16) ∷ [];
+            suspend_ms = 1;
+          }
+          ∷ [];
+      callers =
+          caller "c" (
+          call SetActive a
+          ∷ delay 1
+          ∷ call_with ScheduleSuspend a (pos 0)
+          ∷ delay 2
+          ∷ call_with ScheduleSuspend a (pos 0)
+          ∷ delay 2
+          ∷ call MarkLastBusy a
+          ∷ call_with ScheduleSuspend a (pos 0)
+          ∷ delay 2
+          ∷ call_with ScheduleSuspend a (pos 0)
+          ∷ delay 2
+          ∷ call RequestIdle a
+          ∷ delay 2
+          ∷ call_with ScheduleSuspend a (pos 0)
+          ∷ delay 2
+          ∷ call MarkLastBusy a
+          ∷ call_with ScheduleSuspend a (pos 0)
+          ∷ call_with SetAutosuspendDelay a (pos 5)
+          ∷ call UseAutosuspend a
+          ∷ delay 2
+          ∷ call_with ScheduleSuspend a (pos 0)
+          ∷ delay 1
+          ∷ call MarkLastBusy a
+          ∷ call_with ScheduleSuspend a (pos 0)
+          ∷ [])
+          ∷ caller "e" (
+          call MarkLastBusy a
+          ∷ call Enable a
+          ∷ delay 1
+          ∷ call Idle a
+          ∷ delay 2
+          ∷ call Suspend a
+          ∷ delay 1
+          ∷ call_with ScheduleSuspend a (pos 5)
+          ∷ call Suspend a
+          ∷ delay 1
+          ∷ call MarkLastBusy a
+          ∷ call GetNoresume a
+          ∷ call PutNoidle a
+          ∷ call Idle a
+          ∷ delay 2
+          ∷ call Idle a
+          ∷ delay 2
+          ∷ call Resume a
+          ∷ call MarkLastBusy a
+          ∷ delay 2
+          ∷ call_with ScheduleSuspend a (pos 5)
+          ∷ call Disable a
+          ∷ delay 1
+          ∷ call Enable a
+          ∷ call Idle a
+          ∷ delay 1
+          ∷ call Autosuspend a
+          ∷ call MarkLastBusy a
+          ∷ delay 1
+          ∷ call_with ScheduleSuspend a (pos 5)
+          ∷ call_with ScheduleSuspend a (pos 5)
+          ∷ call Barrier a
+          ∷ [])
+          ∷ [];
+      law = refl;
+    }
+
+abbrev pub side_by_side_text : List ℕ
+side_by_side_text =
+    text (
+    "0 c pm_call: set_active a"
+    ∷ "0 e pm_call: mark_last_busy a"
+    ∷ "0 c pm_status: a forced_active"
+    ∷ "0 e pm_ret: mark_last_busy a 0"
+    ∷ "0 c pm_ret: set_active a 0"
+    ∷ "0 e pm_call: enable a"
+    ∷ "0 c pm_call: delay 1"
+    ∷ "0 e pm_ret: enable a 0"
+    ∷ "0 e pm_call: delay 1"
+    ∷ "1 c pm_ret: delay 0"
+    ∷ "1 e pm_ret: delay 0"
+    ∷ "1 c pm_call: schedule_suspend a 0"
+    ∷ "1 e pm_call: idle a"
+    ∷ "1 c rpm_suspend: a flags-1 cnt-0  dep-0  auto-1 p-0 irq-0 child-0"
+    ∷ "1 e rpm_idle: a flags-0 cnt-0  dep-0  auto-1 p-0 irq-0 child-0"
+    ∷ "1 c pm_work: a queue suspend"
+    ∷ "1 e rpm_return_int: rpm_idle:a ret=-11"
+    ∷ "1 work.a pm_work: a run suspend"
+    ∷ "1 c rpm_return_int: rpm_suspend:a ret=0"
+    ∷ "1 e pm_ret: idle a -11"
+    ∷ "1 work.a rpm_suspend: a flags-2 cnt-0  dep-0  auto-1 p-0 irq-0 child-0"
+    ∷ "1 c pm_ret: schedule_suspend a 0"
+    ∷ "1 e pm_call: delay 2"
+    ∷ "1 work.a pm_callback: a suspend begin"
+    ∷ "1 c pm_call: delay 2"
+    ∷ "2 work.a pm_callback: a suspend end -16"
+    ∷ "2 work.a rpm_return_int: rpm_suspend:a ret=-16"
+    ∷ "3 c pm_ret: delay 0"
+    ∷ "3 e pm_ret: delay 0"
+    ∷ "3 c pm_call: schedule_suspend a 0"
+    ∷ "3 e pm_call: suspend a"
+    ∷ "3 c rpm_suspend: a flags-1 cnt-0  dep-0  auto-1 p-0 irq-0 child-0"
+    ∷ "3 e rpm_suspend: a flags-0 cnt-0  dep-0  auto-1 p-0 irq-0 child-0"
+    ∷ "3 c pm_work: a queue suspend"
+    ∷ "3 e pm_callback: a suspend begin"
+    ∷ "3 work.a pm_work: a run none"
+    ∷ "3 c rpm_return_int: rpm_suspend:a ret=0"
+    ∷ "3 c pm_ret: schedule_suspend a 0"
+    ∷ "3 c pm_call: delay 2"
+    ∷ "4 e pm_callback: a suspend end -16"
+    ∷ "4 e rpm_return_int: rpm_suspend:a ret=-16"
+    ∷ "4 e pm_ret: suspend a -16"
+    ∷ "4 e pm_call: delay 1"
+    ∷ "5 c pm_ret: delay 0"
+    ∷ "5 e pm_ret: delay 0"
+    ∷ "5 c pm_call: mark_last_busy a"
+    ∷ "5 e pm_call: schedule_suspend a 5"
+    ∷ "5 c pm_ret: mark_last_busy a 0"
+    ∷ "5 e pm_timer: a arm 10 plain"
+    ∷ "5 c pm_call: schedule_suspend a 0"
+    ∷ "5 e pm_ret: schedule_suspend a 0"
+    ∷ "5 c rpm_suspend: a flags-1 cnt-0  dep-0  auto-1 p-0 irq-0 child-0"
+    ∷ "5 e pm_call: suspend a"
+    ∷ "5 c pm_work: a queue suspend"
+    ∷ "5 e rpm_suspend: a flags-0 cnt-0  dep-0  auto-1 p-1 irq-0 child-0"
+    ∷ "5 work.a pm_work: a run suspend"
+    ∷ "5 c rpm_return_int: rpm_suspend:a ret=0"
+    ∷ "5 e pm_callback: a suspend begin"
+    ∷ "5 work.a rpm_suspend: a flags-2 cnt-0  dep-0  auto-1 p-0 irq-0 child-0"
+    ∷ "5 c pm_ret: schedule_suspend a 0"
+    ∷ "5 work.a rpm_return_int: rpm_suspend:a ret=-115"
+    ∷ "5 c pm_call: delay 2"
+    ∷ "6 e pm_callback: a suspend end -16"
+    ∷ "6 e rpm_return_int: rpm_suspend:a ret=-16"
+    ∷ "6 e pm_ret: suspend a -16"
+    ∷ "6 e pm_call: delay 1"
+    ∷ "7 c pm_ret: delay 0"
+    ∷ "7 e pm_ret: delay 0"
+    ∷ "7 c pm_call: schedule_suspend a 0"
+    ∷ "7 e pm_call: mark_last_busy a"
+    ∷ "7 c rpm_suspend: a flags-1 cnt-0  dep-0  auto-1 p-0 irq-0 child-0"
+    ∷ "7 e pm_ret: mark_last_busy a 0"
+    ∷ "7 c pm_work: a queue suspend"
+    ∷ "7 e pm_call: get_noresume a"
+    ∷ "7 work.a pm_work: a run suspend"
+    ∷ "7 c rpm_return_int: rpm_suspend:a ret=0"
+    ∷ "7 e pm_get: a caller"
+    ∷ "7 work.a rpm_suspend: a flags-2 cnt-1  dep-0  auto-1 p-0 irq-0 child-0"
+    ∷ "7 c pm_ret: schedule_suspend a 0"
+    ∷ "7 e pm_ret: get_noresume a 0"
+    ∷ "7 work.a rpm_return_int: rpm_suspend:a ret=-11"
+    ∷ "7 c pm_call: delay 2"
+    ∷ "7 e pm_call: put_noidle a"
+    ∷ "7 e pm_put: a caller"
+    ∷ "7 e pm_ret: put_noidle a 0"
+    ∷ "7 e pm_call: idle a"
+    ∷ "7 e rpm_idle: a flags-0 cnt-0  dep-0  auto-1 p-0 irq-0 child-0"
+    ∷ "7 e pm_callback: a idle begin"
+    ∷ "7 e pm_callback: a idle end -16"
+    ∷ "7 e rpm_return_int: rpm_idle:a ret=-16"
+    ∷ "7 e pm_ret: idle a -16"
+    ∷ "7 e pm_call: delay 2"
+    ∷ "9 c pm_ret: delay 0"
+    ∷ "9 e pm_ret: delay 0"
+    ∷ "9 c pm_call: request_idle a"
+    ∷ "9 e pm_call: idle a"
+    ∷ "9 c rpm_idle: a flags-1 cnt-0  dep-0  auto-1 p-0 irq-0 child-0"
+    ∷ "9 e rpm_idle: a flags-0 cnt-0  dep-0  auto-1 p-0 irq-0 child-0"
+    ∷ "9 c pm_work: a queue idle"
+    ∷ "9 e pm_callback: a idle begin"
+    ∷ "9 work.a pm_work: a run none"
+    ∷ "9 c rpm_return_int: rpm_idle:a ret=0"
+    ∷ "9 e pm_callback: a idle end -16"
+    ∷ "9 c pm_ret: request_idle a 0"
+    ∷ "9 e rpm_return_int: rpm_idle:a ret=-16"
+    ∷ "9 c pm_call: delay 2"
+    ∷ "9 e pm_ret: idle a -16"
+    ∷ "9 e pm_call: delay 2"
+    ∷ "11 c pm_ret: delay 0"
+    ∷ "11 e pm_ret: delay 0"
+    ∷ "11 c pm_call: schedule_suspend a 0"
+    ∷ "11 e pm_call: resume a"
+    ∷ "11 c rpm_suspend: a flags-1 cnt-0  dep-0  auto-1 p-0 irq-0 child-0"
+    ∷ "11 e rpm_resume: a flags-0 cnt-0  dep-0  auto-1 p-0 irq-0 child-0"
+    ∷ "11 c pm_work: a queue suspend"
+    ∷ "11 e rpm_return_int: rpm_resume:a ret=1"
+    ∷ "11 work.a pm_work: a run none"
+    ∷ "11 c rpm_return_int: rpm_suspend:a ret=0"
+    ∷ "11 e pm_ret: resume a 1"
+    ∷ "11 c pm_ret: schedule_suspend a 0"
+    ∷ "11 e pm_call: mark_last_busy a"
+    ∷ "11 c pm_call: delay 2"
+    ∷ "11 e pm_ret: mark_last_busy a 0"
+    ∷ "11 e pm_call: delay 2"
+    ∷ "13 c pm_ret: delay 0"
+    ∷ "13 e pm_ret: delay 0"
+    ∷ "13 c pm_call: mark_last_busy a"
+    ∷ "13 e pm_call: schedule_suspend a 5"
+    ∷ "13 c pm_ret: mark_last_busy a 0"
+    ∷ "13 e pm_timer: a arm 18 plain"
+    ∷ "13 c pm_call: schedule_suspend a 0"
+    ∷ "13 e pm_ret: schedule_suspend a 0"
+    ∷ "13 c rpm_suspend: a flags-1 cnt-0  dep-0  auto-1 p-0 irq-0 child-0"
+    ∷ "13 e pm_call: disable a"
+    ∷ "13 c pm_work: a queue suspend"
+    ∷ "13 e pm_ret: disable a 0"
+    ∷ "13 c rpm_return_int: rpm_suspend:a ret=0"
+    ∷ "13 e pm_call: delay 1"
+    ∷ "13 c pm_ret: schedule_suspend a 0"
+    ∷ "13 c pm_call: set_autosuspend_delay a 5"
+    ∷ "13 c rpm_idle: a flags-8 cnt-0  dep-1  auto-1 p-0 irq-0 child-0"
+    ∷ "13 c rpm_return_int: rpm_idle:a ret=-13"
+    ∷ "13 c pm_ret: set_autosuspend_delay a 0"
+    ∷ "13 c pm_call: use_autosuspend a"
+    ∷ "13 c rpm_idle: a flags-8 cnt-0  dep-1  auto-1 p-0 irq-0 child-0"
+    ∷ "13 c rpm_return_int: rpm_idle:a ret=-13"
+    ∷ "13 c pm_ret: use_autosuspend a 0"
+    ∷ "13 c pm_call: delay 2"
+    ∷ "14 e pm_ret: delay 0"
+    ∷ "14 e pm_call: enable a"
+    ∷ "14 e pm_ret: enable a 0"
+    ∷ "14 e pm_call: idle a"
+    ∷ "14 e rpm_idle: a flags-0 cnt-0  dep-0  auto-1 p-0 irq-0 child-0"
+    ∷ "14 e pm_callback: a idle begin"
+    ∷ "14 e pm_callback: a idle end -16"
+    ∷ "14 e rpm_return_int: rpm_idle:a ret=-16"
+    ∷ "14 e pm_ret: idle a -16"
+    ∷ "14 e pm_call: delay 1"
+    ∷ "15 c pm_ret: delay 0"
+    ∷ "15 e pm_ret: delay 0"
+    ∷ "15 c pm_call: schedule_suspend a 0"
+    ∷ "15 e pm_call: autosuspend a"
+    ∷ "15 c rpm_suspend: a flags-1 cnt-0  dep-0  auto-1 p-0 irq-0 child-0"
+    ∷ "15 e rpm_suspend: a flags-8 cnt-0  dep-0  auto-1 p-0 irq-0 child-0"
+    ∷ "15 c pm_work: a queue suspend"
+    ∷ "15 e pm_timer: a arm 18 auto"
+    ∷ "15 work.a pm_work: a run none"
+    ∷ "15 c rpm_return_int: rpm_suspend:a ret=0"
+    ∷ "15 e rpm_return_int: rpm_suspend:a ret=0"
+    ∷ "15 c pm_ret: schedule_suspend a 0"
+    ∷ "15 e pm_ret: autosuspend a 0"
+    ∷ "15 c pm_call: delay 1"
+    ∷ "15 e pm_call: mark_last_busy a"
+    ∷ "15 e pm_ret: mark_last_busy a 0"
+    ∷ "15 e pm_call: delay 1"
+    ∷ "16 c pm_ret: delay 0"
+    ∷ "16 e pm_ret: delay 0"
+    ∷ "16 c pm_call: mark_last_busy a"
+    ∷ "16 e pm_call: schedule_suspend a 5"
+    ∷ "16 c pm_ret: mark_last_busy a 0"
+    ∷ "16 e pm_timer: a arm 21 plain"
+    ∷ "16 c pm_call: schedule_suspend a 0"
+    ∷ "16 e pm_ret: schedule_suspend a 0"
+    ∷ "16 c rpm_suspend: a flags-1 cnt-0  dep-0  auto-1 p-0 irq-0 child-0"
+    ∷ "16 e pm_call: schedule_suspend a 5"
+    ∷ "16 c pm_work: a queue suspend"
+    ∷ "16 e pm_timer: a arm 21 plain"
+    ∷ "16 work.a pm_work: a run none"
+    ∷ "16 c rpm_return_int: rpm_suspend:a ret=0"
+    ∷ "16 e pm_ret: schedule_suspend a 0"
+    ∷ "16 c pm_ret: schedule_suspend a 0"
+    ∷ "16 e pm_call: barrier a"
+    ∷ "16 e pm_get: a control"
+    ∷ "16 e pm_put: a control"
+    ∷ "16 e pm_ret: barrier a 0"
+    ∷ [])
+
+-- A nested disable leaves what the first one remembered, whatever the status has become since.
+abbrev pub nested_disable_plan : Plan
+nested_disable_plan =
+    let a = dev 0 in
+    record empty_plan {
+      devices = record (device "a") { resume = minus 5 ∷ [] } ∷ [];
+      callers =
+          caller "c" (
+          call SetActive a
+          ∷ call Disable a
+          ∷ call Resume a
+          ∷ call Enable a
+          ∷ call Resume a
+          ∷ call Enable a
+          ∷ call Disable a
+          ∷ call SetSuspended a
+          ∷ call Resume a
+          ∷ call Disable a
+          ∷ call SetActive a
+          ∷ call Enable a
+          ∷ call Resume a
+          ∷ call Enable a
+          ∷ call Suspend a
+          ∷ call Disable a
+          ∷ call SetActive a
+          ∷ call Disable a
+          ∷ call Enable a
+          ∷ call Resume a
+          ∷ call SetSuspended a
+          ∷ call Enable a
+          ∷ call Resume a
+          ∷ call Disable a
+          ∷ call Resume a
+          ∷ call Suspend a
+          ∷ call_with ScheduleSuspend a (pos 0)
+          ∷ [])
+          ∷ [];
+      law = refl;
+    }
+
+abbrev pub nested_disable_text : List ℕ
+nested_disable_text =
+    text (
+    "0 c pm_call: set_active a"
+    ∷ "0 c pm_status: a forced_active"
+    ∷ "0 c pm_ret: set_active a 0"
+    ∷ "0 c pm_call: disable a"
+    ∷ "0 c pm_ret: disable a 0"
+    ∷ "0 c pm_call: resume a"
+    ∷ "0 c rpm_resume: a flags-0 cnt-0  dep-2  auto-1 p-0 irq-0 child-0"
+    ∷ "0 c rpm_return_int: rpm_resume:a ret=-13"
+    ∷ "0 c pm_ret: resume a -13"
+    ∷ "0 c pm_call: enable a"
+    ∷ "0 c pm_ret: enable a 0"
+    ∷ "0 c pm_call: resume a"
+    ∷ "0 c rpm_resume: a flags-0 cnt-0  dep-1  auto-1 p-0 irq-0 child-0"
+    ∷ "0 c rpm_return_int: rpm_resume:a ret=-13"
+    ∷ "0 c pm_ret: resume a -13"
+    ∷ "0 c pm_call: enable a"
+    ∷ "0 c pm_ret: enable a 0"
+    ∷ "0 c pm_call: disable a"
+    ∷ "0 c pm_ret: disable a 0"
+    ∷ "0 c pm_call: set_suspended a"
+    ∷ "0 c pm_status: a forced_suspended"
+    ∷ "0 c pm_ret: set_suspended a 0"
+    ∷ "0 c pm_call: resume a"
+    ∷ "0 c rpm_resume: a flags-0 cnt-0  dep-1  auto-1 p-0 irq-0 child-0"
+    ∷ "0 c rpm_return_int: rpm_resume:a ret=-13"
+    ∷ "0 c pm_ret: resume a -13"
+    ∷ "0 c pm_call: disable a"
+    ∷ "0 c pm_ret: disable a 0"
+    ∷ "0 c pm_call: set_active a"
+    ∷ "0 c pm_status: a forced_active"
+    ∷ "0 c pm_ret: set_active a 0"
+    ∷ "0 c pm_call: enable a"
+    ∷ "0 c pm_ret: enable a 0"
+    ∷ "0 c pm_call: resume a"
+    ∷ "0 c rpm_resume: a flags-0 cnt-0  dep-1  auto-1 p-0 irq-0 child-0"
+    ∷ "0 c rpm_return_int: rpm_resume:a ret=1"
+    ∷ "0 c pm_ret: resume a 1"
+    ∷ "0 c pm_call: enable a"
+    ∷ "0 c pm_ret: enable a 0"
+    ∷ "0 c pm_call: suspend a"
+    ∷ "0 c rpm_suspend: a flags-0 cnt-0  dep-0  auto-1 p-0 irq-0 child-0"
+    ∷ "0 c pm_callback: a suspend begin"
+    ∷ "0 c pm_callback: a suspend end 0"
+    ∷ "0 c pm_status: a suspended"
+    ∷ "0 c rpm_return_int: rpm_suspend:a ret=0"
+    ∷ "0 c pm_ret: suspend a 0"
+    ∷ "0 c pm_call: disable a"
+    ∷ "0 c pm_ret: disable a 0"
+    ∷ "0 c pm_call: set_active a"
+    ∷ "0 c pm_status: a forced_active"
+    ∷ "0 c pm_ret: set_active a 0"
+    ∷ "0 c pm_call: disable a"
+    ∷ "0 c pm_ret: disable a 0"
+    ∷ "0 c pm_call: enable a"
+    ∷ "0 c pm_ret: enable a 0"
+    ∷ "0 c pm_call: resume a"
+    ∷ "0 c rpm_resume: a flags-0 cnt-0  dep-1  auto-1 p-0 irq-0 child-0"
+    ∷ "0 c rpm_return_int: rpm_resume:a ret=-13"
+    ∷ "0 c pm_ret: resume a -13"
+    ∷ "0 c pm_call: set_suspended a"
+    ∷ "0 c pm_status: a forced_suspended"
+    ∷ "0 c pm_ret: set_suspended a 0"
+    ∷ "0 c pm_call: enable a"
+    ∷ "0 c pm_ret: enable a 0"
+    ∷ "0 c pm_call: resume a"
+    ∷ "0 c rpm_resume: a flags-0 cnt-0  dep-0  auto-1 p-0 irq-0 child-0"
+    ∷ "0 c pm_status: a resuming"
+    ∷ "0 c pm_callback: a resume begin"
+    ∷ "0 c pm_callback: a resume end -5"
+    ∷ "0 c pm_status: a suspended"
+    ∷ "0 c rpm_return_int: rpm_resume:a ret=-5"
+    ∷ "0 c pm_ret: resume a -5"
+    ∷ "0 c pm_call: disable a"
+    ∷ "0 c pm_ret: disable a 0"
+    ∷ "0 c pm_call: resume a"
+    ∷ "0 c rpm_resume: a flags-0 cnt-0  dep-1  auto-1 p-0 irq-0 child-0"
+    ∷ "0 c rpm_return_int: rpm_resume:a ret=-22"
+    ∷ "0 c pm_ret: resume a -22"
+    ∷ "0 c pm_call: suspend a"
+    ∷ "0 c rpm_suspend: a flags-0 cnt-0  dep-1  auto-1 p-0 irq-0 child-0"
+    ∷ "0 c rpm_return_int: rpm_suspend:a ret=-22"
+    ∷ "0 c pm_ret: suspend a -22"
+    ∷ "0 c pm_call: schedule_suspend a 0"
+    ∷ "0 c rpm_suspend: a flags-1 cnt-0  dep-1  auto-1 p-0 irq-0 child-0"
+    ∷ "0 c rpm_return_int: rpm_suspend:a ret=-22"
+    ∷ "0 c pm_ret: schedule_suspend a -22"
+    ∷ [])
+
+-- barrier takes a pending suspend away, waiting or not; with no barrier it is carried out after the resume.
+abbrev pub barrier_takes_plan : Plan
+barrier_takes_plan =
+    let a = dev 0 in
+    record empty_plan {
+      devices = record (device "a") { resume_ms = 10 } ∷ [];
+      callers =
+          caller "c" (
+          call Enable a
+          ∷ call RequestResume a
+          ∷ delay 20
+          ∷ call RequestResume a
+          ∷ delay 20
+          ∷ call RequestResume a
+          ∷ [])
+          ∷ caller "e" (
+          delay 1
+          ∷ call Resume a
+          ∷ call MarkLastBusy a
+          ∷ call Barrier a
+          ∷ call Idle a
+          ∷ delay 11
+          ∷ call_with ScheduleSuspend a (pos 0)
+          ∷ call Barrier a
+          ∷ delay 11
+          ∷ call_with ScheduleSuspend a (pos 0)
+          ∷ [])
+          ∷ [];
+      law = refl;
+    }
+
+abbrev pub barrier_takes_text : List ℕ
+barrier_takes_text =
+    text (
+    "0 c pm_call: enable a"
+    ∷ "0 e pm_call: delay 1"
+    ∷ "0 c pm_ret: enable a 0"
+    ∷ "0 c pm_call: request_resume a"
+    ∷ "0 c rpm_resume: a flags-1 cnt-0  dep-0  auto-1 p-0 irq-0 child-0"
+    ∷ "0 c pm_work: a queue resume"
+    ∷ "0 work.a pm_work: a run resume"
+    ∷ "0 c rpm_return_int: rpm_resume:a ret=0"
+    ∷ "0 work.a rpm_resume: a flags-2 cnt-0  dep-0  auto-1 p-0 irq-0 child-0"
+    ∷ "0 c pm_ret: request_resume a 0"
+    ∷ "0 work.a pm_status: a resuming"
+    ∷ "0 c pm_call: delay 20"
+    ∷ "0 work.a pm_callback: a resume begin"
+    ∷ "1 e pm_ret: delay 0"
+    ∷ "1 e pm_call: resume a"
+    ∷ "1 e rpm_resume: a flags-0 cnt-0  dep-0  auto-1 p-0 irq-0 child-0"
+    ∷ "1 e pm_wait: a"
+    ∷ "10 work.a pm_callback: a resume end 0"
+    ∷ "10 work.a pm_status: a active"
+    ∷ "10 e rpm_return_int: rpm_resume:a ret=1"
+    ∷ "10 work.a rpm_idle: a flags-1 cnt-0  dep-0  auto-1 p-0 irq-0 child-0"
+    ∷ "10 e pm_ret: resume a 1"
+    ∷ "10 work.a rpm_return_int: rpm_idle:a ret=0"
+    ∷ "10 e pm_call: mark_last_busy a"
+    ∷ "10 work.a rpm_suspend: a flags-9 cnt-0  dep-0  auto-1 p-0 irq-0 child-0"
+    ∷ "10 e pm_ret: mark_last_busy a 0"
+    ∷ "10 work.a pm_work: a queue autosuspend"
+    ∷ "10 e pm_call: barrier a"
+    ∷ "10 work.a rpm_return_int: rpm_suspend:a ret=0"
+    ∷ "10 e pm_get: a control"
+    ∷ "10 work.a rpm_return_int: rpm_resume:a ret=0"
+    ∷ "10 e pm_put: a control"
+    ∷ "10 e pm_ret: barrier a 0"
+    ∷ "10 e pm_call: idle a"
+    ∷ "10 e rpm_idle: a flags-0 cnt-0  dep-0  auto-1 p-0 irq-0 child-0"
+    ∷ "10 e rpm_return_int: rpm_idle:a ret=0"
+    ∷ "10 e rpm_suspend: a flags-8 cnt-0  dep-0  auto-1 p-0 irq-0 child-0"
+    ∷ "10 e pm_callback: a suspend begin"
+    ∷ "10 e pm_callback: a suspend end 0"
+    ∷ "10 e pm_status: a suspended"
+    ∷ "10 e rpm_return_int: rpm_suspend:a ret=0"
+    ∷ "10 e pm_ret: idle a 0"
+    ∷ "10 e pm_call: delay 11"
+    ∷ "20 c pm_ret: delay 0"
+    ∷ "20 c pm_call: request_resume a"
+    ∷ "20 c rpm_resume: a flags-1 cnt-0  dep-0  auto-1 p-0 irq-0 child-0"
+    ∷ "20 c pm_work: a queue resume"
+    ∷ "20 work.a pm_work: a run resume"
+    ∷ "20 c rpm_return_int: rpm_resume:a ret=0"
+    ∷ "20 work.a rpm_resume: a flags-2 cnt-0  dep-0  auto-1 p-0 irq-0 child-0"
+    ∷ "20 c pm_ret: request_resume a 0"
+    ∷ "20 work.a pm_status: a resuming"
+    ∷ "20 c pm_call: delay 20"
+    ∷ "20 work.a pm_callback: a resume begin"
+    ∷ "21 e pm_ret: delay 0"
+    ∷ "21 e pm_call: schedule_suspend a 0"
+    ∷ "21 e rpm_suspend: a flags-1 cnt-0  dep-0  auto-1 p-0 irq-0 child-0"
+    ∷ "21 e pm_work: a queue suspend"
+    ∷ "21 e rpm_return_int: rpm_suspend:a ret=0"
+    ∷ "21 e pm_ret: schedule_suspend a 0"
+    ∷ "21 e pm_call: barrier a"
+    ∷ "21 e pm_get: a control"
+    ∷ "21 e pm_wait: a"
+    ∷ "30 work.a pm_callback: a resume end 0"
+    ∷ "30 work.a pm_status: a active"
+    ∷ "30 e pm_put: a control"
+    ∷ "30 work.a rpm_idle: a flags-1 cnt-0  dep-0  auto-1 p-0 irq-0 child-0"
+    ∷ "30 e pm_ret: barrier a 0"
+    ∷ "30 work.a rpm_return_int: rpm_idle:a ret=0"
+    ∷ "30 e pm_call: delay 11"
+    ∷ "30 work.a rpm_suspend: a flags-9 cnt-0  dep-0  auto-1 p-0 irq-0 child-0"
+    ∷ "30 work.a pm_work: a queue autosuspend"
+    ∷ "30 work.a rpm_return_int: rpm_suspend:a ret=0"
+    ∷ "30 work.a rpm_return_int: rpm_resume:a ret=0"
+    ∷ "30 work.a pm_work: a run autosuspend"
+    ∷ "30 work.a rpm_suspend: a flags-a cnt-0  dep-0  auto-1 p-0 irq-0 child-0"
+    ∷ "30 work.a pm_callback: a suspend begin"
+    ∷ "30 work.a pm_callback: a suspend end 0"
+    ∷ "30 work.a pm_status: a suspended"
+    ∷ "30 work.a rpm_return_int: rpm_suspend:a ret=0"
+    ∷ "40 c pm_ret: delay 0"
+    ∷ "40 c pm_call: request_resume a"
+    ∷ "40 c rpm_resume: a flags-1 cnt-0  dep-0  auto-1 p-0 irq-0 child-0"
+    ∷ "40 c pm_work: a queue resume"
+    ∷ "40 work.a pm_work: a run resume"
+    ∷ "40 c rpm_return_int: rpm_resume:a ret=0"
+    ∷ "40 work.a rpm_resume: a flags-2 cnt-0  dep-0  auto-1 p-0 irq-0 child-0"
+    ∷ "40 c pm_ret: request_resume a 0"
+    ∷ "40 work.a pm_status: a resuming"
+    ∷ "40 work.a pm_callback: a resume begin"
+    ∷ "41 e pm_ret: delay 0"
+    ∷ "41 e pm_call: schedule_suspend a 0"
+    ∷ "41 e rpm_suspend: a flags-1 cnt-0  dep-0  auto-1 p-0 irq-0 child-0"
+    ∷ "41 e pm_work: a queue suspend"
+    ∷ "41 e rpm_return_int: rpm_suspend:a ret=0"
+    ∷ "41 e pm_ret: schedule_suspend a 0"
+    ∷ "50 work.a pm_callback: a resume end 0"
+    ∷ "50 work.a pm_status: a active"
+    ∷ "50 work.a rpm_idle: a flags-1 cnt-0  dep-0  auto-1 p-1 irq-0 child-0"
+    ∷ "50 work.a rpm_return_int: rpm_idle:a ret=-11"
+    ∷ "50 work.a rpm_return_int: rpm_resume:a ret=0"
+    ∷ "50 work.a pm_work: a run suspend"
+    ∷ "50 work.a rpm_suspend: a flags-2 cnt-0  dep-0  auto-1 p-0 irq-0 child-0"
+    ∷ "50 work.a pm_callback: a suspend begin"
+    ∷ "50 work.a pm_callback: a suspend end 0"
+    ∷ "50 work.a pm_status: a suspended"
+    ∷ "50 work.a rpm_return_int: rpm_suspend:a ret=0"
     ∷ [])

@@ -1,6 +1,6 @@
 -- Runs of suspends, by calls, by autosuspend and by timers: the plans, and what one thread writes.
 use Rattle.std.specs.Prelude.{ℕ, pos, true, List, [], ◌∷◌, Some, refl}
-use Rattle.pm_model.specs.declared.event.Helper.TheVariants.{Autosuspend, Enable, GetSync, MarkLastBusy, PutNoidle, PutSync, PutSyncAutosuspend, Resume, ScheduleSuspend, SetActive, SetAutosuspendDelay, SetSuspended, Suspend, UseAutosuspend}
+use Rattle.pm_model.specs.declared.event.Helper.TheVariants.{Autosuspend, Barrier, Disable, DontUseAutosuspend, Enable, GetSync, Idle, MarkLastBusy, PutNoidle, PutSync, PutSyncAutosuspend, RequestResume, Resume, ScheduleSuspend, SetActive, SetAutosuspendDelay, SetSuspended, Suspend, UseAutosuspend}
 use Rattle.pm_model.specs.declared.plan.Plan.{Plan}
 use Rattle.pm_runs.specs.Words.{empty_plan, dev, device, caller, call, call_with, delay, minus, text}
 
@@ -541,4 +541,242 @@ rearmed_timer_text =
     ∷ "25 work.a pm_callback: a suspend end 0"
     ∷ "25 work.a pm_status: a suspended"
     ∷ "25 work.a rpm_return_int: rpm_suspend:a ret=0"
+    ∷ [])
+
+-- A device without callbacks uses none of its codes, and none marks it busy.
+abbrev pub callbacks_unused_plan : Plan
+callbacks_unused_plan =
+    let a = dev 0 in
+    record empty_plan {
+      devices =
+          record (device "a") {
+            no_callbacks = true;
+            busy = true;
+            idle = Some (minus 5 ∷ []);
+            suspend = minus 16 ∷ [];
+            resume = minus 5 ∷ [];
+            idle_ms = 9;
+            suspend_ms = 9;
+            resume_ms = 9;
+          }
+          ∷ [];
+      callers =
+          caller "e" (delay 2 ∷ call RequestResume a ∷ [])
+          ∷ caller "c" (
+          call Enable a
+          ∷ call_with SetAutosuspendDelay a (pos 5)
+          ∷ call UseAutosuspend a
+          ∷ delay 2
+          ∷ call Resume a
+          ∷ delay 2
+          ∷ call Suspend a
+          ∷ call Disable a
+          ∷ call SetActive a
+          ∷ call Enable a
+          ∷ call Autosuspend a
+          ∷ [])
+          ∷ [];
+      law = refl;
+    }
+
+abbrev pub callbacks_unused_text : List ℕ
+callbacks_unused_text =
+    text (
+    "0 e pm_call: delay 2"
+    ∷ "0 c pm_call: enable a"
+    ∷ "0 c pm_ret: enable a 0"
+    ∷ "0 c pm_call: set_autosuspend_delay a 5"
+    ∷ "0 c rpm_idle: a flags-8 cnt-0  dep-0  auto-1 p-0 irq-0 child-0"
+    ∷ "0 c rpm_return_int: rpm_idle:a ret=-11"
+    ∷ "0 c pm_ret: set_autosuspend_delay a 0"
+    ∷ "0 c pm_call: use_autosuspend a"
+    ∷ "0 c rpm_idle: a flags-8 cnt-0  dep-0  auto-1 p-0 irq-0 child-0"
+    ∷ "0 c rpm_return_int: rpm_idle:a ret=-11"
+    ∷ "0 c pm_ret: use_autosuspend a 0"
+    ∷ "0 c pm_call: delay 2"
+    ∷ "2 e pm_ret: delay 0"
+    ∷ "2 c pm_ret: delay 0"
+    ∷ "2 e pm_call: request_resume a"
+    ∷ "2 c pm_call: resume a"
+    ∷ "2 e rpm_resume: a flags-1 cnt-0  dep-0  auto-1 p-0 irq-0 child-0"
+    ∷ "2 c rpm_resume: a flags-0 cnt-0  dep-0  auto-1 p-0 irq-0 child-0"
+    ∷ "2 e pm_work: a queue resume"
+    ∷ "2 c pm_status: a active"
+    ∷ "2 work.a pm_work: a run none"
+    ∷ "2 e rpm_return_int: rpm_resume:a ret=0"
+    ∷ "2 c rpm_idle: a flags-1 cnt-0  dep-0  auto-1 p-0 irq-0 child-0"
+    ∷ "2 e pm_ret: request_resume a 0"
+    ∷ "2 c rpm_return_int: rpm_idle:a ret=0"
+    ∷ "2 c rpm_suspend: a flags-9 cnt-0  dep-0  auto-1 p-0 irq-0 child-0"
+    ∷ "2 c pm_timer: a arm 7 auto"
+    ∷ "2 c rpm_return_int: rpm_suspend:a ret=0"
+    ∷ "2 c rpm_return_int: rpm_resume:a ret=0"
+    ∷ "2 c pm_ret: resume a 0"
+    ∷ "2 c pm_call: delay 2"
+    ∷ "4 c pm_ret: delay 0"
+    ∷ "4 c pm_call: suspend a"
+    ∷ "4 c rpm_suspend: a flags-0 cnt-0  dep-0  auto-1 p-0 irq-0 child-0"
+    ∷ "4 c pm_status: a suspended"
+    ∷ "4 c rpm_return_int: rpm_suspend:a ret=0"
+    ∷ "4 c pm_ret: suspend a 0"
+    ∷ "4 c pm_call: disable a"
+    ∷ "4 c pm_ret: disable a 0"
+    ∷ "4 c pm_call: set_active a"
+    ∷ "4 c pm_status: a forced_active"
+    ∷ "4 c pm_ret: set_active a 0"
+    ∷ "4 c pm_call: enable a"
+    ∷ "4 c pm_ret: enable a 0"
+    ∷ "4 c pm_call: autosuspend a"
+    ∷ "4 c rpm_suspend: a flags-8 cnt-0  dep-0  auto-1 p-0 irq-0 child-0"
+    ∷ "4 c pm_timer: a arm 7 auto"
+    ∷ "4 c rpm_return_int: rpm_suspend:a ret=0"
+    ∷ "4 c pm_ret: autosuspend a 0"
+    ∷ "7 timer.a pm_timer: a fire auto"
+    ∷ "7 timer.a rpm_suspend: a flags-9 cnt-0  dep-0  auto-1 p-0 irq-0 child-0"
+    ∷ "7 timer.a pm_status: a suspended"
+    ∷ "7 timer.a rpm_return_int: rpm_suspend:a ret=0"
+    ∷ [])
+
+-- A suspend callback that answers -11 has the autosuspend wait anew; one that answers -5 ends it, and the resume
+-- deferred meanwhile is forgotten; without autosuspend -16 ends it too. Each end marks the device busy.
+abbrev pub tried_again_plan : Plan
+tried_again_plan =
+    let a = dev 0 in
+    record empty_plan {
+      devices =
+          record (device "a") {
+            busy = true;
+            idle = Some (minus 16 ∷ []);
+            suspend = (minus 11) ∷ (minus 5) ∷ (minus 16) ∷ [];
+            idle_ms = 3;
+            suspend_ms = 10;
+          }
+          ∷ [];
+      callers =
+          caller "c" (
+          call SetActive a
+          ∷ call_with SetAutosuspendDelay a (pos 5)
+          ∷ call UseAutosuspend a
+          ∷ call Enable a
+          ∷ call Idle a
+          ∷ call Autosuspend a
+          ∷ delay 5
+          ∷ call Autosuspend a
+          ∷ delay 6
+          ∷ call RequestResume a
+          ∷ delay 10
+          ∷ call SetActive a
+          ∷ call DontUseAutosuspend a
+          ∷ call Suspend a
+          ∷ call UseAutosuspend a
+          ∷ call Disable a
+          ∷ call SetActive a
+          ∷ call Enable a
+          ∷ call Autosuspend a
+          ∷ call Barrier a
+          ∷ [])
+          ∷ caller "e" (delay 40 ∷ call_with ScheduleSuspend a (pos 20) ∷ [])
+          ∷ [];
+      law = refl;
+    }
+
+abbrev pub tried_again_text : List ℕ
+tried_again_text =
+    text (
+    "0 c pm_call: set_active a"
+    ∷ "0 e pm_call: delay 40"
+    ∷ "0 c pm_status: a forced_active"
+    ∷ "0 c pm_ret: set_active a 0"
+    ∷ "0 c pm_call: set_autosuspend_delay a 5"
+    ∷ "0 c rpm_idle: a flags-8 cnt-0  dep-1  auto-1 p-0 irq-0 child-0"
+    ∷ "0 c rpm_return_int: rpm_idle:a ret=-13"
+    ∷ "0 c pm_ret: set_autosuspend_delay a 0"
+    ∷ "0 c pm_call: use_autosuspend a"
+    ∷ "0 c rpm_idle: a flags-8 cnt-0  dep-1  auto-1 p-0 irq-0 child-0"
+    ∷ "0 c rpm_return_int: rpm_idle:a ret=-13"
+    ∷ "0 c pm_ret: use_autosuspend a 0"
+    ∷ "0 c pm_call: enable a"
+    ∷ "0 c pm_ret: enable a 0"
+    ∷ "0 c pm_call: idle a"
+    ∷ "0 c rpm_idle: a flags-0 cnt-0  dep-0  auto-1 p-0 irq-0 child-0"
+    ∷ "0 c pm_callback: a idle begin"
+    ∷ "3 c pm_callback: a idle end -16"
+    ∷ "3 c rpm_return_int: rpm_idle:a ret=-16"
+    ∷ "3 c pm_ret: idle a -16"
+    ∷ "3 c pm_call: autosuspend a"
+    ∷ "3 c rpm_suspend: a flags-8 cnt-0  dep-0  auto-1 p-0 irq-0 child-0"
+    ∷ "3 c pm_timer: a arm 8 auto"
+    ∷ "3 c rpm_return_int: rpm_suspend:a ret=0"
+    ∷ "3 c pm_ret: autosuspend a 0"
+    ∷ "3 c pm_call: delay 5"
+    ∷ "8 c pm_ret: delay 0"
+    ∷ "8 c pm_call: autosuspend a"
+    ∷ "8 c rpm_suspend: a flags-8 cnt-0  dep-0  auto-1 p-0 irq-0 child-0"
+    ∷ "8 c pm_callback: a suspend begin"
+    ∷ "18 c pm_callback: a suspend end -11"
+    ∷ "18 c pm_timer: a arm 23 auto"
+    ∷ "18 c rpm_return_int: rpm_suspend:a ret=0"
+    ∷ "18 c pm_ret: autosuspend a 0"
+    ∷ "18 c pm_call: delay 6"
+    ∷ "23 timer.a pm_timer: a fire auto"
+    ∷ "23 timer.a rpm_suspend: a flags-9 cnt-0  dep-0  auto-1 p-0 irq-0 child-0"
+    ∷ "23 timer.a pm_work: a queue autosuspend"
+    ∷ "23 work.a pm_work: a run autosuspend"
+    ∷ "23 work.a rpm_suspend: a flags-a cnt-0  dep-0  auto-1 p-0 irq-0 child-0"
+    ∷ "23 work.a pm_callback: a suspend begin"
+    ∷ "23 timer.a rpm_return_int: rpm_suspend:a ret=0"
+    ∷ "24 c pm_ret: delay 0"
+    ∷ "24 c pm_call: request_resume a"
+    ∷ "24 c rpm_resume: a flags-1 cnt-0  dep-0  auto-1 p-0 irq-0 child-0"
+    ∷ "24 c pm_work: a defer"
+    ∷ "24 c rpm_return_int: rpm_resume:a ret=0"
+    ∷ "24 c pm_ret: request_resume a 0"
+    ∷ "24 c pm_call: delay 10"
+    ∷ "33 work.a pm_callback: a suspend end -5"
+    ∷ "33 work.a rpm_return_int: rpm_suspend:a ret=-5"
+    ∷ "34 c pm_ret: delay 0"
+    ∷ "34 c pm_call: set_active a"
+    ∷ "34 c pm_status: a forced_active"
+    ∷ "34 c pm_ret: set_active a 0"
+    ∷ "34 c pm_call: dont_use_autosuspend a"
+    ∷ "34 c rpm_idle: a flags-8 cnt-0  dep-0  auto-1 p-0 irq-0 child-0"
+    ∷ "34 c pm_callback: a idle begin"
+    ∷ "37 c pm_callback: a idle end 0"
+    ∷ "37 c rpm_return_int: rpm_idle:a ret=0"
+    ∷ "37 c rpm_suspend: a flags-8 cnt-0  dep-0  auto-1 p-0 irq-0 child-0"
+    ∷ "37 c pm_callback: a suspend begin"
+    ∷ "40 e pm_ret: delay 0"
+    ∷ "40 e pm_call: schedule_suspend a 20"
+    ∷ "40 e pm_timer: a arm 60 plain"
+    ∷ "40 e pm_ret: schedule_suspend a 0"
+    ∷ "47 c pm_callback: a suspend end -16"
+    ∷ "47 c rpm_return_int: rpm_suspend:a ret=-16"
+    ∷ "47 c pm_ret: dont_use_autosuspend a 0"
+    ∷ "47 c pm_call: suspend a"
+    ∷ "47 c rpm_suspend: a flags-0 cnt-0  dep-0  auto-1 p-0 irq-0 child-0"
+    ∷ "47 c pm_callback: a suspend begin"
+    ∷ "57 c pm_callback: a suspend end 0"
+    ∷ "57 c pm_status: a suspended"
+    ∷ "57 c rpm_return_int: rpm_suspend:a ret=0"
+    ∷ "57 c pm_ret: suspend a 0"
+    ∷ "57 c pm_call: use_autosuspend a"
+    ∷ "57 c rpm_idle: a flags-8 cnt-0  dep-0  auto-1 p-0 irq-0 child-0"
+    ∷ "57 c rpm_return_int: rpm_idle:a ret=-11"
+    ∷ "57 c pm_ret: use_autosuspend a 0"
+    ∷ "57 c pm_call: disable a"
+    ∷ "57 c pm_ret: disable a 0"
+    ∷ "57 c pm_call: set_active a"
+    ∷ "57 c pm_status: a forced_active"
+    ∷ "57 c pm_ret: set_active a 0"
+    ∷ "57 c pm_call: enable a"
+    ∷ "57 c pm_ret: enable a 0"
+    ∷ "57 c pm_call: autosuspend a"
+    ∷ "57 c rpm_suspend: a flags-8 cnt-0  dep-0  auto-1 p-0 irq-0 child-0"
+    ∷ "57 c pm_timer: a arm 62 auto"
+    ∷ "57 c rpm_return_int: rpm_suspend:a ret=0"
+    ∷ "57 c pm_ret: autosuspend a 0"
+    ∷ "57 c pm_call: barrier a"
+    ∷ "57 c pm_get: a control"
+    ∷ "57 c pm_put: a control"
+    ∷ "57 c pm_ret: barrier a 0"
     ∷ [])

@@ -3,7 +3,7 @@
 ghost use Rattle.std.specs.Prelude.{◌≡◌};
 ghost use Rattle.pm_model.specs.Lawful.{IsFinished};
 ghost use Rattle.pm_runs.specs.Words.{run_of, text_of};
-ghost use Rattle.pm_runs.specs.Counts.{first_plan, first_text, disabled_get_plan, disabled_get_text, refused_put_plan, refused_put_text, conditional_gets_plan, conditional_gets_text, forbidden_plan, forbidden_text, negative_delay_plan, negative_delay_text, held_once_plan, held_once_text};
+ghost use Rattle.pm_runs.specs.Counts.{first_plan, first_text, disabled_get_plan, disabled_get_text, refused_put_plan, refused_put_text, conditional_gets_plan, conditional_gets_text, forbidden_plan, forbidden_text, negative_delay_plan, negative_delay_text, held_once_plan, held_once_text, refused_settings_plan, refused_settings_text};
 
 /// A caller enables a device, takes a count on it, which resumes it, and gives the count back.
 pub fn first()
@@ -45,4 +45,11 @@ pub fn negative_delay()
 pub fn held_once()
     ensures text { text_of held_once_plan ≡ held_once_text }
     ensures finished { IsFinished held_once_plan (run_of held_once_plan) }
+{}
+
+/// `forbid`, `allow` and the autosuspend settings answer 0 whatever the calls that they make
+/// answer.
+pub fn refused_settings()
+    ensures text { text_of refused_settings_plan ≡ refused_settings_text }
+    ensures finished { IsFinished refused_settings_plan (run_of refused_settings_plan) }
 {}

@@ -16,3 +16,4 @@ pub mod parents;
 pub mod refusals;
 pub mod requests;
 pub mod suspends;
+pub mod timers;

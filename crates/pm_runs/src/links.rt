@@ -4,7 +4,7 @@ ghost use Rattle.std.specs.Prelude.{◌≡◌, true};
 ghost use Rattle.pm_model.specs.Excuse.{is_excused_from_supplier};
 ghost use Rattle.pm_model.specs.Lawful.{IsFinished};
 ghost use Rattle.pm_runs.specs.Words.{dev, run_of, text_of};
-ghost use Rattle.pm_runs.specs.Links.{failed_supplier_plan, failed_supplier_text, disabled_supplier_plan, disabled_supplier_text, added_link_plan, added_link_text, link_helpers_plan, link_helpers_text, suppliers_in_order_plan, suppliers_in_order_text, forced_status_plan, forced_status_text};
+ghost use Rattle.pm_runs.specs.Links.{failed_supplier_plan, failed_supplier_text, disabled_supplier_plan, disabled_supplier_text, added_link_plan, added_link_text, link_helpers_plan, link_helpers_text, suppliers_in_order_plan, suppliers_in_order_text, forced_status_plan, forced_status_text, absent_link_plan, absent_link_text, suppliers_given_back_plan, suppliers_given_back_text};
 
 /// A supplier that fails to resume has the consumer give back its counts on all suppliers.
 pub fn failed_supplier()
@@ -41,4 +41,18 @@ pub fn suppliers_in_order()
 pub fn forced_status()
     ensures text { text_of forced_status_plan ≡ forced_status_text }
     ensures finished { IsFinished forced_status_plan (run_of forced_status_plan) }
+{}
+
+/// `set_active` and `set_suspended` pass over a link that is absent, and tell the supplier of one
+/// that was added.
+pub fn absent_link()
+    ensures text { text_of absent_link_plan ≡ absent_link_text }
+    ensures finished { IsFinished absent_link_plan (run_of absent_link_plan) }
+{}
+
+/// The suppliers are given back in the order of devices too, by a suspend and by a `set_active`
+/// that fails.
+pub fn suppliers_given_back()
+    ensures text { text_of suppliers_given_back_plan ≡ suppliers_given_back_text }
+    ensures finished { IsFinished suppliers_given_back_plan (run_of suppliers_given_back_plan) }
 {}

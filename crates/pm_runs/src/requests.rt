@@ -4,7 +4,7 @@
 ghost use Rattle.std.specs.Prelude.{◌≡◌};
 ghost use Rattle.pm_model.specs.Lawful.{IsFinished};
 ghost use Rattle.pm_runs.specs.Words.{run_of, text_of};
-ghost use Rattle.pm_runs.specs.Requests.{waiting_resume_plan, waiting_resume_text, deferred_resume_plan, deferred_resume_text, deferred_once_plan, deferred_once_text, forgotten_deferral_plan, forgotten_deferral_text, asked_under_way_plan, asked_under_way_text, overtaken_request_plan, overtaken_request_text, barrier_resumes_plan, barrier_resumes_text, disable_resumes_plan, disable_resumes_text, disable_waits_plan, disable_waits_text, running_idle_plan, running_idle_text, disabled_twice_plan, disabled_twice_text};
+ghost use Rattle.pm_runs.specs.Requests.{waiting_resume_plan, waiting_resume_text, deferred_resume_plan, deferred_resume_text, deferred_once_plan, deferred_once_text, forgotten_deferral_plan, forgotten_deferral_text, asked_under_way_plan, asked_under_way_text, overtaken_request_plan, overtaken_request_text, barrier_resumes_plan, barrier_resumes_text, disable_resumes_plan, disable_resumes_text, disable_waits_plan, disable_waits_text, running_idle_plan, running_idle_text, disabled_twice_plan, disabled_twice_text, side_by_side_plan, side_by_side_text, nested_disable_plan, nested_disable_text, barrier_takes_plan, barrier_takes_text};
 
 /// A second resume waits for the first.
 pub fn waiting_resume()
@@ -70,4 +70,24 @@ pub fn running_idle()
 pub fn disabled_twice()
     ensures text { text_of disabled_twice_plan ≡ disabled_twice_text }
     ensures finished { IsFinished disabled_twice_plan (run_of disabled_twice_plan) }
+{}
+
+/// Two callers side by side: what the call of one leaves of the request of the other for the work
+/// item.
+pub fn side_by_side()
+    ensures text { text_of side_by_side_plan ≡ side_by_side_text }
+    ensures finished { IsFinished side_by_side_plan (run_of side_by_side_plan) }
+{}
+
+/// A nested `disable` leaves what the first one remembered, whatever the status has become since.
+pub fn nested_disable()
+    ensures text { text_of nested_disable_plan ≡ nested_disable_text }
+    ensures finished { IsFinished nested_disable_plan (run_of nested_disable_plan) }
+{}
+
+/// `barrier` takes a pending suspend away, waiting or not; with no barrier it is carried out after
+/// the resume.
+pub fn barrier_takes()
+    ensures text { text_of barrier_takes_plan ≡ barrier_takes_text }
+    ensures finished { IsFinished barrier_takes_plan (run_of barrier_takes_plan) }
 {}

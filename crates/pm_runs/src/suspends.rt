@@ -3,7 +3,7 @@
 ghost use Rattle.std.specs.Prelude.{◌≡◌};
 ghost use Rattle.pm_model.specs.Lawful.{IsFinished};
 ghost use Rattle.pm_runs.specs.Words.{run_of, text_of};
-ghost use Rattle.pm_runs.specs.Suspends.{busy_suspend_plan, busy_suspend_text, failed_suspend_plan, failed_suspend_text, no_callbacks_plan, no_callbacks_text, autosuspend_plan, autosuspend_text, marked_busy_plan, marked_busy_text, not_tried_again_plan, not_tried_again_text, scheduled_suspend_plan, scheduled_suspend_text, rearmed_timer_plan, rearmed_timer_text};
+ghost use Rattle.pm_runs.specs.Suspends.{busy_suspend_plan, busy_suspend_text, failed_suspend_plan, failed_suspend_text, no_callbacks_plan, no_callbacks_text, autosuspend_plan, autosuspend_text, marked_busy_plan, marked_busy_text, not_tried_again_plan, not_tried_again_text, scheduled_suspend_plan, scheduled_suspend_text, rearmed_timer_plan, rearmed_timer_text, callbacks_unused_plan, callbacks_unused_text, tried_again_plan, tried_again_text};
 
 /// A suspend callback that answers -16 leaves the device active without an error; the next one
 /// suspends it.
@@ -54,4 +54,18 @@ pub fn scheduled_suspend()
 pub fn rearmed_timer()
     ensures text { text_of rearmed_timer_plan ≡ rearmed_timer_text }
     ensures finished { IsFinished rearmed_timer_plan (run_of rearmed_timer_plan) }
+{}
+
+/// A device without callbacks uses none of its codes, and none marks it busy.
+pub fn callbacks_unused()
+    ensures text { text_of callbacks_unused_plan ≡ callbacks_unused_text }
+    ensures finished { IsFinished callbacks_unused_plan (run_of callbacks_unused_plan) }
+{}
+
+/// A suspend callback that answers -11 has the autosuspend wait anew; one that answers -5 ends it,
+/// and the resume deferred meanwhile is forgotten; without autosuspend -16 ends it too. Each end
+/// marks the device busy.
+pub fn tried_again()
+    ensures text { text_of tried_again_plan ≡ tried_again_text }
+    ensures finished { IsFinished tried_again_plan (run_of tried_again_plan) }
 {}
