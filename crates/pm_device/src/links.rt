@@ -5,8 +5,6 @@ ghost use Rattle.pm_link.specs.Links.{with_supplier};
 ghost use Rattle.pm_model.specs.Changes.{set_held, set_present};
 ghost use Rattle.pm_model.specs.ControlTable.{is_pair_in, may_be_absent};
 ghost use Rattle.pm_model.specs.Derived.{first_free, first_held, has_link, next_supplier};
-ghost use Rattle.pm_model.specs.Events.{frees_links};
-ghost use Rattle.pm_device.specs.Fitting.{CanFree};
 ghost use Rattle.pm_device.specs.Parts.{IsFor};
 
 use crate::Parts;
@@ -106,14 +104,5 @@ impl Parts {
         ensures { result ≡ is_pair_in plan.now consumer supplier self.now.views.held }
     {
         self.links.is_held(plan, consumer, supplier)
-    }
-
-    /// Every held link of a consumer is free, and each supplier has its counts back.
-    pub fn free_links(&mut self, plan: &Plan, consumer: DevId)
-        requires made_for { IsFor plan.now self.old.shape }
-        requires taken { CanFree plan.now self.old.views consumer }
-        ensures { self.new ≡ record self.old { views = frees_links plan.now consumer self.old.views } }
-    {
-        self.links.free_all(plan, consumer);
     }
 }
