@@ -18,6 +18,7 @@ impl Parts {
         requires { dev.0 < length self.now.shape.parents }
         ensures views { result.now ≡ device self.now.views dev }
         ensures in_time { IsInTime result.now }
+        ensures in_views { dev.0 < length self.now.views.devices }
     {
         &self.devices[dev.0 as usize]
     }

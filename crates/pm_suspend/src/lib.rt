@@ -1,0 +1,410 @@
+//! The lines of suspend (`runtime_pm.rst`, sections 2, 4 and 9).
+#![tactic(auto)]
+
+ghost use Rattle.std.specs.Prelude.{◌≡◌, ◌+◌, ◌<◌, ◌&&◌, ◌∷◌, ◌^◌, [], length, not};
+ghost use Rattle.pm_base.specs.declared.Cb.TheVariants as cb;
+ghost use Rattle.pm_base.specs.declared.codes.TheConstants.{AUTO};
+ghost use Rattle.pm_model.specs.declared.event.Event.TheVariants as event;
+ghost use Rattle.pm_model.specs.declared.plan.Plan.{Plan as APlan};
+ghost use Rattle.pm_model.specs.declared.stage.Await.TheVariants as await;
+ghost use Rattle.pm_model.specs.declared.stage.Move.TheVariants as move;
+ghost use Rattle.pm_model.specs.declared.stage.Purpose.TheVariants.{Plain};
+ghost use Rattle.pm_model.specs.declared.stage.Stage.TheVariants as the_stage;
+ghost use Rattle.pm_model.specs.declared.stage.SuspendStage.TheVariants as suspend;
+ghost use Rattle.pm_model.specs.Derived.{begun, expiry, has, is_ahead, is_suspending};
+ghost use Rattle.pm_model.specs.Events.{by_event, is_try_again};
+ghost use Rattle.pm_model.specs.PlanRows.{ms_of};
+ghost use Rattle.pm_model.specs.Row.{back, calls, move_of, resumes, suspends, timed};
+ghost use Rattle.pm_model.specs.SuspendTable.{goes_on, suspend_domain, suspend_ended, suspend_ends, suspend_links, suspend_parent, suspend_request, suspend_row, suspend_verdict};
+ghost use Rattle.pm_model.specs.Views.{device};
+ghost use Rattle.pm_model.specs.World.{due};
+ghost use Rattle.pm_device.specs.Parts.{IsFor};
+ghost use Rattle.pm_suspend.specs.SuspendMove.{CanTell, device_of, expiry_of, last_mark};
+
+use pm_base::{ASYNC, AUTO, Cb, DevId, EAGAIN, EBUSY, EINPROGRESS, Req, Why};
+use pm_device::{Parts, has, has_domain, marks_busy, may_not_wait, ms_of, no_callbacks, parent_of};
+use pm_model::{
+    Await, Event, IdleStage, Move, Plan, Purpose, ResumeCall, ResumeStage, Stage, Stages,
+    SuspendStage, Then, TimerAct, Word, WorkAct,
+};
+
+// A stage of suspend takes the place.
+fn goes_on(stage: SuspendStage) -> Then
+    ensures { result ≡ goes_on stage }
+{
+    Then {
+        push: Stages::one(Stage::Suspend(stage)),
+        back: None,
+    }
+}
+
+// A called stage, over the one that awaits its end.
+fn calls(called: Stage, under: Await) -> Then
+    ensures { result ≡ calls called under }
+{
+    Then {
+        push: Stages::two(called, Stage::Await(under)),
+        back: None,
+    }
+}
+
+// The return line, after which the call ends with the code.
+fn returns(dev: DevId, code: i32) -> Move
+    ensures { result ≡ move.Write (event.Return cb.Suspend dev code) (back code) }
+{
+    Move::Write(
+        Event::Return {
+            func: Cb::Suspend,
+            dev,
+            code,
+        },
+        Then {
+            push: Stages::none(),
+            back: Some(code),
+        },
+    )
+}
+
+// The request of a suspend that is queued.
+fn suspend_request(flags: u8) -> Req
+    ensures { result ≡ suspend_request flags }
+{
+    if has(flags, AUTO) {
+        Req::Autosuspend
+    } else {
+        Req::Suspend
+    }
+}
+
+// An autosuspend isn't due yet.
+fn is_early(parts: &Parts, dev: DevId, flags: u8, time: u64) -> bool
+    requires { dev.0 < length parts.now.shape.parents }
+    ensures { result ≡ (has flags AUTO && not (is_suspending parts.now.views dev) && is_ahead (expiry parts.now.views dev) time) }
+{
+    has(flags, AUTO) && !parts.is_suspending(dev) && parts.is_ahead(dev, time)
+}
+
+// S1
+#[tactic(auto, unfolding(pm_model::specs::SuspendTable::suspend_verdict))]
+fn verdict(plan: &Plan, parts: &Parts, dev: DevId, flags: u8, time: u64) -> Move
+    requires made_for { IsFor plan.now parts.now.shape }
+    requires in_range { dev.0 < length plan.now.devices }
+    ensures { result ≡ move_of (suspend_verdict plan.now parts.now.views dev flags time) }
+{
+    let refusal = parts.refusal(plan, dev);
+    if refusal != 0 {
+        return returns(dev, refusal);
+    }
+    if parts.is_resuming(dev) && !has(flags, ASYNC) {
+        return returns(dev, EAGAIN);
+    }
+    if is_early(parts, dev, flags, time) {
+        let act = TimerAct::Arm {
+            at: parts.autosuspend_at(dev),
+            auto_on: true,
+        };
+        return Move::Write(
+            Event::Timer { dev, act },
+            goes_on(SuspendStage::Done {
+                dev,
+                flags,
+                code: 0,
+            }),
+        );
+    }
+    if parts.is_suspending(dev) && may_not_wait(flags) {
+        return returns(dev, EINPROGRESS);
+    }
+    if parts.is_suspending(dev) {
+        return Move::Write(
+            Event::Wait { dev },
+            goes_on(SuspendStage::Waiting { dev, flags }),
+        );
+    }
+    if no_callbacks(plan, dev) {
+        return Move::Write(
+            Event::State {
+                dev,
+                word: Word::Suspended,
+            },
+            goes_on(SuspendStage::Parent { dev, flags }),
+        );
+    }
+    if has(flags, ASYNC) {
+        return Move::Write(
+            Event::Work {
+                dev,
+                act: WorkAct::Queue(suspend_request(flags)),
+            },
+            goes_on(SuspendStage::Done {
+                dev,
+                flags,
+                code: 0,
+            }),
+        );
+    }
+    Move::Write(
+        Event::Begin {
+            dev,
+            cb: Cb::Suspend,
+        },
+        goes_on(SuspendStage::Running {
+            dev,
+            flags,
+            since: time,
+        }),
+    )
+}
+
+// Whether a suspend callback that answers this code leaves its device active without an error.
+fn is_try_again(code: i32) -> bool
+    ensures { result ≡ is_try_again code }
+{
+    code == EAGAIN || code == EBUSY
+}
+
+// When the device was last marked busy, once a callback of it has ended at this moment.
+fn last_mark(plan: &Plan, parts: &Parts, dev: DevId, time: u64) -> u64
+    requires made_for { IsFor plan.now parts.now.shape }
+    requires in_range { dev.0 < length plan.now.devices }
+    requires in_time { time < 2 ^ 63 }
+    ensures mark { result ≡ last_mark plan.now parts.now.views dev time }
+    ensures in_time { result < 2 ^ 63 }
+    ensures in_views { dev.0 < length parts.now.views.devices }
+{
+    let device = parts.device(dev);
+    if marks_busy(plan, dev) {
+        time
+    } else {
+        device.last_busy
+    }
+}
+
+// Whether an autosuspend may begin only after this moment, where the device was last marked busy at
+// that one.
+fn is_ahead_from(parts: &Parts, dev: DevId, last_busy: u64, time: u64) -> bool
+    requires in_range { dev.0 < length parts.now.shape.parents }
+    requires in_time { last_busy < 2 ^ 63 }
+    ensures { result ≡ is_ahead (expiry_of (device parts.now.views dev).use_auto (device parts.now.views dev).delay last_busy) time }
+{
+    let device = parts.device(dev);
+    if device.use_auto && device.delay >= 0 {
+        time < last_busy + device.delay.unsigned_abs()
+    } else {
+        false
+    }
+}
+
+// Whether an expiry is ahead once a suspend callback of the device has ended with this code.
+fn is_ahead_after(plan: &Plan, parts: &Parts, dev: DevId, code: i32, time: u64) -> bool
+    requires made_for { IsFor plan.now parts.now.shape }
+    requires in_range { dev.0 < length plan.now.devices }
+    requires in_time { time < 2 ^ 63 }
+    ensures { result ≡ is_ahead (expiry (by_event plan.now time (event.End dev cb.Suspend code) (suspend_ended plan.now dev code time parts.now.views)) dev) time }
+{
+    is_ahead_from(parts, dev, last_mark(plan, parts, dev, time), time)
+}
+
+// S2
+#[tactic(auto, unfolding(pm_model::specs::SuspendTable::suspend_ends))]
+fn ends(plan: &Plan, parts: &Parts, dev: DevId, flags: u8, time: u64) -> Move
+    requires made_for { IsFor plan.now parts.now.shape }
+    requires in_range { dev.0 < length plan.now.devices }
+    requires begun { 0 < begun parts.now.views cb.Suspend dev }
+    requires in_time { time < 2 ^ 63 }
+    ensures { result ≡ move_of (suspend_ends plan.now parts.now.views dev flags time) }
+{
+    let code = parts.callback_code(plan, Cb::Suspend, dev);
+    let again = is_try_again(code) && has(flags, AUTO) && is_ahead_after(plan, parts, dev, code, time);
+    let next = if code == 0 {
+        SuspendStage::Domain { dev, flags }
+    } else if again {
+        SuspendStage::Verdict { dev, flags }
+    } else {
+        SuspendStage::Done { dev, flags, code }
+    };
+    Move::Write(
+        Event::End {
+            dev,
+            cb: Cb::Suspend,
+            code,
+        },
+        goes_on(next),
+    )
+}
+
+// The status line with which the device is suspended.
+fn suspended(dev: DevId, word: Word, next: SuspendStage) -> Move
+    ensures { result ≡ move.Write (event.State dev word) (goes_on next) }
+{
+    Move::Write(Event::State { dev, word }, goes_on(next))
+}
+
+// S4
+#[tactic(auto, unfolding(pm_model::specs::SuspendTable::suspend_links))]
+fn links(plan: &Plan, parts: &Parts, dev: DevId, flags: u8) -> Move
+    requires made_for { IsFor plan.now parts.now.shape }
+    requires in_range { dev.0 < length plan.now.devices }
+    ensures { result ≡ move_of (suspend_links plan.now parts.now.views dev flags) }
+{
+    match parts.first_held(plan, dev) {
+        Some((_, supplier)) => Move::Write(
+            Event::Put {
+                dev: supplier,
+                why: Why::Link(dev),
+            },
+            calls(
+                Stage::Idle(IdleStage::Given {
+                    dev: supplier,
+                    flags: 5,
+                }),
+                Await::SuspendLinks { dev, flags },
+            ),
+        ),
+        None => {
+            if parts.pending(dev).deferred {
+                suspended(dev, Word::Deferred, SuspendStage::Deferred { dev, flags })
+            } else {
+                suspended(dev, Word::Suspended, SuspendStage::Parent { dev, flags })
+            }
+        }
+    }
+}
+
+// S3
+#[tactic(auto, unfolding(pm_model::specs::SuspendTable::suspend_domain))]
+fn domain(plan: &Plan, parts: &Parts, dev: DevId, flags: u8) -> Move
+    requires made_for { IsFor plan.now parts.now.shape }
+    requires in_range { dev.0 < length plan.now.devices }
+    ensures { result ≡ move_of (suspend_domain plan.now parts.now.views dev flags) }
+{
+    if has_domain(plan, dev) {
+        return Move::Write(
+            Event::Domain {
+                dev,
+                up: false,
+                count: parts.down_count(plan, dev),
+            },
+            goes_on(SuspendStage::Links { dev, flags }),
+        );
+    }
+    links(plan, parts, dev, flags)
+}
+
+// S5
+fn deferred(parts: &Parts, dev: DevId, flags: u8) -> Move
+    requires { dev.0 < length parts.now.shape.parents }
+    ensures { (plan : APlan) → IsFor plan parts.now.shape → result ≡ move_of (resumes plan parts.now.views dev 0 Plain (the_stage.Await (await.SuspendDeferred dev flags) ∷ [])) }
+{
+    let call = ResumeCall {
+        dev,
+        flags: 0,
+        held: false,
+        purpose: Purpose::Plain,
+    };
+    Move::Write(
+        Event::Resume {
+            dev,
+            fields: parts.fields(dev, 0),
+        },
+        calls(
+            Stage::Resume(ResumeStage::Verdict { call, tried: false }),
+            Await::SuspendDeferred { dev, flags },
+        ),
+    )
+}
+
+// S6
+#[tactic(auto, unfolding(pm_model::specs::SuspendTable::suspend_parent))]
+fn parent(plan: &Plan, parts: &Parts, dev: DevId, flags: u8) -> Move
+    requires made_for { IsFor plan.now parts.now.shape }
+    requires in_range { dev.0 < length plan.now.devices }
+    ensures { result ≡ move_of (suspend_parent plan.now parts.now.views dev flags) }
+{
+    if !parts.tells_parent(plan, dev) {
+        return returns(dev, 0);
+    }
+    let parent = parent_of(plan, dev);
+    Move::Write(
+        Event::Idle {
+            dev: parent,
+            fields: parts.fields(parent, 1),
+        },
+        calls(
+            Stage::Idle(IdleStage::Verdict {
+                dev: parent,
+                flags: 1,
+            }),
+            Await::SuspendParent { dev, flags },
+        ),
+    )
+}
+
+// The first line of a suspend.
+fn enter(parts: &Parts, dev: DevId, flags: u8) -> Move
+    requires { dev.0 < length parts.now.shape.parents }
+    ensures { (plan : APlan) → IsFor plan parts.now.shape → result ≡ move_of (suspends plan parts.now.views dev flags []) }
+{
+    Move::Write(
+        Event::Suspend {
+            dev,
+            fields: parts.fields(dev, flags),
+        },
+        goes_on(SuspendStage::Verdict { dev, flags }),
+    )
+}
+
+// S2, once its callback's time has passed.
+fn running(plan: &Plan, parts: &Parts, dev: DevId, flags: u8, since: u64, time: u64) -> Move
+    requires made_for { IsFor plan.now parts.now.shape }
+    requires in_range { dev.0 < length plan.now.devices }
+    requires begun { 0 < begun parts.now.views cb.Suspend dev }
+    requires reckons { since + ms_of plan.now cb.Suspend dev < 2 ^ 64 }
+    requires in_time { time < 2 ^ 63 }
+    ensures { result ≡ timed (since + ms_of plan.now cb.Suspend dev) time (suspend_ends plan.now parts.now.views dev flags time) }
+{
+    let due = since + u64::from(ms_of(plan, Cb::Suspend, dev));
+    if time < due {
+        Move::Late(due)
+    } else {
+        ends(plan, parts, dev, flags, time)
+    }
+}
+
+// S1 after its wait line.
+fn waiting(plan: &Plan, parts: &Parts, dev: DevId, flags: u8, time: u64) -> Move
+    requires made_for { IsFor plan.now parts.now.shape }
+    requires in_range { dev.0 < length plan.now.devices }
+    ensures { result ≡ move_of (suspend_row plan.now parts.now.views (suspend.Waiting dev flags) time) }
+{
+    if parts.is_moving(dev) {
+        Move::Wait(dev)
+    } else {
+        verdict(plan, parts, dev, flags, time)
+    }
+}
+
+/// The only move at a stage of suspend: its line, with what takes the stage's place; or the moment at
+/// which its line is due, where that is later than `time` (milliseconds of the run); or the device for
+/// which it waits. It takes no memory.
+pub fn next(plan: &Plan, parts: &Parts, stage: SuspendStage, time: u64) -> Move
+    requires made_for { IsFor plan.now parts.now.shape }
+    requires in_range { (device_of stage).0 < length plan.now.devices }
+    requires in_time { time < 2 ^ 63 }
+    requires tells { CanTell plan.now parts.now.views stage }
+    ensures { result ≡ timed (due plan.now parts.now.views (the_stage.Suspend stage)) time (suspend_row plan.now parts.now.views stage time) }
+{
+    match stage {
+        SuspendStage::Enter { dev, flags } => enter(parts, dev, flags),
+        SuspendStage::Verdict { dev, flags } => verdict(plan, parts, dev, flags, time),
+        SuspendStage::Waiting { dev, flags } => waiting(plan, parts, dev, flags, time),
+        SuspendStage::Running { dev, flags, since } => {
+            running(plan, parts, dev, flags, since, time)
+        }
+        SuspendStage::Domain { dev, flags } => domain(plan, parts, dev, flags),
+        SuspendStage::Links { dev, flags } => links(plan, parts, dev, flags),
+        SuspendStage::Deferred { dev, flags } => deferred(parts, dev, flags),
+        SuspendStage::Parent { dev, flags } => parent(plan, parts, dev, flags),
+        SuspendStage::Done { dev, code, .. } => returns(dev, code),
+    }
+}
