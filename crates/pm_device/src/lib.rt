@@ -12,10 +12,12 @@ mod domains;
 mod fresh;
 mod guards;
 mod links;
+mod moves;
 mod readers;
 mod rows;
 
 pub use guards::{has, may_not_wait, prevented};
+pub use moves::{back, calls, goes, ret, returns};
 pub use rows::{
     code_of, domain, has_domain, has_idle, has_parent, marks_busy, ms_of, no_callbacks, parent, parent_of,
 };

@@ -14,7 +14,7 @@ ghost use Rattle.pm_model.specs.declared.stage.SuspendStage.TheVariants as suspe
 ghost use Rattle.pm_model.specs.Derived.{begun, expiry, has, is_ahead, is_suspending};
 ghost use Rattle.pm_model.specs.Events.{by_event, is_try_again};
 ghost use Rattle.pm_model.specs.PlanRows.{ms_of};
-ghost use Rattle.pm_model.specs.Row.{back, calls, move_of, resumes, suspends, timed};
+ghost use Rattle.pm_model.specs.Row.{move_of, timed};
 ghost use Rattle.pm_model.specs.SuspendTable.{goes_on, suspend_domain, suspend_ended, suspend_ends, suspend_links, suspend_parent, suspend_request, suspend_row, suspend_verdict};
 ghost use Rattle.pm_model.specs.Views.{device};
 ghost use Rattle.pm_model.specs.World.{due};
@@ -22,47 +22,16 @@ ghost use Rattle.pm_device.specs.Parts.{IsFor};
 ghost use Rattle.pm_suspend.specs.SuspendMove.{CanTell, device_of, expiry_of, last_mark};
 
 use pm_base::{ASYNC, AUTO, Cb, DevId, EAGAIN, EBUSY, EINPROGRESS, Req, Why};
-use pm_device::{Parts, has, has_domain, marks_busy, may_not_wait, ms_of, no_callbacks, parent_of};
+use pm_device::{Parts, calls, goes, has, has_domain, marks_busy, may_not_wait, ms_of, no_callbacks, parent_of, returns};
 use pm_model::{
-    Await, Event, IdleStage, Move, Plan, Purpose, ResumeCall, ResumeStage, Stage, Stages,
-    SuspendStage, Then, TimerAct, Word, WorkAct,
+    Await, Event, IdleStage, Move, Plan, Purpose, Stage, SuspendStage, Then, TimerAct, Word, WorkAct,
 };
 
 // A stage of suspend takes the place.
 fn goes_on(stage: SuspendStage) -> Then
     ensures { result ≡ goes_on stage }
 {
-    Then {
-        push: Stages::one(Stage::Suspend(stage)),
-        back: None,
-    }
-}
-
-// A called stage, over the one that awaits its end.
-fn calls(called: Stage, under: Await) -> Then
-    ensures { result ≡ calls called under }
-{
-    Then {
-        push: Stages::two(called, Stage::Await(under)),
-        back: None,
-    }
-}
-
-// The return line, after which the call ends with the code.
-fn returns(dev: DevId, code: i32) -> Move
-    ensures { result ≡ move.Write (event.Return cb.Suspend dev code) (back code) }
-{
-    Move::Write(
-        Event::Return {
-            func: Cb::Suspend,
-            dev,
-            code,
-        },
-        Then {
-            push: Stages::none(),
-            back: Some(code),
-        },
-    )
+    goes(Stage::Suspend(stage))
 }
 
 // The request of a suspend that is queued.
@@ -93,10 +62,10 @@ fn verdict(plan: &Plan, parts: &Parts, dev: DevId, flags: u8, time: u64) -> Move
 {
     let refusal = parts.refusal(plan, dev);
     if refusal != 0 {
-        return returns(dev, refusal);
+        return returns(Cb::Suspend, dev, refusal);
     }
     if parts.is_resuming(dev) && !has(flags, ASYNC) {
-        return returns(dev, EAGAIN);
+        return returns(Cb::Suspend, dev, EAGAIN);
     }
     if is_early(parts, dev, flags, time) {
         let act = TimerAct::Arm {
@@ -113,7 +82,7 @@ fn verdict(plan: &Plan, parts: &Parts, dev: DevId, flags: u8, time: u64) -> Move
         );
     }
     if parts.is_suspending(dev) && may_not_wait(flags) {
-        return returns(dev, EINPROGRESS);
+        return returns(Cb::Suspend, dev, EINPROGRESS);
     }
     if parts.is_suspending(dev) {
         return Move::Write(
@@ -291,29 +260,6 @@ fn domain(plan: &Plan, parts: &Parts, dev: DevId, flags: u8) -> Move
     links(plan, parts, dev, flags)
 }
 
-// S5
-fn deferred(parts: &Parts, dev: DevId, flags: u8) -> Move
-    requires { dev.0 < length parts.now.shape.parents }
-    ensures { (plan : APlan) → IsFor plan parts.now.shape → result ≡ move_of (resumes plan parts.now.views dev 0 Plain (the_stage.Await (await.SuspendDeferred dev flags) ∷ [])) }
-{
-    let call = ResumeCall {
-        dev,
-        flags: 0,
-        held: false,
-        purpose: Purpose::Plain,
-    };
-    Move::Write(
-        Event::Resume {
-            dev,
-            fields: parts.fields(dev, 0),
-        },
-        calls(
-            Stage::Resume(ResumeStage::Verdict { call, tried: false }),
-            Await::SuspendDeferred { dev, flags },
-        ),
-    )
-}
-
 // S6
 #[tactic(auto, unfolding(pm_model::specs::SuspendTable::suspend_parent))]
 fn parent(plan: &Plan, parts: &Parts, dev: DevId, flags: u8) -> Move
@@ -322,36 +268,9 @@ fn parent(plan: &Plan, parts: &Parts, dev: DevId, flags: u8) -> Move
     ensures { result ≡ move_of (suspend_parent plan.now parts.now.views dev flags) }
 {
     if !parts.tells_parent(plan, dev) {
-        return returns(dev, 0);
+        return returns(Cb::Suspend, dev, 0);
     }
-    let parent = parent_of(plan, dev);
-    Move::Write(
-        Event::Idle {
-            dev: parent,
-            fields: parts.fields(parent, 1),
-        },
-        calls(
-            Stage::Idle(IdleStage::Verdict {
-                dev: parent,
-                flags: 1,
-            }),
-            Await::SuspendParent { dev, flags },
-        ),
-    )
-}
-
-// The first line of a suspend.
-fn enter(parts: &Parts, dev: DevId, flags: u8) -> Move
-    requires { dev.0 < length parts.now.shape.parents }
-    ensures { (plan : APlan) → IsFor plan parts.now.shape → result ≡ move_of (suspends plan parts.now.views dev flags []) }
-{
-    Move::Write(
-        Event::Suspend {
-            dev,
-            fields: parts.fields(dev, flags),
-        },
-        goes_on(SuspendStage::Verdict { dev, flags }),
-    )
+    parts.calls_idle(parent_of(plan, dev), 1, Await::SuspendParent { dev, flags })
 }
 
 // S2, once its callback's time has passed.
@@ -395,7 +314,7 @@ pub fn next(plan: &Plan, parts: &Parts, stage: SuspendStage, time: u64) -> Move
     ensures { result ≡ timed (due plan.now parts.now.views (the_stage.Suspend stage)) time (suspend_row plan.now parts.now.views stage time) }
 {
     match stage {
-        SuspendStage::Enter { dev, flags } => enter(parts, dev, flags),
+        SuspendStage::Enter { dev, flags } => parts.suspends(dev, flags),
         SuspendStage::Verdict { dev, flags } => verdict(plan, parts, dev, flags, time),
         SuspendStage::Waiting { dev, flags } => waiting(plan, parts, dev, flags, time),
         SuspendStage::Running { dev, flags, since } => {
@@ -403,8 +322,10 @@ pub fn next(plan: &Plan, parts: &Parts, stage: SuspendStage, time: u64) -> Move
         }
         SuspendStage::Domain { dev, flags } => domain(plan, parts, dev, flags),
         SuspendStage::Links { dev, flags } => links(plan, parts, dev, flags),
-        SuspendStage::Deferred { dev, flags } => deferred(parts, dev, flags),
+        SuspendStage::Deferred { dev, flags } => {
+            parts.calls_resume(dev, 0, Purpose::Plain, Await::SuspendDeferred { dev, flags })
+        }
         SuspendStage::Parent { dev, flags } => parent(plan, parts, dev, flags),
-        SuspendStage::Done { dev, code, .. } => returns(dev, code),
+        SuspendStage::Done { dev, code, .. } => returns(Cb::Suspend, dev, code),
     }
 }

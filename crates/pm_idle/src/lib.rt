@@ -1,0 +1,178 @@
+//! The lines of idle, and of the stage after a put (`runtime_pm.rst`, sections 2 and 4).
+#![tactic(auto)]
+
+ghost use Rattle.std.specs.Prelude.{◌≡◌, ◌+◌, ◌<◌, ◌^◌, length, pos, if◌then◌else◌};
+ghost use Rattle.std.specs.Ordering.{int_eq};
+ghost use Rattle.pm_base.specs.declared.Cb.TheVariants as cb;
+ghost use Rattle.pm_model.specs.declared.event.Event.TheVariants as event;
+ghost use Rattle.pm_model.specs.declared.stage.Move.TheVariants as move;
+ghost use Rattle.pm_model.specs.declared.stage.Stage.TheVariants as the_stage;
+ghost use Rattle.pm_model.specs.Derived.{begun};
+ghost use Rattle.pm_model.specs.IdleTable.{given, idle_ends, idle_row, idle_verdict, is_above_idle, then_suspends};
+ghost use Rattle.pm_model.specs.PlanRows.{ms_of};
+ghost use Rattle.pm_model.specs.Row.{back, move_of, timed};
+ghost use Rattle.pm_model.specs.World.{due};
+ghost use Rattle.pm_device.specs.Parts.{IsFor};
+ghost use Rattle.pm_idle.specs.IdleMove.{CanTell, device_of};
+
+use pm_base::{ASYNC, AUTO, Cb, DevId, EAGAIN, EINPROGRESS, Req};
+use pm_device::{Parts, back, goes, has, has_idle, ms_of, returns};
+use pm_model::{Event, IdleStage, Move, Plan, Stage, SuspendStage, Then, WorkAct};
+
+// Whether a request is for more than an idle: to suspend or to resume.
+fn is_above_idle(req: Req) -> bool
+    ensures { result ≡ is_above_idle req }
+{
+    !matches!(req, Req::Nothing | Req::Idle)
+}
+
+// An idle that answers 0 goes on to suspend by the autosuspend rule.
+fn then_suspends(dev: DevId, flags: u8) -> Then
+    ensures { result ≡ then_suspends dev flags }
+{
+    goes(Stage::Suspend(SuspendStage::Enter {
+        dev,
+        flags: flags | AUTO,
+    }))
+}
+
+// I1
+#[tactic(auto, unfolding(pm_model::specs::IdleTable::idle_verdict))]
+fn verdict(plan: &Plan, parts: &Parts, dev: DevId, flags: u8, time: u64) -> Move
+    requires made_for { IsFor plan.now parts.now.shape }
+    requires in_range { dev.0 < length plan.now.devices }
+    ensures { result ≡ move_of (idle_verdict plan.now parts.now.views dev flags time) }
+{
+    let refusal = parts.refusal(plan, dev);
+    if refusal < 0 {
+        return returns(Cb::Idle, dev, refusal);
+    }
+    if !parts.is_active(dev) {
+        return returns(Cb::Idle, dev, EAGAIN);
+    }
+    if is_above_idle(parts.pending(dev).request) {
+        return returns(Cb::Idle, dev, EAGAIN);
+    }
+    if parts.device(dev).idle_running {
+        return returns(Cb::Idle, dev, EINPROGRESS);
+    }
+    if !has_idle(plan, dev) {
+        return Move::Write(
+            Event::Return {
+                func: Cb::Idle,
+                dev,
+                code: 0,
+            },
+            then_suspends(dev, flags),
+        );
+    }
+    if has(flags, ASYNC) {
+        return Move::Write(
+            Event::Work {
+                dev,
+                act: WorkAct::Queue(Req::Idle),
+            },
+            goes(Stage::Idle(IdleStage::Queued { dev, flags })),
+        );
+    }
+    Move::Write(
+        Event::Begin { dev, cb: Cb::Idle },
+        goes(Stage::Idle(IdleStage::Running {
+            dev,
+            flags,
+            since: time,
+        })),
+    )
+}
+
+// I2
+#[tactic(auto, unfolding(pm_model::specs::IdleTable::idle_ends))]
+fn ends(plan: &Plan, parts: &Parts, dev: DevId, flags: u8, time: u64) -> Move
+    requires made_for { IsFor plan.now parts.now.shape }
+    requires in_range { dev.0 < length plan.now.devices }
+    requires begun { 0 < begun parts.now.views cb.Idle dev }
+    ensures { result ≡ move_of (idle_ends plan.now parts.now.views dev flags time) }
+{
+    let code = parts.callback_code(plan, Cb::Idle, dev);
+    Move::Write(
+        Event::End {
+            dev,
+            cb: Cb::Idle,
+            code,
+        },
+        goes(Stage::Idle(IdleStage::Done { dev, flags, code })),
+    )
+}
+
+// I2, once its callback's time has passed.
+fn running(plan: &Plan, parts: &Parts, dev: DevId, flags: u8, since: u64, time: u64) -> Move
+    requires made_for { IsFor plan.now parts.now.shape }
+    requires in_range { dev.0 < length plan.now.devices }
+    requires begun { 0 < begun parts.now.views cb.Idle dev }
+    requires reckons { since + ms_of plan.now cb.Idle dev < 2 ^ 64 }
+    ensures { result ≡ timed (since + ms_of plan.now cb.Idle dev) time (idle_ends plan.now parts.now.views dev flags time) }
+{
+    let due = since + u64::from(ms_of(plan, Cb::Idle, dev));
+    if time < due {
+        Move::Late(due)
+    } else {
+        ends(plan, parts, dev, flags, time)
+    }
+}
+
+// I3
+fn done(dev: DevId, flags: u8, code: i32) -> Move
+    ensures { result ≡ move.Write (event.Return cb.Idle dev code) (if int_eq code (pos 0) then then_suspends dev flags else back code) }
+{
+    let then = if code == 0 {
+        then_suspends(dev, flags)
+    } else {
+        back(code)
+    };
+    Move::Write(
+        Event::Return {
+            func: Cb::Idle,
+            dev,
+            code,
+        },
+        then,
+    )
+}
+
+// T
+#[tactic(auto, unfolding(pm_model::specs::IdleTable::given))]
+fn given(plan: &Plan, parts: &Parts, dev: DevId, flags: u8) -> Move
+    requires made_for { IsFor plan.now parts.now.shape }
+    requires in_range { dev.0 < length plan.now.devices }
+    ensures { result ≡ move_of (given plan.now parts.now.views dev flags) }
+{
+    if parts.is_in_use(dev) {
+        return Move::Write(
+            Event::Usage {
+                dev,
+                fields: parts.fields(dev, flags),
+            },
+            back(0),
+        );
+    }
+    parts.idles(dev, flags)
+}
+
+/// The only move at a stage of idle, or at the stage after a put: its line, with what takes the
+/// stage's place; or the moment at which its line is due, where that is later than `time`
+/// (milliseconds of the run). It takes no memory.
+pub fn next(plan: &Plan, parts: &Parts, stage: IdleStage, time: u64) -> Move
+    requires made_for { IsFor plan.now parts.now.shape }
+    requires in_range { (device_of stage).0 < length plan.now.devices }
+    requires tells { CanTell plan.now parts.now.views stage }
+    ensures { result ≡ timed (due plan.now parts.now.views (the_stage.Idle stage)) time (idle_row plan.now parts.now.views stage time) }
+{
+    match stage {
+        IdleStage::Enter { dev, flags } => parts.idles(dev, flags),
+        IdleStage::Verdict { dev, flags } => verdict(plan, parts, dev, flags, time),
+        IdleStage::Running { dev, flags, since } => running(plan, parts, dev, flags, since, time),
+        IdleStage::Done { dev, flags, code } => done(dev, flags, code),
+        IdleStage::Queued { dev, .. } => returns(Cb::Idle, dev, 0),
+        IdleStage::Given { dev, flags } => given(plan, parts, dev, flags),
+    }
+}
