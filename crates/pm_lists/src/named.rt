@@ -226,7 +226,7 @@ mod tests {
         }
     }
 
-    fn row(alloc: Global, name: &[u8]) -> Result<Row, Fail> {
+    fn row_of(alloc: Global, name: &[u8]) -> Result<Row, Fail> {
         Ok(Row {
             name: Items::new(Vec::from_slice(alloc, name)?),
         })
@@ -235,7 +235,7 @@ mod tests {
     fn listed(rt: &(impl Abort + AllocGlobal), names: &[&[u8]]) -> Result<NamedList<Row>, Fail> {
         let mut rows = Vec::new(rt.alloc());
         for name in names {
-            rows.push(row(rt.alloc(), *name)?)?;
+            rows.push(row_of(rt.alloc(), *name)?)?;
         }
         assert!(rt; rows.len() <= 1_000);
         Ok(NamedList::new(rt.alloc(), rows)?)
@@ -316,7 +316,7 @@ mod tests {
         let mut rows = Vec::new(rt.alloc());
         for k in 0..1_000u32 {
             let name = format!(in rt.alloc(); "{}", 367 * k % 1_000)?;
-            rows.push(row(rt.alloc(), name.as_bytes())?)?;
+            rows.push(row_of(rt.alloc(), name.as_bytes())?)?;
         }
         assert!(rt; rows.len() == 1_000);
         let list = NamedList::new(rt.alloc(), rows)?;
