@@ -1,0 +1,434 @@
+//! The lines of resume (`runtime_pm.rst`, sections 2 and 4; `device_link.rst` for the suppliers).
+#![tactic(auto)]
+
+ghost use Rattle.std.specs.Prelude.{◌≡◌, ◌+◌, ◌<◌, ◌&&◌, ◌∷◌, ◌^◌, [], if◌then◌else◌, length, not, pos};
+ghost use Rattle.pm_base.specs.declared.Cb.TheVariants as cb;
+ghost use Rattle.pm_base.specs.declared.codes.TheConstants.{EINPROGRESS, NOWAIT};
+ghost use Rattle.pm_model.specs.declared.event.Event.TheVariants as event;
+ghost use Rattle.pm_model.specs.declared.event.Word.TheVariants as word;
+ghost use Rattle.pm_base.specs.declared.Why.TheVariants as why;
+ghost use Rattle.pm_model.specs.declared.stage.Await.TheVariants as await;
+ghost use Rattle.pm_model.specs.declared.stage.IdleStage.TheVariants as idle;
+ghost use Rattle.pm_model.specs.declared.stage.Move.TheVariants as move;
+ghost use Rattle.pm_model.specs.declared.stage.ResumeStage.TheVariants as resume;
+ghost use Rattle.pm_model.specs.declared.stage.Stage.TheVariants as the_stage;
+ghost use Rattle.pm_model.specs.Changes.{same};
+ghost use Rattle.pm_model.specs.Derived.{begun, first_of, has, is_moving, is_resuming, is_suspending, minds_parent};
+ghost use Rattle.pm_model.specs.PlanRows.{has_parent, ms_of, parent_of};
+ghost use Rattle.pm_model.specs.ResumeTable.{goes_on, leaves, resume_begins, resume_domain, resume_ends, resume_links, resume_row, resume_unwinds, resume_verdict, resumes_supplier, returns_from};
+ghost use Rattle.pm_model.specs.Row.{calls, move_of, timed, waits};
+ghost use Rattle.pm_model.specs.SuspendTable.{may_not_wait};
+ghost use Rattle.pm_model.specs.World.{due};
+ghost use Rattle.pm_device.specs.Parts.{IsFor};
+ghost use Rattle.pm_resume.specs.ResumeMove.{CanTell, device_of};
+
+use pm_base::{ASYNC, Cb, DevId, EACCES, EBUSY, EINPROGRESS, EINVAL, NOWAIT, Req, Why};
+use pm_device::{
+    Parts, back, calls, goes, has, has_domain, has_parent, may_not_wait, ms_of, no_callbacks,
+    parent_of,
+};
+use pm_model::{
+    Await, Event, IdleStage, Move, Plan, Purpose, ResumeCall, ResumeStage, Stage, Then, Word,
+    WorkAct, is_supplied,
+};
+
+// A stage of resume takes the place.
+fn goes_on(stage: ResumeStage) -> Then
+    ensures { result ≡ goes_on stage }
+{
+    goes(Stage::Resume(stage))
+}
+
+// After the return line: the count on the parent is given back where it is held, else the call ends.
+#[tactic(auto, unfolding(pm_model::specs::ResumeTable::leaves))]
+fn leaves(plan: &Plan, call: ResumeCall, code: i32) -> Then
+    requires { call.dev.0 < length plan.now.devices }
+    ensures { result ≡ leaves plan.now call code }
+{
+    if call.held && has_parent(plan, call.dev) {
+        goes_on(ResumeStage::Parent { call, code })
+    } else {
+        back(code)
+    }
+}
+
+// The return line.
+fn returns_from(plan: &Plan, call: ResumeCall, code: i32) -> Move
+    requires { call.dev.0 < length plan.now.devices }
+    ensures { result ≡ move_of (returns_from plan.now call code same) }
+{
+    Move::Write(
+        Event::Return {
+            func: Cb::Resume,
+            dev: call.dev,
+            code,
+        },
+        leaves(plan, call, code),
+    )
+}
+
+// The resume waits for the end of the suspend that is under way, and its caller doesn't.
+fn defers(parts: &Parts, dev: DevId, flags: u8) -> bool
+    requires { dev.0 < length parts.now.shape.parents }
+    ensures { result ≡ (is_suspending parts.now.views dev && may_not_wait flags) }
+{
+    parts.is_suspending(dev) && may_not_wait(flags)
+}
+
+// The same resume is under way, and the caller doesn't wait for it.
+fn is_under_way(parts: &Parts, dev: DevId, flags: u8) -> bool
+    requires { dev.0 < length parts.now.shape.parents }
+    ensures { result ≡ (is_resuming parts.now.views dev && may_not_wait flags) }
+{
+    parts.is_resuming(dev) && may_not_wait(flags)
+}
+
+// No count on the parent is held yet.
+fn takes_parent(plan: &Plan, call: ResumeCall) -> bool
+    requires { call.dev.0 < length plan.now.devices }
+    ensures { result ≡ (has_parent plan.now call.dev && not call.held) }
+{
+    has_parent(plan, call.dev) && !call.held
+}
+
+// The parent is to be resumed, and that hasn't been tried yet.
+fn calls_parent(plan: &Plan, parts: &Parts, dev: DevId, tried: bool) -> bool
+    requires made_for { IsFor plan.now parts.now.shape }
+    requires in_range { dev.0 < length plan.now.devices }
+    ensures { result ≡ (minds_parent plan.now parts.now.views dev && not tried) }
+{
+    parts.minds_parent(plan, dev) && !tried
+}
+
+// What the caller of a deferred resume is answered.
+fn deferred_code(flags: u8) -> i32
+    ensures { result ≡ (if has flags NOWAIT then EINPROGRESS else pos 0) }
+{
+    if has(flags, NOWAIT) { EINPROGRESS } else { 0 }
+}
+
+// R1
+#[tactic(auto, unfolding(pm_model::specs::ResumeTable::resume_verdict))]
+fn verdict(plan: &Plan, parts: &Parts, call: ResumeCall, tried: bool) -> Move
+    requires made_for { IsFor plan.now parts.now.shape }
+    requires in_range { call.dev.0 < length plan.now.devices }
+    ensures { result ≡ move_of (resume_verdict plan.now parts.now.views call tried) }
+{
+    let dev = call.dev;
+    let flags = call.flags;
+    if parts.has_error(dev) {
+        return returns_from(plan, call, EINVAL);
+    }
+    if parts.was_active(dev) {
+        return returns_from(plan, call, 1);
+    }
+    if parts.is_disabled(dev) {
+        return returns_from(plan, call, EACCES);
+    }
+    if parts.is_active(dev) {
+        return returns_from(plan, call, 1);
+    }
+    if defers(parts, dev, flags) {
+        let code = deferred_code(flags);
+        return Move::Write(
+            Event::Work {
+                dev,
+                act: WorkAct::Defer,
+            },
+            goes_on(ResumeStage::Done { call, code }),
+        );
+    }
+    if is_under_way(parts, dev, flags) {
+        return returns_from(plan, call, EINPROGRESS);
+    }
+    if parts.is_moving(dev) {
+        return Move::Write(
+            Event::Wait { dev },
+            goes_on(ResumeStage::Waiting { call, tried }),
+        );
+    }
+    if has(flags, ASYNC) {
+        return Move::Write(
+            Event::Work {
+                dev,
+                act: WorkAct::Queue(Req::Resume),
+            },
+            goes_on(ResumeStage::Done { call, code: 0 }),
+        );
+    }
+    let parent = parent_of(plan, dev);
+    if takes_parent(plan, call) {
+        let call = ResumeCall { held: true, ..call };
+        return Move::Write(
+            Event::Get {
+                dev: parent,
+                why: Why::Child(dev),
+            },
+            goes_on(ResumeStage::Verdict { call, tried }),
+        );
+    }
+    if calls_parent(plan, parts, dev, tried) {
+        return parts.calls_resume(parent, 0, Purpose::Child, Await::ResumeParent { call });
+    }
+    if parts.awaits_parent(plan, dev) {
+        return returns_from(plan, call, EBUSY);
+    }
+    if no_callbacks(plan, dev) {
+        return Move::Write(
+            Event::State {
+                dev,
+                word: Word::Active,
+            },
+            goes_on(ResumeStage::Idle { call }),
+        );
+    }
+    Move::Write(
+        Event::State {
+            dev,
+            word: Word::Resuming,
+        },
+        goes_on(ResumeStage::Links { call }),
+    )
+}
+
+// R1 after its wait line.
+fn waiting(plan: &Plan, parts: &Parts, call: ResumeCall, tried: bool) -> Move
+    requires made_for { IsFor plan.now parts.now.shape }
+    requires in_range { call.dev.0 < length plan.now.devices }
+    ensures { result ≡ move_of (first_of ((is_moving parts.now.views call.dev, waits call.dev) ∷ []) (resume_verdict plan.now parts.now.views call tried)) }
+{
+    if parts.is_moving(call.dev) {
+        Move::Wait(call.dev)
+    } else {
+        verdict(plan, parts, call, tried)
+    }
+}
+
+// R4
+fn begins(call: ResumeCall, time: u64) -> Move
+    ensures { result ≡ move_of (resume_begins call time) }
+{
+    Move::Write(
+        Event::Begin {
+            dev: call.dev,
+            cb: Cb::Resume,
+        },
+        goes_on(ResumeStage::Running { call, since: time }),
+    )
+}
+
+// A resume of a supplier for a link.
+fn supplier_call(link: u32, supplier: DevId) -> Stage
+    ensures { result ≡ resumes_supplier (link, supplier) }
+{
+    Stage::Resume(ResumeStage::Enter {
+        call: ResumeCall {
+            dev: supplier,
+            flags: 4,
+            held: false,
+            purpose: Purpose::Link(link),
+        },
+    })
+}
+
+// R2
+#[tactic(auto, unfolding(pm_model::specs::ResumeTable::resume_links))]
+fn links(plan: &Plan, parts: &Parts, call: ResumeCall, time: u64) -> Move
+    requires made_for { IsFor plan.now parts.now.shape }
+    requires in_range { call.dev.0 < length plan.now.devices }
+    ensures { result ≡ move_of (resume_links plan.now parts.now.views call time) }
+{
+    let dev = call.dev;
+    match parts.first_free(plan, dev) {
+        Some((link, supplier)) => Move::Write(
+            Event::Get {
+                dev: supplier,
+                why: Why::Link(dev),
+            },
+            calls(
+                supplier_call(link, supplier),
+                Await::ResumeSupplier { call, link },
+            ),
+        ),
+        None => {
+            if has_domain(plan, dev) {
+                Move::Write(
+                    Event::Domain {
+                        dev,
+                        up: true,
+                        count: parts.up_count(plan, dev),
+                    },
+                    goes_on(ResumeStage::Callback { call }),
+                )
+            } else {
+                begins(call, time)
+            }
+        }
+    }
+}
+
+// R9
+#[tactic(auto, unfolding(pm_model::specs::ResumeTable::resume_unwinds))]
+fn unwinds(plan: &Plan, parts: &Parts, call: ResumeCall, code: i32) -> Move
+    requires made_for { IsFor plan.now parts.now.shape }
+    requires in_range { call.dev.0 < length plan.now.devices }
+    ensures { result ≡ move_of (resume_unwinds plan.now parts.now.views call code) }
+{
+    let dev = call.dev;
+    match parts.first_held(plan, dev) {
+        Some((_, supplier)) => Move::Write(
+            Event::Put {
+                dev: supplier,
+                why: Why::Link(dev),
+            },
+            calls(
+                Stage::Idle(IdleStage::Given {
+                    dev: supplier,
+                    flags: 5,
+                }),
+                Await::ResumeUnwind { call, code },
+            ),
+        ),
+        None => Move::Write(
+            Event::State {
+                dev,
+                word: Word::Suspended,
+            },
+            goes_on(ResumeStage::Done { call, code }),
+        ),
+    }
+}
+
+// R8
+#[tactic(auto, unfolding(pm_model::specs::ResumeTable::resume_domain))]
+fn domain(plan: &Plan, parts: &Parts, call: ResumeCall, code: i32) -> Move
+    requires made_for { IsFor plan.now parts.now.shape }
+    requires in_range { call.dev.0 < length plan.now.devices }
+    ensures { result ≡ move_of (resume_domain plan.now parts.now.views call code) }
+{
+    let dev = call.dev;
+    if has_domain(plan, dev) {
+        return Move::Write(
+            Event::Domain {
+                dev,
+                up: false,
+                count: parts.down_count(plan, dev),
+            },
+            goes_on(ResumeStage::Unwind { call, code }),
+        );
+    }
+    unwinds(plan, parts, call, code)
+}
+
+// R3
+fn supplied(plan: &Plan, parts: &Parts, call: ResumeCall, code: i32, time: u64) -> Move
+    requires made_for { IsFor plan.now parts.now.shape }
+    requires in_range { call.dev.0 < length plan.now.devices }
+    ensures { result ≡ move_of (resume_row plan.now parts.now.views (resume.Supplied call code) time) }
+{
+    if is_supplied(code) {
+        links(plan, parts, call, time)
+    } else {
+        unwinds(plan, parts, call, code)
+    }
+}
+
+// R4b
+#[tactic(auto, unfolding(pm_model::specs::ResumeTable::resume_ends))]
+fn ends(plan: &Plan, parts: &Parts, call: ResumeCall) -> Move
+    requires made_for { IsFor plan.now parts.now.shape }
+    requires in_range { call.dev.0 < length plan.now.devices }
+    requires begun { 0 < begun parts.now.views cb.Resume call.dev }
+    ensures { result ≡ move_of (resume_ends plan.now parts.now.views call) }
+{
+    let dev = call.dev;
+    let code = parts.callback_code(plan, Cb::Resume, dev);
+    let ended = Event::End {
+        dev,
+        cb: Cb::Resume,
+        code,
+    };
+    if code == 0 {
+        Move::Write(ended, goes_on(ResumeStage::Resumed { call }))
+    } else {
+        Move::Write(ended, goes_on(ResumeStage::Domain { call, code }))
+    }
+}
+
+// R4b, once its callback's time has passed.
+fn running(plan: &Plan, parts: &Parts, call: ResumeCall, since: u64, time: u64) -> Move
+    requires made_for { IsFor plan.now parts.now.shape }
+    requires in_range { call.dev.0 < length plan.now.devices }
+    requires begun { 0 < begun parts.now.views cb.Resume call.dev }
+    requires reckons { since + ms_of plan.now cb.Resume call.dev < 2 ^ 64 }
+    ensures { result ≡ timed (since + ms_of plan.now cb.Resume call.dev) time (resume_ends plan.now parts.now.views call) }
+{
+    let due = since + u64::from(ms_of(plan, Cb::Resume, call.dev));
+    if time < due {
+        Move::Late(due)
+    } else {
+        ends(plan, parts, call)
+    }
+}
+
+// R7
+fn gives_parent(plan: &Plan, call: ResumeCall, code: i32) -> Move
+    requires { call.dev.0 < length plan.now.devices }
+    ensures { result ≡ move.Write (event.Put (parent_of plan.now call.dev) (why.Child call.dev)) (calls (the_stage.Idle (idle.Given (parent_of plan.now call.dev) 5)) (await.ResumeGiven call code)) }
+{
+    let parent = parent_of(plan, call.dev);
+    Move::Write(
+        Event::Put {
+            dev: parent,
+            why: Why::Child(call.dev),
+        },
+        calls(
+            Stage::Idle(IdleStage::Given {
+                dev: parent,
+                flags: 5,
+            }),
+            Await::ResumeGiven { call, code },
+        ),
+    )
+}
+
+// R4c
+fn resumed(call: ResumeCall) -> Move
+    ensures { result ≡ move.Write (event.State call.dev word.Active) (goes_on (resume.Idle call)) }
+{
+    Move::Write(
+        Event::State {
+            dev: call.dev,
+            word: Word::Active,
+        },
+        goes_on(ResumeStage::Idle { call }),
+    )
+}
+
+/// The only move at a stage of resume: its line, with what takes the stage's place; or the moment at
+/// which its line is due, where that is later than `time` (milliseconds of the run); or the device for
+/// which it waits. It takes no memory.
+pub fn next(plan: &Plan, parts: &Parts, stage: ResumeStage, time: u64) -> Move
+    requires made_for { IsFor plan.now parts.now.shape }
+    requires in_range { (device_of stage).0 < length plan.now.devices }
+    requires tells { CanTell plan.now parts.now.views stage }
+    ensures { result ≡ timed (due plan.now parts.now.views (the_stage.Resume stage)) time (resume_row plan.now parts.now.views stage time) }
+{
+    match stage {
+        ResumeStage::Enter { call } => parts.resumes(call.dev, call.flags, call.purpose),
+        ResumeStage::Verdict { call, tried } => verdict(plan, parts, call, tried),
+        ResumeStage::Waiting { call, tried } => waiting(plan, parts, call, tried),
+        ResumeStage::Links { call } => links(plan, parts, call, time),
+        ResumeStage::Supplied { call, code } => supplied(plan, parts, call, code, time),
+        ResumeStage::Callback { call } => begins(call, time),
+        ResumeStage::Running { call, since } => running(plan, parts, call, since, time),
+        ResumeStage::Resumed { call } => resumed(call),
+        ResumeStage::Idle { call } => {
+            parts.calls_idle(call.dev, 1, Await::ResumeIdle { call })
+        }
+        ResumeStage::Done { call, code } => returns_from(plan, call, code),
+        ResumeStage::Parent { call, code } => gives_parent(plan, call, code),
+        ResumeStage::Domain { call, code } => domain(plan, parts, call, code),
+        ResumeStage::Unwind { call, code } => unwinds(plan, parts, call, code),
+    }
+}
