@@ -1,0 +1,78 @@
+//! `enable` and `disable` (`runtime_pm.rst`, sections 4 and 5).
+
+ghost use Rattle.std.specs.Prelude.{◌≡◌, ◌<◌, ◌&&◌, length, not};
+ghost use Rattle.pm_model.specs.ControlTable.{disable_ends, disable_starts, disabling, enabling};
+ghost use Rattle.pm_model.specs.Derived.{asks_resume, is_disabled};
+ghost use Rattle.pm_model.specs.Row.{move_of};
+
+use crate::{goes_on, takes, to_resume};
+use pm_base::{DevId, EINVAL, Why};
+use pm_device::{Parts, calls, ret};
+use pm_model::{Await, ControlStage, Event, Helper, Move};
+
+/// `enable`.
+#[tactic(auto, unfolding(pm_model::specs::ControlTable::enabling))]
+pub fn enabling(parts: &Parts, dev: DevId) -> Move
+    requires { dev.0 < length parts.now.shape.parents }
+    ensures { result ≡ move_of (enabling parts.now.views dev) }
+{
+    if parts.is_disabled(dev) {
+        ret(Helper::Enable, dev, 0)
+    } else {
+        ret(Helper::Enable, dev, EINVAL)
+    }
+}
+
+/// [X2]
+#[tactic(auto, unfolding(pm_model::specs::ControlTable::disabling))]
+pub fn disabling(parts: &Parts, dev: DevId) -> Move
+    requires { dev.0 < length parts.now.shape.parents }
+    ensures { result ≡ move_of (disabling parts.now.views dev) }
+{
+    if parts.is_disabled(dev) {
+        return ret(Helper::Disable, dev, 0);
+    }
+    if parts.busy(dev) {
+        return Move::Write(
+            Event::Wait { dev },
+            goes_on(ControlStage::Disabled { dev }),
+        );
+    }
+    ret(Helper::Disable, dev, 0)
+}
+
+// A pending resume is carried out first.
+fn resumes_first(parts: &Parts, dev: DevId) -> bool
+    requires { dev.0 < length parts.now.shape.parents }
+    ensures { result ≡ (not (is_disabled parts.now.views dev) && asks_resume parts.now.views dev) }
+{
+    !parts.is_disabled(dev) && parts.asks_resume(dev)
+}
+
+/// [X1]
+#[tactic(auto, unfolding(pm_model::specs::ControlTable::disable_starts))]
+pub fn disable_starts(parts: &Parts, dev: DevId) -> Move
+    requires { dev.0 < length parts.now.shape.parents }
+    ensures { result ≡ move_of (disable_starts parts.now.views dev) }
+{
+    if resumes_first(parts, dev) {
+        let then = calls(to_resume(dev, 0), Await::DisableResume { dev });
+        return takes(dev, Why::Control, then);
+    }
+    disabling(parts, dev)
+}
+
+/// [X3]
+#[tactic(auto, unfolding(pm_model::specs::ControlTable::disable_ends))]
+pub fn disable_ends(parts: &Parts, dev: DevId) -> Move
+    requires { dev.0 < length parts.now.shape.parents }
+    ensures { result ≡ move_of (disable_ends parts.now.views dev) }
+{
+    if parts.busy(dev) {
+        return Move::Wait(dev);
+    }
+    if parts.is_disabled(dev) {
+        return ret(Helper::Disable, dev, 0);
+    }
+    ret(Helper::Disable, dev, 0)
+}

@@ -1,0 +1,172 @@
+//! The lines of the control functions (`runtime_pm.rst`, sections 4, 5 and 9) and of the topology
+//! helpers, which are this project's own.
+#![tactic(auto)]
+
+ghost use Rattle.std.specs.Prelude.{◌≡◌, ◌<◌, ◌≤◌, ◌^◌, length, nat_abs, true};
+ghost use Rattle.pm_base.specs.declared.limits.TheConstants.{MAX_MS};
+ghost use Rattle.pm_model.specs.declared.event.Event.TheVariants as event;
+ghost use Rattle.pm_model.specs.declared.event.Helper.TheVariants as helper;
+ghost use Rattle.pm_model.specs.declared.stage.Move.TheVariants as move;
+ghost use Rattle.pm_model.specs.declared.stage.Stage.TheVariants as the_stage;
+ghost use Rattle.pm_model.specs.ControlTable.{control_row, control_starts, goes_on};
+ghost use Rattle.pm_model.specs.HelperTable.{returning, to_resume};
+ghost use Rattle.pm_model.specs.IsPlan.{is_command};
+ghost use Rattle.pm_model.specs.Row.{move_of, timed};
+ghost use Rattle.pm_model.specs.World.{due};
+ghost use Rattle.pm_device.specs.Parts.{IsFor};
+ghost use Rattle.pm_control.specs.ControlMove.{HasCommand, device_of};
+
+mod active;
+mod barrier;
+mod disable;
+mod setting;
+mod topology;
+
+use pm_base::{DevId, Why};
+use pm_device::{Parts, goes, ret};
+use pm_model::{
+    Command, ControlStage, Event, Helper, HelperStage, Move, Plan, Purpose, ResumeCall,
+    ResumeStage, Stage, Then, Word,
+};
+
+// A stage of a control function takes the place.
+fn goes_on(stage: ControlStage) -> Then
+    ensures { result ≡ goes_on stage }
+{
+    goes(Stage::Control(stage))
+}
+
+// The return line comes next.
+fn returning(helper: Helper, dev: DevId, code: i32) -> Then
+    ensures { result ≡ returning helper dev code }
+{
+    goes(Stage::Helper(HelperStage::Ret { helper, dev, code }))
+}
+
+// The first stage of a resume for the device itself.
+fn to_resume(dev: DevId, flags: u8) -> Stage
+    ensures { result ≡ to_resume dev flags }
+{
+    Stage::Resume(ResumeStage::Enter {
+        call: ResumeCall {
+            dev,
+            flags,
+            held: false,
+            purpose: Purpose::Plain,
+        },
+    })
+}
+
+// A count is taken for this reason.
+fn takes(dev: DevId, why: Why, then: Then) -> Move
+    ensures { result ≡ move.Write (event.Get dev why) then }
+{
+    Move::Write(Event::Get { dev, why }, then)
+}
+
+// A count that was taken for this reason is given back.
+fn gives(dev: DevId, why: Why, then: Then) -> Move
+    ensures { result ≡ move.Write (event.Put dev why) then }
+{
+    Move::Write(Event::Put { dev, why }, then)
+}
+
+// The status line.
+fn writes_status(dev: DevId, word: Word, then: Then) -> Move
+    ensures { result ≡ move.Write (event.State dev word) then }
+{
+    Move::Write(Event::State { dev, word }, then)
+}
+
+// The supplier that `link_add` names.
+fn added(plan: &Plan, command: Command) -> DevId
+    requires command { is_command (length plan.now.devices) command ≡ true }
+    requires helper { command.helper ≡ helper.LinkAdd }
+    ensures { result ≡ record { 0 = nat_abs command.number } }
+{
+    DevId(command.number.unsigned_abs() as u32)
+}
+
+// The supplier that `link_del` names.
+fn removed(plan: &Plan, command: Command) -> DevId
+    requires command { is_command (length plan.now.devices) command ≡ true }
+    requires helper { command.helper ≡ helper.LinkDel }
+    ensures { result ≡ record { 0 = nat_abs command.number } }
+{
+    DevId(command.number.unsigned_abs() as u32)
+}
+
+// The milliseconds of `schedule_suspend`.
+fn milliseconds(plan: &Plan, command: Command) -> u64
+    requires command { is_command (length plan.now.devices) command ≡ true }
+    requires helper { command.helper ≡ helper.ScheduleSuspend }
+    ensures number { result ≡ nat_abs command.number }
+    ensures most { result ≤ MAX_MS }
+{
+    command.number.unsigned_abs()
+}
+
+// The line after the call line.
+#[tactic(auto, unfolding(pm_model::specs::ControlTable::control_starts))]
+fn starts(plan: &Plan, parts: &Parts, command: Command, time: u64) -> Move
+    requires made_for { IsFor plan.now parts.now.shape }
+    requires in_range { command.dev.0 < length plan.now.devices }
+    requires command { is_command (length plan.now.devices) command ≡ true }
+    requires in_time { time < 2 ^ 63 }
+    ensures { result ≡ move_of (control_starts plan.now parts.now.views command time) }
+{
+    let Command { helper, dev, number } = command;
+    let device = parts.device(dev);
+    match helper {
+        Helper::ScheduleSuspend => {
+            let ms = milliseconds(plan, command);
+            setting::schedules(plan, parts, dev, ms, time)
+        }
+        Helper::Enable => disable::enabling(parts, dev),
+        Helper::Disable => disable::disable_starts(parts, dev),
+        Helper::Barrier => {
+            takes(dev, Why::Control, goes_on(ControlStage::BarrierResume { dev }))
+        }
+        Helper::SetActive => active::active_starts(plan, parts, dev),
+        Helper::SetSuspended => active::suspended_starts(parts, dev),
+        Helper::Allow => setting::allowing(parts, dev),
+        Helper::Forbid => setting::forbidding(parts, dev),
+        Helper::UseAutosuspend => setting::sets(parts, helper, dev, true, device.delay),
+        Helper::DontUseAutosuspend => setting::sets(parts, helper, dev, false, device.delay),
+        Helper::SetAutosuspendDelay => {
+            setting::sets(parts, helper, dev, device.use_auto, number)
+        }
+        Helper::LinkAdd => topology::link_adds(plan, parts, dev, added(plan, command)),
+        Helper::LinkDel => topology::link_dels(plan, parts, dev, removed(plan, command)),
+        _ => ret(helper, dev, 0),
+    }
+}
+
+/// The only move at a stage of a control function: its line, with what takes the stage's place; or the
+/// device for which it waits. `time` is in milliseconds of the run. It takes no memory.
+pub fn next(plan: &Plan, parts: &Parts, stage: ControlStage, time: u64) -> Move
+    requires made_for { IsFor plan.now parts.now.shape }
+    requires in_range { (device_of stage).0 < length plan.now.devices }
+    requires command { HasCommand (length plan.now.devices) stage }
+    requires in_time { time < 2 ^ 63 }
+    ensures { result ≡ timed (due plan.now parts.now.views (the_stage.Control stage)) time (control_row plan.now parts.now.views stage time) }
+{
+    match stage {
+        ControlStage::Start { command } => starts(plan, parts, command, time),
+        ControlStage::DisableGiven { dev } => {
+            gives(dev, Why::Control, goes_on(ControlStage::Disable { dev }))
+        }
+        ControlStage::Disable { dev } => disable::disabling(parts, dev),
+        ControlStage::Disabled { dev } => disable::disable_ends(parts, dev),
+        ControlStage::BarrierResume { dev } => barrier::barrier_resumes(plan, parts, dev),
+        ControlStage::BarrierIdle { dev, code } => barrier::barrier_idles(parts, dev, code),
+        ControlStage::BarrierWait { dev, code } => barrier::barrier_ends(parts, dev, code),
+        ControlStage::ActiveLinks { dev } => active::active_links(plan, parts, dev),
+        ControlStage::ActiveUnwind { dev, code } => {
+            active::active_unwinds(plan, parts, dev, code)
+        }
+        ControlStage::SuppliersIdle { dev, last } => {
+            active::suppliers_idle(plan, parts, dev, last)
+        }
+    }
+}
