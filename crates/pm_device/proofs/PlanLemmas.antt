@@ -4,6 +4,7 @@ use Rattle.std.specs.List.{list_all}
 use Rattle.std.specs.Option.{option_map_or}
 use Rattle.std.proofs.lemmas.Bool.{and_parts, ltb-true}
 use Rattle.std.proofs.lemmas.Grind.{common_steps}
+use Rattle.std.proofs.lemmas.Option.{slice_get-get_or}
 use Rattle.pm_base.specs.declared.DevId.{DevId}
 use Rattle.pm_base.specs.declared.limits.TheConstants.{MAX_DEVICES, MAX_MS}
 use Rattle.pm_model.specs.declared.plan.Plan.{Plan}
@@ -12,6 +13,8 @@ use Rattle.pm_model.specs.declared.rows.DeviceRow.{DeviceRow}
 use Rattle.pm_model.specs.declared.rows.DomainRow.{DomainRow}
 use Rattle.pm_model.specs.declared.rows.LinkRow.{LinkRow}
 use Rattle.pm_model.specs.IsPlan.{each_at, is_device, is_link, is_plan}
+use Rattle.pm_link.specs.LinkOrder.{supplier_at}
+use Rattle.pm_link.specs.Links.{no_link, row_at}
 
 each_row : {A : Type 0} (test : ℕ → A → Bool) (i n : ℕ) (rows : List A) (row : A) → each_at test i rows ≡ true → slice_get rows n ≡ Some row → test (i + n) row ≡ true
 each_row test i n [] row all is = cc
@@ -59,3 +62,6 @@ ends_in devices row law = grind (arith, common_steps)
 pub supplier_in_range : (plan : Plan) (l : ℕ) (row : LinkRow) → slice_get plan.links l ≡ Some row → row.supplier.0 < length plan.devices
 supplier_in_range plan l row is =
     ends_in plan.devices row (each_item (is_link plan.devices) l plan.links row (links_law plan.lines plan.trace plan.domains plan.devices plan.links plan.callers plan.law) is)
+
+pub supplier_at_in_range : (plan : Plan) (l : ℕ) → l < length plan.links → supplier_at plan.links l < length plan.devices
+supplier_at_in_range plan l below = supplier_in_range plan l (row_at plan.links l) (slice_get-get_or plan.links l no_link below)

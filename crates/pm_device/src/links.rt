@@ -1,10 +1,13 @@
 //! The links of a device among the counters (`device_link.rst`).
 
-ghost use Rattle.std.specs.Prelude.{◌≡◌, ◌<◌, IfSome, length, option_map};
-ghost use Rattle.pm_link.specs.Links.{with_supplier};
+ghost use Rattle.std.specs.Prelude.{◌≡◌, ◌<◌, true, IfSome, length, option_map};
+ghost use Rattle.pm_link.specs.Links.{bit_at, row_at, with_supplier};
 ghost use Rattle.pm_model.specs.Changes.{set_held, set_present};
 ghost use Rattle.pm_model.specs.ControlTable.{is_pair_in, may_be_absent};
 ghost use Rattle.pm_model.specs.Derived.{first_free, first_held, has_link, next_supplier};
+ghost use Rattle.pm_model.specs.Events.{frees_links};
+ghost use Rattle.pm_model.specs.Views.{device};
+ghost use Rattle.pm_device.specs.Fitting.{CanFree, gives_link};
 ghost use Rattle.pm_device.specs.Parts.{IsFor};
 
 use crate::Parts;
@@ -104,5 +107,31 @@ impl Parts {
         ensures { result ≡ is_pair_in plan.now consumer supplier self.now.views.held }
     {
         self.links.is_held(plan, consumer, supplier)
+    }
+
+    // A held link is free, and its supplier has its count back.
+    fn give_link(&mut self, plan: &Plan, link: usize)
+        requires made_for { IsFor plan.now self.old.shape }
+        requires in_plan { link < length plan.now.links }
+        requires in_range { link < length self.old.views.held }
+        requires held { bit_at self.old.views.held link ≡ true }
+        requires taken { 0 < (device self.old.views (row_at plan.now.links link).supplier).usage }
+        ensures { self.new ≡ record self.old { views = gives_link plan.now link self.old.views } }
+    {
+        self.give_count(plan.links.as_slice()[link].supplier);
+        self.links.give(link);
+    }
+
+    /// Every held link of a consumer is free, present or not and whatever its flags, and each supplier
+    /// has its count back (`device_link.rst`; that each was taken is a law of whole runs). It looks at
+    /// this consumer's links alone, anew for each that was held.
+    pub fn free_links(&mut self, plan: &Plan, consumer: DevId)
+        requires made_for { IsFor plan.now self.old.shape }
+        requires taken { CanFree plan.now self.old.views consumer }
+        ensures { self.new ≡ record self.old { views = frees_links plan.now consumer self.old.views } }
+    {
+        while let Some(link) = self.links.first_taken(plan, consumer) {
+            self.give_link(plan, link);
+        }
     }
 }

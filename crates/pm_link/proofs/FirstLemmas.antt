@@ -10,7 +10,7 @@ use Rattle.pm_model.specs.Derived.{least_link, nearer}
 use Rattle.pm_model.specs.PlanRows.{is_of_pair}
 use Rattle.pm_lists.proofs.PlaceNamed.{position-first, position-none}
 use Rattle.pm_link.specs.declared.search.Want.{Want}
-use Rattle.pm_link.specs.declared.search.Want.TheVariants.{Held, Free, Above, To}
+use Rattle.pm_link.specs.declared.search.Want.TheVariants.{Held, Free, Above, To, Taken}
 use Rattle.pm_link.specs.Links.{no_link, row_at, with_supplier}
 use Rattle.pm_link.specs.LinkOrder.{IsFirst, IsNoFurther, IsOwn, consumer_at, supplier_at}
 use Rattle.pm_link.specs.Wanted.{is_wanted, is_wanted_at}
@@ -24,6 +24,7 @@ wanted_own Held d row held present pass = eqb-true row.consumer.0 d.0 (and_parts
 wanted_own Free d row held present pass = eqb-true row.consumer.0 d.0 (and_parts _ _ (and_parts _ _ (and_parts _ _ pass).0).0).0
 wanted_own (Above last) d row held present pass = eqb-true row.consumer.0 d.0 (and_parts _ _ (and_parts _ _ (and_parts _ _ pass).0).0).0
 wanted_own (To supplier) d row held present pass = eqb-true row.consumer.0 d.0 (and_parts _ _ pass).0
+wanted_own Taken d row held present pass = eqb-true row.consumer.0 d.0 (and_parts _ _ pass).0
 
 pub is_wanted_own : (want : Want) (d : DevId) (rows : List LinkRow) (held present : List Bool) → ArePassesOf (is_wanted_at want d rows held present) rows d
 is_wanted_own want d rows held present link pass = wanted_own want d (row_at rows link) (get_or held link false) (get_or present link false) pass

@@ -11,7 +11,7 @@ ghost use Rattle.pm_model.specs.PlanRows.{is_of_pair};
 ghost use Rattle.pm_model.specs.Views.{Views};
 ghost use Rattle.pm_link.specs.LinkOrder.{IsFirst};
 ghost use Rattle.pm_link.specs.Links.{IsPlace, SetsPair, bit_at, fresh_links, row_at, with_supplier};
-ghost use Rattle.pm_link.specs.Wanted.{is_wanted_at};
+ghost use Rattle.pm_link.specs.Wanted.{is_taken_at, is_wanted_at};
 
 mod order;
 mod search;
@@ -187,6 +187,16 @@ impl Links {
         ensures present_len { length self.now.present ≡ length plan.now.links }
     {
         self.first(plan, consumer, Want::To(supplier))
+    }
+
+    /// The held link of a consumer that has the least supplier, present or not and whatever its flags.
+    pub fn first_taken(&self, plan: &Plan, dev: DevId) -> Option<usize>
+        requires made_for { self.now.rows ≡ plan.now.links }
+        ensures in_range { IfSome result (IsPlace self.now) }
+        ensures first { IsFirst (is_taken_at dev plan.now.links self.now.held) plan.now.links result }
+        ensures held_len { length self.now.held ≡ length plan.now.links }
+    {
+        self.first(plan, dev, Want::Taken)
     }
 
     /// The link of a pair becomes held or free, if there is one.

@@ -19,6 +19,8 @@ pub enum Want {
     Above(Option<DevId>),
     /// One to this supplier, whatever it is.
     To(DevId),
+    /// One that is held, whatever it is.
+    Taken,
 }
 
 // Whether a device stands behind the last one.
@@ -41,6 +43,7 @@ fn is_wanted(want: Want, dev: DevId, row: LinkRow, held: bool, present: bool) ->
         Want::Free => is_link && !held,
         Want::Above(last) => is_link && is_above(last, row.supplier),
         Want::To(supplier) => row.consumer.0 == dev.0 && row.supplier.0 == supplier.0,
+        Want::Taken => row.consumer.0 == dev.0 && held,
     }
 }
 

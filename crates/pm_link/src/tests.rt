@@ -119,11 +119,18 @@ fn pairs_are_found_and_a_consumer_freed(rt: HostRuntime) -> Result<(), Fail> {
     assert_eq!(rt; links.find(&plan, e, DevId(3)), Some(3));
     assert_eq!(rt; links.find(&plan, e, DevId(0)), Some(1));
     assert_eq!(rt; links.find(&plan, DevId(3), e), None);
+    assert_eq!(rt; links.first_taken(&plan, e), None);
+    assert!(rt; !links.held(3));
+    links.take(3);
+    assert_eq!(rt; links.first_taken(&plan, e), Some(3));
+    assert_eq!(rt; links.first_held(&plan, e), None);
     assert!(rt; !links.held(0));
     links.take(0);
+    assert_eq!(rt; links.first_taken(&plan, e), Some(0));
     assert!(rt; !links.held(2));
     links.take(2);
     links.free_all(&plan, e);
+    assert_eq!(rt; links.first_taken(&plan, e), None);
     assert_eq!(rt; links.first_held(&plan, e), None);
     assert_eq!(rt; links.first_held(&plan, DevId(3)), Some(2));
     Ok(())
