@@ -19,7 +19,11 @@ use pm_model::{
 fn forces_active(dev: DevId) -> Move
     ensures { result ≡ move_of (forces_active dev) }
 {
-    writes_status(dev, Word::ForcedActive, returning(Helper::SetActive, dev, 0))
+    writes_status(
+        dev,
+        Word::ForcedActive,
+        returning(Helper::SetActive, dev, 0),
+    )
 }
 
 /// [A1]
@@ -36,7 +40,11 @@ pub fn active_starts(plan: &Plan, parts: &Parts, dev: DevId) -> Move
         return forces_active(dev);
     }
     if parts.has_link(plan, dev) {
-        return writes_status(dev, Word::Resuming, goes_on(ControlStage::ActiveLinks { dev }));
+        return writes_status(
+            dev,
+            Word::Resuming,
+            goes_on(ControlStage::ActiveLinks { dev }),
+        );
     }
     if parts.awaits_parent(plan, dev) {
         return ret(Helper::SetActive, dev, EBUSY);
@@ -63,7 +71,11 @@ pub fn active_unwinds(plan: &Plan, parts: &Parts, dev: DevId, code: i32) -> Move
                 calls(given, Await::ActiveUnwind { dev, code }),
             )
         }
-        None => writes_status(dev, Word::Suspended, returning(Helper::SetActive, dev, code)),
+        None => writes_status(
+            dev,
+            Word::Suspended,
+            returning(Helper::SetActive, dev, code),
+        ),
     }
 }
 

@@ -33,10 +33,7 @@ pub fn disabling(parts: &Parts, dev: DevId) -> Move
         return ret(Helper::Disable, dev, 0);
     }
     if parts.busy(dev) {
-        return Move::Write(
-            Event::Wait { dev },
-            goes_on(ControlStage::Disabled { dev }),
-        );
+        return Move::Write(Event::Wait { dev }, goes_on(ControlStage::Disabled { dev }));
     }
     ret(Helper::Disable, dev, 0)
 }

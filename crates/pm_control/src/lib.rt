@@ -115,7 +115,11 @@ fn starts(plan: &Plan, parts: &Parts, command: Command, time: u64) -> Move
     requires in_time { time < 2 ^ 63 }
     ensures { result ≡ move_of (control_starts plan.now parts.now.views command time) }
 {
-    let Command { helper, dev, number } = command;
+    let Command {
+        helper,
+        dev,
+        number,
+    } = command;
     let device = parts.device(dev);
     match helper {
         Helper::ScheduleSuspend => {
@@ -125,7 +129,11 @@ fn starts(plan: &Plan, parts: &Parts, command: Command, time: u64) -> Move
         Helper::Enable => disable::enabling(parts, dev),
         Helper::Disable => disable::disable_starts(parts, dev),
         Helper::Barrier => {
-            takes(dev, Why::Control, goes_on(ControlStage::BarrierResume { dev }))
+            takes(
+                dev,
+                Why::Control,
+                goes_on(ControlStage::BarrierResume { dev }),
+            )
         }
         Helper::SetActive => active::active_starts(plan, parts, dev),
         Helper::SetSuspended => active::suspended_starts(parts, dev),

@@ -60,10 +60,10 @@ counted_with : (d : DevId) (parent : Option DevId) (children : List ℕ) (y x : 
 counted_with d None children y x n m within count change = omega arith
 counted_with d (Some p) children y x n m within count change = elim (eqb_tells p.0 d.0) [
   | inl own ↦
-    let at : child_count_at (slice_set children p.0 (recounted (child_count_at children p.0) (counts y.status) (counts x.status))) d.0 ≡ recounted (child_count_at children p.0) (counts y.status) (counts x.status) =
-        get_or-set_at children p.0 d.0 _ 0 (sym own.1) (subst (λ k. k < length children) (sym own.1) within) in
-    let here : child_count_at children p.0 ≡ n = ap (child_count_at children) own.1 ∙ count in
-    at ∙ ap (λ k. recounted k (counts y.status) (counts x.status)) here ∙ finish (counts y.status) (counts x.status) (own_child d p y own.0) (own_child d p x own.0)
+      let at : child_count_at (slice_set children p.0 (recounted (child_count_at children p.0) (counts y.status) (counts x.status))) d.0 ≡ recounted (child_count_at children p.0) (counts y.status) (counts x.status) =
+      get_or-set_at children p.0 d.0 _ 0 (sym own.1) (subst (λ k. k < length children) (sym own.1) within) in
+      let here : child_count_at children p.0 ≡ n = ap (child_count_at children) own.1 ∙ count in
+      at ∙ ap (λ k. recounted k (counts y.status) (counts x.status)) here ∙ finish (counts y.status) (counts x.status) (own_child d p y own.0) (own_child d p x own.0)
   | inr other ↦ get_or-set_other children p.0 d.0 _ 0 (λ e. other.1 (sym e)) ∙ count ∙ omega (arith, change, other_child d p y other.0, other_child d p x other.0)
 ]
   where
@@ -109,12 +109,15 @@ child_is_counted parents devices pending timers on below children quiet kept i p
     let below : p.0 < length children = omega (arith, kept.devices_len, kept.children_len) in
     let most : children_of parents devices p ≤ length parents = omega (arith, count_by-le-length (λ q. is_child p q.0 q.1) (zip parents devices), length-zip parents devices, kept.devices_len) in
     let none : bit (is_child p (Some p) fresh_device) ≡ 0 = own_child p p fresh_device (eq_self p.0) in
-    let change = children-set p parents devices i fresh_device within kept.devices_len in
-    (below, omega (arith, kept.counted p below, kept.few), λ counts_true.
-        let one : bit (is_child p (parent_at parents i) (device_at devices i)) ≡ 1 =
-            ap (λ o. bit (is_child p o (device_at devices i))) is ∙ own_child p p (device_at devices i) (eq_self p.0) ∙ ap bit counts_true in
-        let other : bit (is_child p (parent_at parents i) fresh_device) ≡ 0 = ap (λ o. bit (is_child p o fresh_device)) is ∙ none in
-        omega (arith, kept.counted p below, change, one, other))
+    let change = children-set p parents devices i fresh_device within kept.devices_len in (
+      below,
+      omega (arith, kept.counted p below, kept.few),
+      λ counts_true.
+          let one : bit (is_child p (parent_at parents i) (device_at devices i)) ≡ 1 =
+          ap (λ o. bit (is_child p o (device_at devices i))) is ∙ own_child p p (device_at devices i) (eq_self p.0) ∙ ap bit counts_true in
+          let other : bit (is_child p (parent_at parents i) fresh_device) ≡ 0 = ap (λ o. bit (is_child p o fresh_device)) is ∙ none in
+          omega (arith, kept.counted p below, change, one, other),
+    )
 
 counted_rows : (rows : List DeviceRow) (devices : List Device) (d : DevId) → count_by (λ p. is_counted_child d p.0 p.1) (zip rows devices) ≡ children_of (map (λ row. row.parent) rows) devices d
 counted_rows [] devices d = refl

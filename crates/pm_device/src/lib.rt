@@ -18,16 +18,16 @@ mod rows;
 
 pub use guards::{has, may_not_wait, prevented};
 pub use moves::{back, calls, goes, ret, returns};
-pub use rows::{
-    code_of, domain, has_domain, has_idle, has_parent, marks_busy, ms_of, no_callbacks, parent, parent_of,
-};
-
 use pm_base::{DevId, NoMemory, Status};
 use pm_domain::Domains;
 use pm_link::Links;
 use pm_model::{Device, Plan};
 use pm_request::Requests;
 use pm_timer::Timers;
+pub use rows::{
+    code_of, domain, has_domain, has_idle, has_parent, marks_busy, ms_of, no_callbacks, parent,
+    parent_of,
+};
 use std::alloc::Global;
 use std::marker::Model;
 

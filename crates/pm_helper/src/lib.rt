@@ -80,7 +80,11 @@ fn returning(helper: Helper, dev: DevId, code: i32) -> Then
 fn begins(command: Command, time: u64) -> Then
     ensures { result ≡ begins command time }
 {
-    let Command { helper, dev, number } = command;
+    let Command {
+        helper,
+        dev,
+        number,
+    } = command;
     let flags = flags_of(helper);
     let its_code = Await::Return { helper, dev };
     match helper {

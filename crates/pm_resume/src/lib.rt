@@ -423,9 +423,7 @@ pub fn next(plan: &Plan, parts: &Parts, stage: ResumeStage, time: u64) -> Move
         ResumeStage::Callback { call } => begins(call, time),
         ResumeStage::Running { call, since } => running(plan, parts, call, since, time),
         ResumeStage::Resumed { call } => resumed(call),
-        ResumeStage::Idle { call } => {
-            parts.calls_idle(call.dev, 1, Await::ResumeIdle { call })
-        }
+        ResumeStage::Idle { call } => { parts.calls_idle(call.dev, 1, Await::ResumeIdle { call }) }
         ResumeStage::Done { call, code } => returns_from(plan, call, code),
         ResumeStage::Parent { call, code } => gives_parent(plan, call, code),
         ResumeStage::Domain { call, code } => domain(plan, parts, call, code),

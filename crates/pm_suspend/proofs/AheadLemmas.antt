@@ -72,8 +72,10 @@ ended_expiry plan d c t v within = go (int_eq c (pos 0)) (is_try_again c)
   where
     marked : Views
     marked = callback_marks plan d t v
+
     inside : d.0 < length marked.devices
     inside = subst (λ n. d.0 < n) (sym (length-marked plan d t v)) within
+
     go : (ok again : Bool)
         → expiry (let w = if ok then marked else if again then set_deferred false d marked else cancel d (set_deferred false d marked) in if ok then w else suspend_failed d c w) d
         ≡ expiry_of (device v d).use_auto (device v d).delay (if marks_busy plan d then t else (device v d).last_busy)

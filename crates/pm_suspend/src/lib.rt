@@ -22,9 +22,13 @@ ghost use Rattle.pm_device.specs.Parts.{IsFor};
 ghost use Rattle.pm_suspend.specs.SuspendMove.{CanTell, device_of, expiry_of, last_mark};
 
 use pm_base::{ASYNC, AUTO, Cb, DevId, EAGAIN, EBUSY, EINPROGRESS, Req, Why};
-use pm_device::{Parts, calls, goes, has, has_domain, marks_busy, may_not_wait, ms_of, no_callbacks, parent_of, returns};
+use pm_device::{
+    Parts, calls, goes, has, has_domain, marks_busy, may_not_wait, ms_of, no_callbacks, parent_of,
+    returns,
+};
 use pm_model::{
-    Await, Event, IdleStage, Move, Plan, Purpose, Stage, SuspendStage, Then, TimerAct, Word, WorkAct,
+    Await, Event, IdleStage, Move, Plan, Purpose, Stage, SuspendStage, Then, TimerAct, Word,
+    WorkAct,
 };
 
 // A stage of suspend takes the place.
@@ -184,7 +188,9 @@ fn ends(plan: &Plan, parts: &Parts, dev: DevId, flags: u8, time: u64) -> Move
     ensures { result ≡ move_of (suspend_ends plan.now parts.now.views dev flags time) }
 {
     let code = parts.callback_code(plan, Cb::Suspend, dev);
-    let again = is_try_again(code) && has(flags, AUTO) && is_ahead_after(plan, parts, dev, code, time);
+    let again = is_try_again(code)
+        && has(flags, AUTO)
+        && is_ahead_after(plan, parts, dev, code, time);
     let next = if code == 0 {
         SuspendStage::Domain { dev, flags }
     } else if again {
@@ -323,7 +329,12 @@ pub fn next(plan: &Plan, parts: &Parts, stage: SuspendStage, time: u64) -> Move
         SuspendStage::Domain { dev, flags } => domain(plan, parts, dev, flags),
         SuspendStage::Links { dev, flags } => links(plan, parts, dev, flags),
         SuspendStage::Deferred { dev, flags } => {
-            parts.calls_resume(dev, 0, Purpose::Plain, Await::SuspendDeferred { dev, flags })
+            parts.calls_resume(
+                dev,
+                0,
+                Purpose::Plain,
+                Await::SuspendDeferred { dev, flags },
+            )
         }
         SuspendStage::Parent { dev, flags } => parent(plan, parts, dev, flags),
         SuspendStage::Done { dev, code, .. } => returns(Cb::Suspend, dev, code),
