@@ -13,8 +13,8 @@ use pm_base::{Cb, DevId, EAGAIN, EBUSY, Req, Status, Why};
 use pm_device::Parts;
 use pm_model::{Event, Plan, TimerAct, Word, WorkAct};
 
-// Whether a suspend callback that answers this code leaves its device active without an error.
-fn is_try_again(code: i32) -> bool
+/// Whether a suspend callback that answers this code leaves its device active without an error.
+pub fn is_try_again(code: i32) -> bool
     ensures { result ≡ is_try_again code }
 {
     code == EAGAIN || code == EBUSY
