@@ -1,0 +1,5 @@
+pub mod Shared
+pub mod Readers
+pub mod Numbers
+pub mod Places
+pub mod Parts
