@@ -3,3 +3,4 @@ pub mod Readers
 pub mod Numbers
 pub mod Places
 pub mod Parts
+pub mod Events

@@ -290,3 +290,13 @@ reads-along read Spells Others to from reads = record {
   reached = λ bytes left h. let (t, c, s, near) = reads.reached bytes left h in (t, c, to t c s, near);
   some = let (t, c, s) = reads.some in (t, c, to t c s);
 }
+
+-- the same reader in other words
+pub reads-same : {C : Type 0} (read other : List ℕ → Result C ℕ) (Spells : List ℕ → C → Type 0) → ((bytes : List ℕ) → other bytes ≡ read bytes) → Reads read Spells → Reads other Spells
+reads-same read other Spells same reads = record {
+  sound = λ bytes c h. reads.sound bytes c (sym (same bytes) ∙ h);
+  complete = λ bytes c s. same bytes ∙ reads.complete bytes c s;
+  most = λ bytes left h t c s. reads.most bytes left (sym (same bytes) ∙ h) t c s;
+  reached = λ bytes left h. reads.reached bytes left (sym (same bytes) ∙ h);
+  some = reads.some;
+}
