@@ -4,3 +4,5 @@ pub mod Numbers
 pub mod Places
 pub mod Parts
 pub mod Events
+pub mod Lines
+pub mod PlanNames
