@@ -1,8 +1,10 @@
+pub mod PieceLemmas
+pub mod LiteralLemmas
 pub mod Shared
 pub mod Readers
 pub mod Numbers
 pub mod Places
 pub mod Parts
-pub mod Events
-pub mod Lines
+pub mod EventReads
+pub mod LineReads
 pub mod PlanNames

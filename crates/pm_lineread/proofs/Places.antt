@@ -64,6 +64,9 @@ placed_err : (found : Option ℕ) (rest : List ℕ) (left n : ℕ) → placed fo
 placed_err None rest left n h = (refl, cc)
 placed_err (Some p) rest left n h = (cc)
 
+pub common_len_fits : (bytes : List ℕ) (words : List (List ℕ)) → common_len bytes words ≤ length bytes
+common_len_fits bytes words = common_len-le bytes words (length bytes) (λ place within. shared-le bytes (slice_index_or words place []))
+
 -- some word has the most in common
 common_len_there : (bytes : List ℕ) (words : List (List ℕ)) → 0 < length words → (place : ℕ) × (place < length words) × (common_len bytes words ≤ shared bytes (slice_index_or words place []))
 common_len_there bytes [] some = absurd (omega arith)
@@ -104,9 +107,6 @@ module _ (words : List (List ℕ)) (stop : ℕ) (distinct : all_distinct words �
   place_complete place rest is stops =
       place_at_word words stop (word_of place) rest (word_is_clean place is) stops ∙ rw (place_of_its_word place is) refl
 
-  common_len_fits : (bytes : List ℕ) → common_len bytes words ≤ length bytes
-  common_len_fits bytes = common_len-le bytes words (length bytes) (λ place within. shared-le bytes (word_of place))
-
   -- where it fails, the word before the stop is none of the words
   record NoPlace (bytes : List ℕ) (left : ℕ) : Type 0 where
     parts : Split stop bytes
@@ -132,7 +132,7 @@ module _ (words : List (List ℕ)) (stop : ℕ) (distinct : all_distinct words �
             absurd (cc (found, missing))
         | inr less ↦
             let here : shared bytes (word_of place ++ rest) ≤ shared bytes (word_of place) = rw none.parts.whole less in
-            omega (arith, here, most, none.count, common_len_fits bytes)
+            omega (arith, here, most, none.count, common_len_fits bytes words)
       ]
 
   place_reached : (bytes : List ℕ) (left : ℕ) → place_at words stop bytes ≡ Err left → (place : ℕ) × (IsPlace place ≡ true) × (length bytes ≤ shared bytes (word_of place) + left)

@@ -13,7 +13,7 @@ use Rattle.pm_model.specs.declared.rows.DeviceRow.{DeviceRow}
 use Rattle.pm_model.specs.declared.rows.DomainRow.{DomainRow}
 use Rattle.pm_model.specs.declared.rows.LinkRow.{LinkRow}
 use Rattle.pm_names.specs.Table.{all_distinct}
-use Rattle.pm_lineread.proofs.Lines.{AreNames}
+use Rattle.pm_lineread.proofs.LineReads.{AreNames}
 use Rattle.pm_lineread.proofs.Shared.{is_clean}
 
 -- no byte of a name is a stop that is no byte of names

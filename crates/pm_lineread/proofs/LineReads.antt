@@ -22,7 +22,7 @@ use Rattle.pm_linetext.proofs.Passing.{list_all_get_or}
 use Rattle.pm_names.specs.Table.{all_distinct}
 use Rattle.pm_lineread.specs.Pieces.{◌>>=◌, either_of, ended, ends, literal_at, number_at, place_at}
 use Rattle.pm_lineread.specs.Reading.{any_event_at, caller_at, caller_step_at, delay_at, delay_call_at, device_at, device_step_at, event_at, line_at, signed_at, some_line_at, step_at, step_of, word_at}
-use Rattle.pm_lineread.proofs.Events.{any_event_reads}
+use Rattle.pm_lineread.proofs.EventReads.{any_event_reads}
 use Rattle.pm_lineread.proofs.Parts.{Begins, IsWord, Spelled, clash, decimal_reads, one_word_reads, signed_reads, word_begins}
 use Rattle.pm_lineread.proofs.Places.{no_word, place_reads}
 use Rattle.pm_lineread.proofs.Readers.{AfterLiteral, AfterWord, Reads, ReadsWord, either_reads, literal_reads, made_reads, reads-along, reads-same, word_reads}
