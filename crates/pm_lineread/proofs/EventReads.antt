@@ -29,7 +29,7 @@ use Rattle.pm_model.specs.declared.event.WorkAct.{WorkAct}
 use Rattle.pm_names.specs.Words.{cb_words, event_words, helper_words, status_words}
 use Rattle.pm_lineread.specs.Kinds.{all_kinds}
 use Rattle.pm_lineread.specs.Pieces.{◌>>=◌, either_of, ended, ends, item_at, literal_at}
-use Rattle.pm_lineread.specs.Reading.{act_at, any_event_at, arm_at, call_at, callback_at, command_of, count_at, delay_at, delay_call_at, device_at, device_command_at, device_ret_at, domain_at, end_at, event_at, event_of, fields_at, fire_at, get_at, helper_at, operand_at, payload_at, put_at, ret_at, return_at, signed_at, state_at, switched_at, timer_at, wait_at, why_at, word_at, work_at}
+use Rattle.pm_lineread.specs.Reading.{act_at, any_event_at, arm_at, call_at, callback_at, command_of, count_at, delay_at, delay_call_at, device_at, device_command_at, device_ret_at, domain_at, end_at, event_at, event_of, fields_at, fire_at, get_at, helper_at, idle_at, operand_at, payload_at, put_at, resume_at, ret_at, return_at, signed_at, state_at, suspend_at, switched_at, timer_at, usage_at, wait_at, why_at, word_at, work_at}
 use Rattle.pm_lineread.specs.declared.kinds.Kind.{Kind}
 use Rattle.pm_lineread.specs.declared.kinds.Kind.TheVariants as kind
 use Rattle.pm_lineread.proofs.Parts.{Begins, IsEnd, IsWord, Spelled, act_reads, clash, count_from, count_parts, count_reads, end_stops, fields_reads, fields_text, one_word_reads, operand_reads, signed_reads, timer_act_reads, why_reads, word_begins}
@@ -265,14 +265,27 @@ module _ (names : Names) (devices : ReadsWord 32 (device_at names) (λ d. nat_lt
   abbrev IsPayload : (DevId → Fields → Event) → List ℕ → Event → Type 0
   IsPayload make = FromDevice (λ d t e. (f : Fields) × Spelled are_fields fields_text t f × (e ≡ make (record { 0 = d }) f))
 
-  payload_reads : (make : DevId → Fields → Event) → Reads (payload_at names make) (IsPayload make)
-  unfolding payload_at
-  payload_reads make =
-      word_reads 32 _ _ _ devices _ (λ d t e. (f : Fields) × Spelled are_fields fields_text t f × (e ≡ make (record { 0 = d }) f))
-        (λ d is. made_reads fields_at _ fields_reads (make (record { 0 = d })))
-        (λ d t e s. rw s.1.1 refl)
+  abbrev IsPair : List ℕ → DevId × Fields → Type 0
+  IsPair = AfterWord IsDevice (device_name names) (λ d t x. (f : Fields) × Spelled are_fields fields_text t f × (x ≡ (record { 0 = d }, f)))
 
-  usage_reads : Reads (payload_at names event.Usage) (IsRest kind.Usage)
+  pair_reads : Reads (payload_at names) IsPair
+  unfolding payload_at
+  pair_reads =
+      word_reads 32 _ _ _ devices _ (λ d t x. (f : Fields) × Spelled are_fields fields_text t f × (x ≡ (record { 0 = d }, f)))
+        (λ d is. made_reads fields_at _ fields_reads (λ f. (record { 0 = d }, f)))
+        (λ d t x s. rw s.1.1 refl)
+
+  payload_reads : (make : DevId → Fields → Event) → Reads (λ bytes. payload_at names bytes >>= (λ x. Ok (make x.0 x.1))) (IsPayload make)
+  payload_reads make = reads-along _ (λ t e. (x : DevId × Fields) × IsPair t x × (e ≡ make x.0 x.1)) _ to from (made_reads (payload_at names) IsPair pair_reads (λ x. make x.0 x.1))
+    where
+      to : (t : List ℕ) (e : Event) → (x : DevId × Fields) × IsPair t x × (e ≡ make x.0 x.1) → IsPayload make t e
+      to t e (x, (d, r, is, name, (f, spelled, pair)), made_of) = (d, r, is, name, (f, spelled, made_of ∙ ap (λ y. make y.0 y.1) pair))
+
+      from : (t : List ℕ) (e : Event) → IsPayload make t e → (x : DevId × Fields) × IsPair t x × (e ≡ make x.0 x.1)
+      from t e (d, r, is, name, (f, spelled, made_of)) = ((record { 0 = d }, f), (d, r, is, name, (f, spelled, refl)), made_of)
+
+  usage_reads : Reads (usage_at names) (IsRest kind.Usage)
+  unfolding usage_at
   usage_reads = reads-along _ _ _ to from (payload_reads event.Usage)
     where
       to : (t : List ℕ) (e : Event) → IsPayload event.Usage t e → IsRest kind.Usage t e
@@ -282,7 +295,8 @@ module _ (names : Names) (devices : ReadsWord 32 (device_at names) (λ d. nat_lt
       from t (event.Usage d f) (_, valid, whole) = let (is, fits) = and_parts (IsDevice d.0) (are_fields f) valid in (d.0, _, is, whole, (f, (fits, refl), refl))
       from t _ (other, valid, whole) = (cc)
 
-  idle_reads : Reads (payload_at names event.Idle) (IsRest kind.Idle)
+  idle_reads : Reads (idle_at names) (IsRest kind.Idle)
+  unfolding idle_at
   idle_reads = reads-along _ _ _ to from (payload_reads event.Idle)
     where
       to : (t : List ℕ) (e : Event) → IsPayload event.Idle t e → IsRest kind.Idle t e
@@ -292,7 +306,8 @@ module _ (names : Names) (devices : ReadsWord 32 (device_at names) (λ d. nat_lt
       from t (event.Idle d f) (_, valid, whole) = let (is, fits) = and_parts (IsDevice d.0) (are_fields f) valid in (d.0, _, is, whole, (f, (fits, refl), refl))
       from t _ (other, valid, whole) = (cc)
 
-  suspend_reads : Reads (payload_at names event.Suspend) (IsRest kind.Suspend)
+  suspend_reads : Reads (suspend_at names) (IsRest kind.Suspend)
+  unfolding suspend_at
   suspend_reads = reads-along _ _ _ to from (payload_reads event.Suspend)
     where
       to : (t : List ℕ) (e : Event) → IsPayload event.Suspend t e → IsRest kind.Suspend t e
@@ -302,7 +317,8 @@ module _ (names : Names) (devices : ReadsWord 32 (device_at names) (λ d. nat_lt
       from t (event.Suspend d f) (_, valid, whole) = let (is, fits) = and_parts (IsDevice d.0) (are_fields f) valid in (d.0, _, is, whole, (f, (fits, refl), refl))
       from t _ (other, valid, whole) = (cc)
 
-  resume_reads : Reads (payload_at names event.Resume) (IsRest kind.Resume)
+  resume_reads : Reads (resume_at names) (IsRest kind.Resume)
+  unfolding resume_at
   resume_reads = reads-along _ _ _ to from (payload_reads event.Resume)
     where
       to : (t : List ℕ) (e : Event) → IsPayload event.Resume t e → IsRest kind.Resume t e

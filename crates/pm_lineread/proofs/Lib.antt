@@ -1,3 +1,4 @@
+pub mod SignedLemmas
 pub mod PieceLemmas
 pub mod LiteralLemmas
 pub mod Shared

@@ -181,11 +181,32 @@ fields_at bytes = do
   rest ← literal_at (codes " auto-") rest
   states_at flags.0 cnt.0 dep.0 rest
 
-unfoldable pub payload_at : Names → (DevId → Fields → Event) → List ℕ → Result Event ℕ
-payload_at names make bytes = do
+-- a device and the fields of its payload
+unfoldable pub payload_at : Names → List ℕ → Result (DevId × Fields) ℕ
+payload_at names bytes = do
   d ← device_at names bytes
   f ← fields_at d.1
-  Ok (make (record { 0 = d.0 }) f)
+  Ok (record { 0 = d.0 }, f)
+
+unfoldable pub usage_at : Names → List ℕ → Result Event ℕ
+usage_at names bytes = do
+  p ← payload_at names bytes
+  Ok (event.Usage p.0 p.1)
+
+unfoldable pub idle_at : Names → List ℕ → Result Event ℕ
+idle_at names bytes = do
+  p ← payload_at names bytes
+  Ok (event.Idle p.0 p.1)
+
+unfoldable pub suspend_at : Names → List ℕ → Result Event ℕ
+suspend_at names bytes = do
+  p ← payload_at names bytes
+  Ok (event.Suspend p.0 p.1)
+
+unfoldable pub resume_at : Names → List ℕ → Result Event ℕ
+resume_at names bytes = do
+  p ← payload_at names bytes
+  Ok (event.Resume p.0 p.1)
 
 unfoldable pub return_at : Names → List ℕ → Result Event ℕ
 return_at names bytes = do
@@ -292,10 +313,10 @@ event_of names kind.Call bytes = call_at names bytes
 event_of names kind.Ret bytes = ret_at names bytes
 event_of names kind.Get bytes = get_at names bytes
 event_of names kind.Put bytes = put_at names bytes
-event_of names kind.Usage bytes = payload_at names event.Usage bytes
-event_of names kind.Idle bytes = payload_at names event.Idle bytes
-event_of names kind.Suspend bytes = payload_at names event.Suspend bytes
-event_of names kind.Resume bytes = payload_at names event.Resume bytes
+event_of names kind.Usage bytes = usage_at names bytes
+event_of names kind.Idle bytes = idle_at names bytes
+event_of names kind.Suspend bytes = suspend_at names bytes
+event_of names kind.Resume bytes = resume_at names bytes
 event_of names kind.Return bytes = return_at names bytes
 event_of names kind.Wait bytes = wait_at names bytes
 event_of names kind.State bytes = state_at names bytes

@@ -24,7 +24,7 @@ pub(crate) enum Kind {
 }
 
 /// The kinds, each at the place of its word among the words of `pm_names`.
-pub(crate) static KINDS: [Kind; 15] = [
+static KINDS: [Kind; 15] = [
     Kind::Call,
     Kind::Ret,
     Kind::Get,
@@ -42,9 +42,16 @@ pub(crate) static KINDS: [Kind; 15] = [
     Kind::Timer,
 ];
 
-/// The kinds, as a list.
-pub(crate) fn kinds() -> &'static [Kind]
-    ensures { result.now ≡ all_kinds }
+/// The kind whose word stands at this place, or `None` past the last.
+pub(crate) fn kind_at(place: usize) -> Option<Kind>
+    ensures { result ≡ slice_get all_kinds place }
 {
-    &KINDS
+    item_at(&KINDS, place)
+}
+
+/// The item at a place.
+fn item_at<T: Copy>(items: &[T], place: usize) -> Option<T>
+    ensures { result ≡ slice_get items.now place }
+{
+    items.get(place).copied()
 }

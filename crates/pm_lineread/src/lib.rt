@@ -5,4 +5,6 @@ mod events;
 mod kinds;
 mod pieces;
 
-pub(crate) fn nothing() -> &'static [kinds::Kind] { kinds::kinds() }
+use pm_model::{Event, Plan};
+
+pub(crate) fn nothing(plan: &Plan, bytes: &[u8]) -> Result<Event, usize> { events::event(plan, bytes) }

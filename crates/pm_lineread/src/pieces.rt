@@ -252,7 +252,7 @@ fn negative(half: u64, bytes: &[u8]) -> Result<i64, Left>
 {
     let rest = literal(b"-", bytes)?;
     let (number, rest) = number(10, 1, half, rest)?;
-    end(-1 - (number - 1) as i64, rest)
+    end(-1 - number.saturating_sub(1) as i64, rest)
 }
 
 /// A number from 0 and below `half`, and no more.
@@ -267,7 +267,7 @@ fn positive(half: u64, bytes: &[u8]) -> Result<i64, Left>
 }
 
 /// A number from `-half` and below `half`, and no more.
-#[tactic(auto, unfolding(crate::specs::Reading::signed_at))]
+#[tactic(auto, using(crate::proofs::SignedLemmas::signed_fits), unfolding(crate::specs::Reading::signed_at))]
 fn signed(half: u64, bytes: &[u8]) -> Result<i64, Left>
     requires some { 0 < half }
     requires limit { half ≤ 2 ^ 63 }
