@@ -9,3 +9,4 @@ pub mod Parts
 pub mod EventReads
 pub mod LineReads
 pub mod PlanNames
+pub mod Answered

@@ -328,7 +328,7 @@ module _ (names : Names) (are : AreNames names) where
 
   module _ (base : ℕ) (early : base < 2 ^ 63) where
     -- the texts of lines behind one of that time
-    abbrev IsLineText : List ℕ → Line → Type 0
+    abbrev pub IsLineText : List ℕ → Line → Type 0
     IsLineText t line = (is_line device_count caller_count line ≡ true) × (base ≤ line.time) × (t ≡ line_text2 names base line)
 
     abbrev IsSince : ℕ → Bool

@@ -24,7 +24,7 @@ pub record ReadsWord {A : Type 0} (stop : ℕ) (read : List ℕ → Result (A ×
   pub reached : (bytes : List ℕ) (left : ℕ) → read bytes ≡ Err left → (a : A) × (valid a ≡ true) × (length bytes ≤ shared bytes (text a) + left)
   pub some : (a : A) × (valid a ≡ true)
 
-one_answer : {A : Type 0} (r : Result A ℕ) (x y : A) → r ≡ Ok x → r ≡ Ok y → x ≡ y
+pub one_answer : {A : Type 0} (r : Result A ℕ) (x y : A) → r ≡ Ok x → r ≡ Ok y → x ≡ y
 one_answer r x y h k = cc
 
 pub answer_parts : {A B : Type 0} (a a' : A) (b b' : B) (r : Result (A × B) ℕ) → r ≡ Ok (a, b) → r ≡ Ok (a', b') → (a ≡ a') × (b ≡ b')

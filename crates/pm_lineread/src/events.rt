@@ -289,6 +289,7 @@ fn resume(plan: &Plan, bytes: &[u8]) -> Result<Event, Left>
 }
 
 /// A callback, and what follows its word.
+#[tactic(auto, unfolding(crate::specs::Pieces::item_at))]
 fn callback_word(stop: u8, bytes: &[u8]) -> Result<(Cb, &[u8]), Left>
     ensures { Gives (λ found. (found.0, found.1.now)) result (item_at cb_words all_cbs stop bytes.now) }
 {
@@ -317,6 +318,7 @@ fn wait(plan: &Plan, bytes: &[u8]) -> Result<Event, Left>
 }
 
 /// A change of status, and what follows its word.
+#[tactic(auto, unfolding(crate::specs::Pieces::item_at))]
 fn status(bytes: &[u8]) -> Result<(Word, &[u8]), Left>
     ensures { Gives (λ found. (found.0, found.1.now)) result (item_at status_words all_statuses 32 bytes.now) }
 {
@@ -400,6 +402,7 @@ fn queue(bytes: &[u8]) -> Result<WorkAct, Left>
 }
 
 /// A request, and what follows its word.
+#[tactic(auto, unfolding(crate::specs::Pieces::item_at))]
 fn request(bytes: &[u8]) -> Result<(Req, &[u8]), Left>
     ensures { Gives (λ found. (found.0, found.1.now)) result (item_at req_words all_reqs 32 bytes.now) }
 {
@@ -498,6 +501,7 @@ fn event_of(plan: &Plan, kind: Kind, bytes: &[u8]) -> Result<Event, Left>
 }
 
 /// The kind of an event, and what follows its word.
+#[tactic(auto, unfolding(crate::specs::Pieces::item_at))]
 fn kind(bytes: &[u8]) -> Result<(Kind, &[u8]), Left>
     ensures { Gives (λ found. (found.0, found.1.now)) result (item_at event_words all_kinds 58 bytes.now) }
 {

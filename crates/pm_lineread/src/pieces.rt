@@ -267,7 +267,7 @@ fn positive(half: u64, bytes: &[u8]) -> Result<i64, Left>
 }
 
 /// A number from `-half` and below `half`, and no more.
-#[tactic(auto, using(crate::proofs::SignedLemmas::signed_fits), unfolding(crate::specs::Reading::signed_at))]
+#[tactic(auto, unfolding(crate::specs::Reading::signed_at))]
 fn signed(half: u64, bytes: &[u8]) -> Result<i64, Left>
     requires some { 0 < half }
     requires limit { half ≤ 2 ^ 63 }
