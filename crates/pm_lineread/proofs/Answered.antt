@@ -1,5 +1,5 @@
 -- What reading a line over a plan answers, in the words of the contracts.
-use Rattle.std.proofs.Common.{◌≡◌, ℕ, ◌-◌, ◌+◌, ◌<◌, ◌≤◌, ◌^◌, true, ◌&&◌, nat_lt, List, length, map, Result, Ok, Err, IfErr, IfOk, refl, ap, sym, ◌∙◌, ◌⊎◌, inl, inr, arith, lit<, subst}
+use Rattle.std.proofs.Common.{◌≡◌, ℕ, ◌-◌, ◌+◌, ◌<◌, ◌≤◌, ◌^◌, true, ◌&&◌, nat_lt, List, length, Result, Ok, Err, IfErr, IfOk, refl, ap, sym, ◌∙◌, ◌⊎◌, inl, inr, arith}
 use Rattle.std.proofs.lemmas.Bool.{and_parts, ltb-true}
 use Rattle.std.proofs.lemmas.List.{length-map}
 use Rattle.pm_model.specs.LineOf.{is_actor_of, is_event_of, is_line, is_line_of}

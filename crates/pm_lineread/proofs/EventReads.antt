@@ -1,5 +1,5 @@
 -- Events: each is read exactly, and from its own texts.
-use Rattle.std.proofs.Common.{◌≡◌, ℕ, ◌+◌, ◌-◌, ◌^◌, ◌<◌, ◌≤◌, zero, suc, Bool, true, false, ◌&&◌, List, [], ◌∷◌, ◌++◌, length, map, codes, decimal, nat_eq, nat_lt, nat_le, ℤ, pos, negsuc, if◌then◌else◌, slice_get, slice_index_or, Option, Some, None, Result, Ok, Err, refl, ap, sym, ◌∙◌, ◌⊎◌, inl, inr, arith, lit<, lit≤, append_assoc}
+use Rattle.std.proofs.Common.{◌≡◌, ℕ, ◌-◌, ◌^◌, Bool, true, false, ◌&&◌, List, [], ◌++◌, length, codes, decimal, nat_lt, nat_le, ℤ, pos, if◌then◌else◌, slice_get, Some, Result, Ok, refl, ap, sym, ◌∙◌, ◌⊎◌, inl, inr, lit<, lit≤, append_assoc}
 use Rattle.std.specs.Fmt.{digits, signed_decimal}
 use Rattle.std.specs.List.{list_all}
 use Rattle.std.specs.Ordering.{int_eq}
@@ -10,10 +10,9 @@ use Rattle.std.proofs.lemmas.List.{append-nil}
 use Rattle.pm_base.specs.declared.Cb.{Cb}
 use Rattle.pm_base.specs.declared.Cb.TheVariants as cb
 use Rattle.pm_base.specs.declared.DevId.{DevId}
-use Rattle.pm_base.specs.declared.Why.{Why}
 use Rattle.pm_linetext.specs.Words.{all_cbs, all_helpers, all_statuses}
-use Rattle.pm_model.specs.LineOf.{are_fields, fits_i32, fits_signed, fits_u32, is_command_line, is_device_of, is_event_of, is_number_of, is_ret_line, is_timer_line, is_why_of, is_work_line}
-use Rattle.pm_model.specs.Spelling.{Names, bit, cb_word, command_text, device_name, device_part, event_text, helper_word, operand_of, operand_part, padded, payload, space, status_word, takes_device, timer_text, why_text, work_text}
+use Rattle.pm_model.specs.LineOf.{are_fields, fits_i32, fits_u32, is_command_line, is_device_of, is_event_of, is_number_of, is_ret_line, is_timer_line, is_why_of, is_work_line}
+use Rattle.pm_model.specs.Spelling.{Names, bit, cb_word, device_name, device_part, event_text, helper_word, operand_of, operand_part, padded, payload, space, status_word, takes_device, timer_text, why_text, work_text}
 use Rattle.pm_model.specs.declared.event.Command.{Command}
 use Rattle.pm_model.specs.declared.event.Event.{Event}
 use Rattle.pm_model.specs.declared.event.Event.TheVariants as event
@@ -22,17 +21,15 @@ use Rattle.pm_model.specs.declared.event.Helper.{Helper}
 use Rattle.pm_model.specs.declared.event.Helper.TheVariants as helper
 use Rattle.pm_model.specs.declared.event.Operand.{Operand}
 use Rattle.pm_model.specs.declared.event.Operand.TheVariants as operand
-use Rattle.pm_model.specs.declared.event.TimerAct.{TimerAct}
 use Rattle.pm_model.specs.declared.event.Word.{Word}
 use Rattle.pm_model.specs.declared.event.Word.TheVariants as word
-use Rattle.pm_model.specs.declared.event.WorkAct.{WorkAct}
 use Rattle.pm_names.specs.Words.{cb_words, event_words, helper_words, status_words}
 use Rattle.pm_lineread.specs.Kinds.{all_kinds}
 use Rattle.pm_lineread.specs.Pieces.{◌>>=◌, either_of, ended, ends, item_at, literal_at}
-use Rattle.pm_lineread.specs.Reading.{act_at, any_event_at, arm_at, call_at, callback_at, command_of, count_at, delay_at, delay_call_at, device_at, device_command_at, device_ret_at, domain_at, end_at, event_at, event_of, fields_at, fire_at, get_at, helper_at, idle_at, operand_at, payload_at, put_at, resume_at, ret_at, return_at, signed_at, state_at, suspend_at, switched_at, timer_at, usage_at, wait_at, why_at, word_at, work_at}
+use Rattle.pm_lineread.specs.Reading.{act_at, any_event_at, arm_at, call_at, callback_at, command_of, device_at, device_command_at, device_ret_at, domain_at, end_at, event_of, fields_at, fire_at, get_at, helper_at, idle_at, operand_at, payload_at, put_at, resume_at, ret_at, return_at, signed_at, state_at, suspend_at, switched_at, timer_at, usage_at, wait_at, why_at, word_at, work_at}
 use Rattle.pm_lineread.specs.declared.kinds.Kind.{Kind}
 use Rattle.pm_lineread.specs.declared.kinds.Kind.TheVariants as kind
-use Rattle.pm_lineread.proofs.Parts.{Begins, IsEnd, IsWord, Spelled, act_reads, clash, count_from, count_parts, count_reads, end_stops, fields_reads, fields_text, one_word_reads, operand_reads, signed_reads, timer_act_reads, why_reads, word_begins}
+use Rattle.pm_lineread.proofs.Parts.{IsEnd, IsWord, Spelled, act_reads, clash, count_from, count_parts, count_reads, end_stops, fields_reads, fields_text, one_word_reads, operand_reads, signed_reads, timer_act_reads, why_reads, word_begins}
 use Rattle.pm_lineread.proofs.Places.{item_reads}
 use Rattle.pm_lineread.proofs.Readers.{AfterLiteral, AfterWord, Reads, ReadsWord, either_reads, ended_reads, literal_reads, made_reads, reads-along, reads-same, word_reads}
 use Rattle.pm_lineread.proofs.Shared.{is_clean}
@@ -238,7 +235,7 @@ module _ (names : Names) (devices : ReadsWord 32 (device_at names) (λ d. nat_lt
   unfolding get_at
   get_reads =
       reads-along _ (FromDevice (λ d. Spaced (is_why_of count) (why_text names) (event.Get (record { 0 = d })))) _ to from
-        (word_reads 32 _ _ _ devices _ _ (λ d is. spaced_reads (why_at names) _ _ (why_reads names devices) (event.Get (record { 0 = d }))) (λ d t e s. rw s.1 refl))
+      (word_reads 32 _ _ _ devices _ _ (λ d is. spaced_reads (why_at names) _ _ (why_reads names devices) (event.Get (record { 0 = d }))) (λ d t e s. rw s.1 refl))
     where
       to : (t : List ℕ) (e : Event) → FromDevice (λ d. Spaced (is_why_of count) (why_text names) (event.Get (record { 0 = d }))) t e → IsRest kind.Get t e
       to t e (d, r, is, name, (r', gap, (w, (fits, text), made_of))) = rw made_of (refl, and_from _ _ is fits, rw (name, gap, text) refl)
@@ -251,7 +248,7 @@ module _ (names : Names) (devices : ReadsWord 32 (device_at names) (λ d. nat_lt
   unfolding put_at
   put_reads =
       reads-along _ (FromDevice (λ d. Spaced (is_why_of count) (why_text names) (event.Put (record { 0 = d })))) _ to from
-        (word_reads 32 _ _ _ devices _ _ (λ d is. spaced_reads (why_at names) _ _ (why_reads names devices) (event.Put (record { 0 = d }))) (λ d t e s. rw s.1 refl))
+      (word_reads 32 _ _ _ devices _ _ (λ d is. spaced_reads (why_at names) _ _ (why_reads names devices) (event.Put (record { 0 = d }))) (λ d t e s. rw s.1 refl))
     where
       to : (t : List ℕ) (e : Event) → FromDevice (λ d. Spaced (is_why_of count) (why_text names) (event.Put (record { 0 = d }))) t e → IsRest kind.Put t e
       to t e (d, r, is, name, (r', gap, (w, (fits, text), made_of))) = rw made_of (refl, and_from _ _ is fits, rw (name, gap, text) refl)
@@ -272,8 +269,8 @@ module _ (names : Names) (devices : ReadsWord 32 (device_at names) (λ d. nat_lt
   unfolding payload_at
   pair_reads =
       word_reads 32 _ _ _ devices _ (λ d t x. (f : Fields) × Spelled are_fields fields_text t f × (x ≡ (record { 0 = d }, f)))
-        (λ d is. made_reads fields_at _ fields_reads (λ f. (record { 0 = d }, f)))
-        (λ d t x s. rw s.1.1 refl)
+      (λ d is. made_reads fields_at _ fields_reads (λ f. (record { 0 = d }, f)))
+      (λ d t x s. rw s.1.1 refl)
 
   payload_reads : (make : DevId → Fields → Event) → Reads (λ bytes. payload_at names bytes >>= (λ x. Ok (make x.0 x.1))) (IsPayload make)
   payload_reads make = reads-along _ (λ t e. (x : DevId × Fields) × IsPair t x × (e ≡ make x.0 x.1)) _ to from (made_reads (payload_at names) IsPair pair_reads (λ x. make x.0 x.1))
@@ -334,7 +331,7 @@ module _ (names : Names) (devices : ReadsWord 32 (device_at names) (λ d. nat_lt
   unfolding work_at
   work_reads =
       reads-along _ (FromDevice (λ d. Spaced is_work_line work_text (event.Work (record { 0 = d })))) _ to from
-        (word_reads 32 _ _ _ devices _ _ (λ d is. spaced_reads act_at _ _ act_reads (event.Work (record { 0 = d }))) (λ d t e s. rw s.1 refl))
+      (word_reads 32 _ _ _ devices _ _ (λ d is. spaced_reads act_at _ _ act_reads (event.Work (record { 0 = d }))) (λ d t e s. rw s.1 refl))
     where
       to : (t : List ℕ) (e : Event) → FromDevice (λ d. Spaced is_work_line work_text (event.Work (record { 0 = d }))) t e → IsRest kind.Work t e
       to t e (d, r, is, name, (r', gap, (act, (fits, text), made_of))) = rw made_of (refl, and_from _ _ is fits, rw (name, gap, text) refl)
@@ -347,7 +344,7 @@ module _ (names : Names) (devices : ReadsWord 32 (device_at names) (λ d. nat_lt
   unfolding timer_at
   timer_reads =
       reads-along _ (FromDevice (λ d. Spaced is_timer_line timer_text (event.Timer (record { 0 = d })))) _ to from
-        (word_reads 32 _ _ _ devices _ _ (λ d is. spaced_reads (λ bytes. either_of (arm_at bytes) (fire_at bytes)) _ _ timer_act_reads (event.Timer (record { 0 = d }))) (λ d t e s. rw s.1 refl))
+      (word_reads 32 _ _ _ devices _ _ (λ d is. spaced_reads (λ bytes. either_of (arm_at bytes) (fire_at bytes)) _ _ timer_act_reads (event.Timer (record { 0 = d }))) (λ d t e s. rw s.1 refl))
     where
       to : (t : List ℕ) (e : Event) → FromDevice (λ d. Spaced is_timer_line timer_text (event.Timer (record { 0 = d }))) t e → IsRest kind.Timer t e
       to t e (d, r, is, name, (r', gap, (act, (fits, text), made_of))) = rw made_of (refl, and_from _ _ is fits, rw (name, gap, text) refl)
@@ -362,7 +359,7 @@ module _ (names : Names) (devices : ReadsWord 32 (device_at names) (λ d. nat_lt
   unfolding wait_at
   wait_reads =
       reads-along _ (FromDevice (λ d. IsEnd (event.Wait (record { 0 = d })))) _ to from
-        (word_reads 32 _ _ _ devices (λ d. ended (event.Wait (record { 0 = d }))) _ (λ d is. ended_reads (event.Wait (record { 0 = d }))) (λ d. end_stops 32 (event.Wait (record { 0 = d }))))
+      (word_reads 32 _ _ _ devices (λ d. ended (event.Wait (record { 0 = d }))) _ (λ d is. ended_reads (event.Wait (record { 0 = d }))) (λ d. end_stops 32 (event.Wait (record { 0 = d }))))
     where
       to : (t : List ℕ) (e : Event) → FromDevice (λ d. IsEnd (event.Wait (record { 0 = d }))) t e → IsRest kind.Wait t e
       to t e (d, r, is, name, (none, made_of)) = rw made_of (refl, is, rw (name, none) (append-nil (device_name names d)))
@@ -380,9 +377,9 @@ module _ (names : Names) (devices : ReadsWord 32 (device_at names) (λ d. nat_lt
   unfolding state_at
   state_reads =
       reads-along _ (FromDevice IsState) _ to from
-        (word_reads 32 _ _ _ devices _ IsState
-          (λ d is. literal_reads (codes " ") _ _ (word_reads 32 _ _ _ statuses (λ w. ended (event.State (record { 0 = d }) w)) (λ w. IsEnd (event.State (record { 0 = d }) w)) (λ w is. ended_reads (event.State (record { 0 = d }) w)) (λ w. end_stops 32 (event.State (record { 0 = d }) w))))
-          (λ d t e s. rw s.1 refl))
+      (word_reads 32 _ _ _ devices _ IsState
+      (λ d is. literal_reads (codes " ") _ _ (word_reads 32 _ _ _ statuses (λ w. ended (event.State (record { 0 = d }) w)) (λ w. IsEnd (event.State (record { 0 = d }) w)) (λ w is. ended_reads (event.State (record { 0 = d }) w)) (λ w. end_stops 32 (event.State (record { 0 = d }) w))))
+      (λ d t e s. rw s.1 refl))
     where
       to : (t : List ℕ) (e : Event) → FromDevice IsState t e → IsRest kind.State t e
       to t e (d, r, is, name, (r', gap, (w, r'', _, word, (none, made_of)))) = rw made_of (refl, is, rw (name, gap, word, none) (ap (λ x. device_name names d ++ (space ++ x)) (append-nil (status_word w))))
@@ -410,12 +407,12 @@ module _ (names : Names) (devices : ReadsWord 32 (device_at names) (λ d. nat_lt
   unfolding callback_at
   callback_reads =
       reads-along _ (FromDevice IsCallback) _ to from
-        (word_reads 32 _ _ _ devices _ IsCallback
-          (λ d is. literal_reads (codes " ") _ _ (word_reads 32 _ _ _ (cbs 32 refl) _ (λ k t e. IsBegin d k t e ⊎ IsEnding d k t e)
-            (λ k is. either_reads (word_at (codes " begin") (event.Begin (record { 0 = d }) k)) (end_at (record { 0 = d }) k) (IsBegin d k) (IsEnding d k) (one_word_reads (codes " begin") (event.Begin (record { 0 = d }) k)) (ending_reads d k)
-              (λ t e e' a b. clash (codes " begin") (codes " end ") t refl (word_begins (codes " begin") (event.Begin (record { 0 = d }) k) t e a) (b.0, b.1)))
-            (λ k t e s. elim s [ inl a ↦ rw a.0 refl | inr b ↦ rw b.1 refl ])))
-          (λ d t e s. rw s.1 refl))
+      (word_reads 32 _ _ _ devices _ IsCallback
+      (λ d is. literal_reads (codes " ") _ _ (word_reads 32 _ _ _ (cbs 32 refl) _ (λ k t e. IsBegin d k t e ⊎ IsEnding d k t e)
+      (λ k is. either_reads (word_at (codes " begin") (event.Begin (record { 0 = d }) k)) (end_at (record { 0 = d }) k) (IsBegin d k) (IsEnding d k) (one_word_reads (codes " begin") (event.Begin (record { 0 = d }) k)) (ending_reads d k)
+      (λ t e e' a b. clash (codes " begin") (codes " end ") t refl (word_begins (codes " begin") (event.Begin (record { 0 = d }) k) t e a) (b.0, b.1)))
+      (λ k t e s. elim s [ inl a ↦ rw a.0 refl | inr b ↦ rw b.1 refl ])))
+      (λ d t e s. rw s.1 refl))
     where
       to : (t : List ℕ) (e : Event) → FromDevice IsCallback t e → IsRest kind.Callback t e
       to t e (d, r, is, name, (r', gap, (k, r'', _, word, inl (begins, made_of)))) = rw made_of (refl, is, rw (name, gap, word, begins) refl)
@@ -448,10 +445,10 @@ module _ (names : Names) (devices : ReadsWord 32 (device_at names) (λ d. nat_lt
   unfolding domain_at
   domain_reads =
       reads-along _ (FromDevice IsDomain) _ to from
-        (word_reads 32 _ _ _ devices _ IsDomain
-          (λ d is. either_reads (switched_at (codes " up ") true (record { 0 = d })) (switched_at (codes " down ") false (record { 0 = d })) (IsSwitched (codes " up ") true d) (IsSwitched (codes " down ") false d) (switched_reads (codes " up ") true d) (switched_reads (codes " down ") false d)
-            (λ t e e' a b. clash (codes " up ") (codes " down ") t refl (a.0, a.1) (b.0, b.1)))
-          (λ d t e s. elim s [ inl a ↦ rw a.1 refl | inr b ↦ rw b.1 refl ]))
+      (word_reads 32 _ _ _ devices _ IsDomain
+      (λ d is. either_reads (switched_at (codes " up ") true (record { 0 = d })) (switched_at (codes " down ") false (record { 0 = d })) (IsSwitched (codes " up ") true d) (IsSwitched (codes " down ") false d) (switched_reads (codes " up ") true d) (switched_reads (codes " down ") false d)
+      (λ t e e' a b. clash (codes " up ") (codes " down ") t refl (a.0, a.1) (b.0, b.1)))
+      (λ d t e s. elim s [ inl a ↦ rw a.1 refl | inr b ↦ rw b.1 refl ]))
     where
       to : (t : List ℕ) (e : Event) → FromDevice IsDomain t e → IsRest kind.Domain t e
       to t e (d, r, is, name, inl (r', way, (n, r'', counts, number, (none, made_of)))) = rw made_of (refl, and_from _ _ is (count_parts n counts), rw (name, way, number, none) (ap (λ x. device_name names d ++ (codes " up " ++ x)) (append-nil (decimal n))))
@@ -477,13 +474,13 @@ module _ (names : Names) (devices : ReadsWord 32 (device_at names) (λ d. nat_lt
   unfolding return_at
   return_reads =
       reads-along _ IsReturn _ to from
-        (literal_reads (codes "rpm_") _ _
-          (word_reads 58 _ _ _ (cbs 58 refl) _ IsOfFunction
-            (λ func is. literal_reads (codes ":") _ _
-              (word_reads 32 _ _ _ devices _ (IsReturned func)
-                (λ d is. literal_reads (codes " ret=") _ _ (made_reads (signed_at (2 ^ 31)) _ (signed_reads (2 ^ 31) (lit< tt) (lit≤ tt)) (event.Return func (record { 0 = d }))))
-                (λ d t e s. rw s.1 refl)))
-            (λ func t e s. rw s.1 refl)))
+      (literal_reads (codes "rpm_") _ _
+      (word_reads 58 _ _ _ (cbs 58 refl) _ IsOfFunction
+      (λ func is. literal_reads (codes ":") _ _
+      (word_reads 32 _ _ _ devices _ (IsReturned func)
+      (λ d is. literal_reads (codes " ret=") _ _ (made_reads (signed_at (2 ^ 31)) _ (signed_reads (2 ^ 31) (lit< tt) (lit≤ tt)) (event.Return func (record { 0 = d }))))
+      (λ d t e s. rw s.1 refl)))
+      (λ func t e s. rw s.1 refl)))
     where
       to : (t : List ℕ) (e : Event) → IsReturn t e → IsRest kind.Return t e
       to t e (r1, starts, (func, r2, _, word, (r3, colon, (d, r4, is, name, (r5, ret, (c, (fits, number), made_of)))))) = rw made_of (refl, and_from _ _ is fits, rw (starts, word, colon, name, ret, number) refl)
@@ -516,7 +513,7 @@ module _ (names : Names) (devices : ReadsWord 32 (device_at names) (λ d. nat_lt
   unfolding device_command_at
   device_command_reads h =
       literal_reads (codes " ") _ _
-        (word_reads 32 _ _ _ devices _ (λ d. IsOperand h (record { 0 = d })) (λ d is. command_of_reads h (record { 0 = d })) (λ d t c s. rw s.1.1 (operand_stops (operand_of h) s.0)))
+      (word_reads 32 _ _ _ devices _ (λ d. IsOperand h (record { 0 = d })) (λ d is. command_of_reads h (record { 0 = d })) (λ d t c s. rw s.1.1 (operand_stops (operand_of h) s.0)))
 
   -- what follows the word of a helper
   abbrev IsCommandOf : Helper → List ℕ → Command → Type 0
@@ -555,9 +552,17 @@ module _ (names : Names) (devices : ReadsWord 32 (device_at names) (λ d. nat_lt
   from_taking h takes t c (same, valid, whole) =
       let (device, fits) = and_parts (is_device_of count c.helper c.dev) (is_number_of count (operand_of c.helper) c.number) valid in
       let its_takes : takes_device c.helper ≡ true = ap takes_device same ∙ takes in
-      let part : tail_text c.helper c.dev c.number ≡ space ++ (device_name names c.dev.0 ++ operand_part names (operand_of c.helper) c.number) = ap (λ p. p ++ operand_part names (operand_of c.helper) c.number) (taking_part c.helper c.dev its_takes) in
-      (device_name names c.dev.0 ++ operand_part names (operand_of c.helper) c.number, whole ∙ part, (c.dev.0, operand_part names (operand_of c.helper) c.number, taken_device c.helper c.dev its_takes device, refl,
-        (c.number, (ap (λ g. is_number_of count (operand_of g) c.number) (sym same) ∙ fits, ap (λ g. operand_part names (operand_of g) c.number) same), ap (λ g. record { helper = g; dev = c.dev; number = c.number }) same)))
+      let part : tail_text c.helper c.dev c.number ≡ space ++ (device_name names c.dev.0 ++ operand_part names (operand_of c.helper) c.number) = ap (λ p. p ++ operand_part names (operand_of c.helper) c.number) (taking_part c.helper c.dev its_takes) in (
+        device_name names c.dev.0 ++ operand_part names (operand_of c.helper) c.number,
+        whole ∙ part,
+        (
+          c.dev.0,
+          operand_part names (operand_of c.helper) c.number,
+          taken_device c.helper c.dev its_takes device,
+          refl,
+          (c.number, (ap (λ g. is_number_of count (operand_of g) c.number) (sym same) ∙ fits, ap (λ g. operand_part names (operand_of g) c.number) same), ap (λ g. record { helper = g; dev = c.dev; number = c.number }) same),
+        ),
+      )
 
   to_lacking : (h : Helper) → takes_device h ≡ false → (t : List ℕ) (c : Command) → IsOperand h (record { 0 = 0 }) t c → IsCommandOf h t c
   to_lacking h lacks t c (n, (fits, text), made_of) =
@@ -569,9 +574,11 @@ module _ (names : Names) (devices : ReadsWord 32 (device_at names) (λ d. nat_lt
       let (device, fits) = and_parts (is_device_of count c.helper c.dev) (is_number_of count (operand_of c.helper) c.number) valid in
       let its_lacks : takes_device c.helper ≡ false = ap takes_device same ∙ lacks in
       let none : c.dev ≡ record { 0 = 0 } = lacked_device c.helper c.dev its_lacks device in
-      let part : tail_text c.helper c.dev c.number ≡ operand_part names (operand_of c.helper) c.number = ap (λ p. p ++ operand_part names (operand_of c.helper) c.number) (lacking_part c.helper c.dev its_lacks) in
-      (c.number, (ap (λ g. is_number_of count (operand_of g) c.number) (sym same) ∙ fits, whole ∙ (part ∙ ap (λ g. operand_part names (operand_of g) c.number) same)),
-        ap (λ g. record { helper = g; dev = c.dev; number = c.number }) same ∙ ap (λ d. record { helper = h; dev = d; number = c.number }) none)
+      let part : tail_text c.helper c.dev c.number ≡ operand_part names (operand_of c.helper) c.number = ap (λ p. p ++ operand_part names (operand_of c.helper) c.number) (lacking_part c.helper c.dev its_lacks) in (
+        c.number,
+        (ap (λ g. is_number_of count (operand_of g) c.number) (sym same) ∙ fits, whole ∙ (part ∙ ap (λ g. operand_part names (operand_of g) c.number) same)),
+        ap (λ g. record { helper = g; dev = c.dev; number = c.number }) same ∙ ap (λ d. record { helper = h; dev = d; number = c.number }) none,
+      )
 
   abbrev command_at : Helper → List ℕ → Result Command ℕ
   command_at h bytes = if takes_device h then device_command_at names h bytes else command_of names h (record { 0 = 0 }) bytes
@@ -601,8 +608,8 @@ module _ (names : Names) (devices : ReadsWord 32 (device_at names) (λ d. nat_lt
   unfolding call_at
   call_reads =
       reads-along _ (AfterWord (λ _. true) helper_word IsCallOf) _ to from
-        (word_reads 32 _ _ _ helpers _ IsCallOf (λ h is. made_reads (command_at h) _ (command_reads h) event.Call)
-          (λ h t e s. rw s.1.2 (part_stops s.0.helper s.0.dev _ (operand_stops (operand_of s.0.helper) s.0.number))))
+      (word_reads 32 _ _ _ helpers _ IsCallOf (λ h is. made_reads (command_at h) _ (command_reads h) event.Call)
+      (λ h t e s. rw s.1.2 (part_stops s.0.helper s.0.dev _ (operand_stops (operand_of s.0.helper) s.0.number))))
     where
       to : (t : List ℕ) (e : Event) → AfterWord (λ _. true) helper_word IsCallOf t e → IsRest kind.Call t e
       to t e (h, r, _, word, (c, (same, valid, text), made_of)) = rw made_of (refl, valid, word ∙ (ap (λ g. helper_word g ++ r) (sym same) ∙ ap (λ x. helper_word c.helper ++ x) text))
@@ -623,9 +630,9 @@ module _ (names : Names) (devices : ReadsWord 32 (device_at names) (λ d. nat_lt
   unfolding device_ret_at
   device_ret_reads h =
       literal_reads (codes " ") _ _
-        (word_reads 32 _ _ _ devices _ (λ d. AfterLiteral (codes " ") (λ t e. (c : ℤ) × Spelled fits_i32 signed_decimal t c × (e ≡ event.Ret h (record { 0 = d }) c)))
-          (λ d is. literal_reads (codes " ") _ _ (made_reads (signed_at (2 ^ 31)) _ (signed_reads (2 ^ 31) (lit< tt) (lit≤ tt)) (event.Ret h (record { 0 = d }))))
-          (λ d t e s. rw s.1 refl))
+      (word_reads 32 _ _ _ devices _ (λ d. AfterLiteral (codes " ") (λ t e. (c : ℤ) × Spelled fits_i32 signed_decimal t c × (e ≡ event.Ret h (record { 0 = d }) c)))
+      (λ d is. literal_reads (codes " ") _ _ (made_reads (signed_at (2 ^ 31)) _ (signed_reads (2 ^ 31) (lit< tt) (lit≤ tt)) (event.Ret h (record { 0 = d }))))
+      (λ d t e s. rw s.1 refl))
 
   taking_code : (h : Helper) (c : ℤ) → takes_device h ≡ true → fits_i32 c ≡ true → (if takes_device h then fits_i32 c else int_eq c (pos 0)) ≡ true
   taking_code h c takes fits = rw takes fits
@@ -682,7 +689,7 @@ module _ (names : Names) (devices : ReadsWord 32 (device_at names) (λ d. nat_lt
   unfolding ret_at
   ret_reads =
       reads-along _ (AfterWord (λ _. true) helper_word IsRetOf) _ to from
-        (word_reads 32 _ _ _ helpers _ IsRetOf (λ h is. ret_of_reads h) (λ h t e s. rw s.3 (part_stops h s.0 _ refl)))
+      (word_reads 32 _ _ _ helpers _ IsRetOf (λ h is. ret_of_reads h) (λ h t e s. rw s.3 (part_stops h s.0 _ refl)))
     where
       to : (t : List ℕ) (e : Event) → AfterWord (λ _. true) helper_word IsRetOf t e → IsRest kind.Ret t e
       to t e (h, r, _, word, (d, c, valid, text, made_of)) = rw made_of (refl, valid, rw (word, text) refl)
@@ -718,7 +725,7 @@ module _ (names : Names) (devices : ReadsWord 32 (device_at names) (λ d. nat_lt
   unfolding any_event_at
   any_event_reads =
       reads-along _ (AfterWord (λ _. true) kind_word IsKindOf) _ to from
-        (word_reads 58 _ _ _ kinds _ IsKindOf (λ k is. literal_reads (codes ": ") _ _ (rest_reads k)) (λ k t e s. rw s.1 refl))
+      (word_reads 58 _ _ _ kinds _ IsKindOf (λ k is. literal_reads (codes ": ") _ _ (rest_reads k)) (λ k t e s. rw s.1 refl))
     where
       to : (t : List ℕ) (e : Event) → AfterWord (λ _. true) kind_word IsKindOf t e → Spelled (is_event_of count) (event_text names) t e
       to t e (k, r, _, word, (r', colon, (same, valid, text))) =

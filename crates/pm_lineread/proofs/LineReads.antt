@@ -1,9 +1,9 @@
 -- Lines: each is read exactly, and from its own texts.
-use Rattle.std.proofs.Common.{◌≡◌, ℕ, ◌+◌, ◌-◌, ◌^◌, ◌<◌, ◌≤◌, zero, suc, Bool, true, false, not, ◌&&◌, List, [], ◌∷◌, ◌++◌, length, map, min, codes, decimal, nat_eq, nat_lt, nat_le, ℤ, pos, negsuc, if◌then◌else◌, slice_index_or, Result, Ok, Err, refl, ap, sym, ◌∙◌, ◌⊎◌, inl, inr, arith, lit<, lit≤, append_assoc}
+use Rattle.std.proofs.Common.{◌≡◌, ℕ, ◌+◌, ◌-◌, ◌^◌, ◌<◌, ◌≤◌, Bool, true, false, ◌&&◌, List, [], ◌∷◌, ◌++◌, length, min, codes, decimal, nat_eq, nat_lt, nat_le, ℤ, pos, if◌then◌else◌, Result, Ok, Err, refl, ap, sym, ◌∙◌, ◌⊎◌, inl, inr, arith, lit<, lit≤, append_assoc}
 use Rattle.std.specs.Fmt.{signed_decimal}
 use Rattle.std.specs.List.{list_all}
 use Rattle.std.specs.Ordering.{int_eq}
-use Rattle.std.proofs.lemmas.Bool.{and_from, and_parts, and_right, cases_Bool, eqb-true, eqb-false, leb-true, le-leb, lt-ltb, ltb-true}
+use Rattle.std.proofs.lemmas.Bool.{and_from, and_parts, cases_Bool, eqb-true, leb-true, le-leb, lt-ltb, ltb-true}
 use Rattle.std.proofs.lemmas.Bool.Decides.{Decides-int_eq, nat_tests}
 use Rattle.std.proofs.lemmas.Fmt.{decimal_digit}
 use Rattle.std.proofs.lemmas.List.Folds.{list_all-append}
@@ -11,7 +11,7 @@ use Rattle.pm_base.specs.declared.ActorId.{ActorId}
 use Rattle.pm_base.specs.declared.ActorId.TheVariants.{Caller, Work, Timer}
 use Rattle.pm_base.specs.declared.DevId.{DevId}
 use Rattle.pm_model.specs.LineOf.{fits_signed, is_actor_of, is_command_line, is_device_of, is_event_of, is_line, is_number_of, is_ret_line, is_why_of, are_fields, fits_i32, fits_u32, is_work_line, is_timer_line}
-use Rattle.pm_model.specs.Spelling.{Names, actor_text, caller_name, device_name, event_text, helper_word, line_text, line_text2, operand_of, space, takes_device}
+use Rattle.pm_model.specs.Spelling.{Names, actor_text, caller_name, device_name, event_text, line_text2, operand_of, space, takes_device}
 use Rattle.pm_model.specs.declared.event.Command.{Command}
 use Rattle.pm_model.specs.declared.event.Event.{Event}
 use Rattle.pm_model.specs.declared.event.Event.TheVariants as event
@@ -20,7 +20,7 @@ use Rattle.pm_model.specs.declared.event.Helper.TheVariants as helper
 use Rattle.pm_model.specs.declared.event.Line.{Line}
 use Rattle.pm_linetext.proofs.Passing.{list_all_get_or}
 use Rattle.pm_names.specs.Table.{all_distinct}
-use Rattle.pm_lineread.specs.Pieces.{◌>>=◌, either_of, ended, ends, literal_at, number_at, place_at}
+use Rattle.pm_lineread.specs.Pieces.{either_of, place_at}
 use Rattle.pm_lineread.specs.Reading.{any_event_at, caller_at, caller_step_at, delay_at, delay_call_at, device_at, device_step_at, event_at, line_at, signed_at, some_line_at, step_at, step_of, word_at}
 use Rattle.pm_lineread.proofs.EventReads.{any_event_reads}
 use Rattle.pm_lineread.proofs.Parts.{Begins, IsWord, Spelled, clash, decimal_reads, one_word_reads, signed_reads, word_begins}
@@ -107,8 +107,8 @@ delay_reads : (names : Names) → Reads delay_at (Spelled (is_event_of 0) (event
 unfolding delay_at
 delay_reads names =
     reads-along _ _ _ (to_delay names) (from_delay names)
-      (either_reads delay_call_at (word_at (codes "pm_ret: delay 0") delay_ret) IsDelayCall IsDelayRet delay_call_reads (one_word_reads (codes "pm_ret: delay 0") delay_ret)
-        (λ t c d a b. clash (codes "pm_call: delay ") (codes "pm_ret: delay 0") t refl (a.0, a.1) (word_begins (codes "pm_ret: delay 0") delay_ret t d b)))
+    (either_reads delay_call_at (word_at (codes "pm_ret: delay 0") delay_ret) IsDelayCall IsDelayRet delay_call_reads (one_word_reads (codes "pm_ret: delay 0") delay_ret)
+    (λ t c d a b. clash (codes "pm_call: delay ") (codes "pm_ret: delay 0") t refl (a.0, a.1) (word_begins (codes "pm_ret: delay 0") delay_ret t d b)))
 
 -- It reads each text of a language that may be empty, and nothing else. Where it fails, what isn't left is the
 -- most that the bytes have in common with a text, and nothing where there is no text.
@@ -181,7 +181,7 @@ module _ (names : Names) (are : AreNames names) where
     | inl none ↦
         let zero_count : device_count ≡ 0 = eqb-true device_count 0 none in
         reads-same delay_at _ _ (λ bytes. rw none refl)
-          (reads-along _ _ _ (λ t e s. (ap (λ n. is_event_of n e) zero_count ∙ s.0, s.1)) (λ t e s. (ap (λ n. is_event_of n e) (sym zero_count) ∙ s.0, s.1)) (delay_reads names))
+        (reads-along _ _ _ (λ t e s. (ap (λ n. is_event_of n e) zero_count ∙ s.0, s.1)) (λ t e s. (ap (λ n. is_event_of n e) (sym zero_count) ∙ s.0, s.1)) (delay_reads names))
     | inr some ↦
         let positive : 0 < device_count = nonzero device_count some in
         reads-same (any_event_at names) _ _ (λ bytes. rw some refl) (any_event_reads names (devices_read positive))
@@ -268,12 +268,12 @@ module _ (names : Names) (are : AreNames names) where
   all_steps : 0 < device_count → 0 < caller_count → Reads (λ bytes. either_of (device_step_at names (codes "work.") Work bytes) (either_of (device_step_at names (codes "timer.") Timer bytes) (caller_step_at names bytes))) AnyStep
   all_steps some callers =
       either_reads (device_step_at names (codes "work.") Work) _ (DeviceStep (codes "work.") Work) (λ t s. DeviceStep (codes "timer.") Timer t s ⊎ CallerStep t s) (device_step_reads some (codes "work.") Work)
-        (either_reads (device_step_at names (codes "timer.") Timer) (caller_step_at names) (DeviceStep (codes "timer.") Timer) CallerStep (device_step_reads some (codes "timer.") Timer) (caller_step_reads callers)
-          (λ t c d a b. no_dot (codes "timer") refl t d (a.0, a.1) b))
-        (λ t c d a b. elim b [
-          | inl timed ↦ work_or_timer t c d a timed
-          | inr called ↦ no_dot (codes "work") refl t d (a.0, a.1) called
-        ])
+      (either_reads (device_step_at names (codes "timer.") Timer) (caller_step_at names) (DeviceStep (codes "timer.") Timer) CallerStep (device_step_reads some (codes "timer.") Timer) (caller_step_reads callers)
+      (λ t c d a b. no_dot (codes "timer") refl t d (a.0, a.1) b))
+      (λ t c d a b. elim b [
+        | inl timed ↦ work_or_timer t c d a timed
+        | inr called ↦ no_dot (codes "work") refl t d (a.0, a.1) called
+      ])
 
   no_caller : caller_count ≡ 0 → (bytes : List ℕ) → caller_step_at names bytes ≡ Err (length bytes)
   unfolding caller_step_at caller_at
@@ -289,9 +289,9 @@ module _ (names : Names) (are : AreNames names) where
   device_steps : 0 < device_count → caller_count ≡ 0 → Reads (λ bytes. either_of (device_step_at names (codes "work.") Work bytes) (either_of (device_step_at names (codes "timer.") Timer bytes) (caller_step_at names bytes))) AnyStep
   device_steps some none =
       reads-along _ (λ t s. DeviceStep (codes "work.") Work t s ⊎ DeviceStep (codes "timer.") Timer t s) _ to from
-        (either_reads (device_step_at names (codes "work.") Work) _ (DeviceStep (codes "work.") Work) (DeviceStep (codes "timer.") Timer) (device_step_reads some (codes "work.") Work)
-          (either_none (device_step_at names (codes "timer.") Timer) (caller_step_at names) _ (device_step_reads some (codes "timer.") Timer) (no_caller none))
-          work_or_timer)
+      (either_reads (device_step_at names (codes "work.") Work) _ (DeviceStep (codes "work.") Work) (DeviceStep (codes "timer.") Timer) (device_step_reads some (codes "work.") Work)
+      (either_none (device_step_at names (codes "timer.") Timer) (caller_step_at names) _ (device_step_reads some (codes "timer.") Timer) (no_caller none))
+      work_or_timer)
     where
       to : (t : List ℕ) (s : ActorId × Event) → DeviceStep (codes "work.") Work t s ⊎ DeviceStep (codes "timer.") Timer t s → AnyStep t s
       to t s (inl h) = inl h
@@ -344,8 +344,8 @@ module _ (names : Names) (are : AreNames names) where
     unfolding some_line_at
     some_line_reads some =
         word_reads 32 _ _ _ (decimal_reads 0 (2 ^ 63 - 1 - base) (lit≤ tt) (omega arith) (omega arith)) _ (λ n. AfterLiteral (codes " ") (λ t line. (s : ActorId × Event) × IsStep t s × (line ≡ line_of n s)))
-          (λ n is. literal_reads (codes " ") _ _ (made_reads (step_at names) _ (step_reads some) (line_of n)))
-          (λ n t line h. rw h.1 refl)
+        (λ n is. literal_reads (codes " ") _ _ (made_reads (step_at names) _ (step_reads some) (line_of n)))
+        (λ n t line h. rw h.1 refl)
 
     regroup_line : (w a b c d : List ℕ) → w ++ a ++ b ++ c ++ d ≡ w ++ (a ++ (b ++ (c ++ d)))
     regroup_line w a b c d = simp append_assoc

@@ -1,11 +1,11 @@
 -- A word at the front of bytes, as strip_prefix tells it.
-use Rattle.std.proofs.Common.{◌≡◌, ℕ, ◌-◌, ◌≤◌, zero, suc, Bool, true, false, ◌&&◌, List, [], ◌∷◌, length, take, drop, nat_eq, Result, Ok, Err, refl, ap, sym, ◌∙◌, inl, inr, arith}
+use Rattle.std.proofs.Common.{◌≡◌, ℕ, ◌-◌, true, false, List, [], ◌∷◌, length, take, drop, nat_eq, Ok, Err, refl, inl, inr, arith}
 use Rattle.std.specs.Cmp.Lexicographic.{pointwise}
 use Rattle.std.proofs.lemmas.Bool.{cases_eq, eq-eqb, ne_eqb}
 use Rattle.std.proofs.lemmas.Bool.Decides.{nat_tests}
 use Rattle.std.proofs.lemmas.Grind.{common_steps}
 use Rattle.pm_lineread.specs.Pieces.{literal_at}
-use Rattle.pm_lineread.proofs.Shared.{shared, shared-le}
+use Rattle.pm_lineread.proofs.Shared.{shared}
 
 pub literal_found : (word bytes : List ℕ) → pointwise nat_eq (take (length word) bytes) word ≡ true → literal_at word bytes ≡ Ok (drop (length word) bytes)
 unfolding literal_at

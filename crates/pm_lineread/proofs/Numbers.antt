@@ -1,18 +1,16 @@
 -- Numbers in a base: no other text is one, and a text that goes on as one is one.
-use Rattle.std.proofs.Common.{◌≡◌, ℕ, ◌+◌, ◌-◌, ◌*◌, ◌/◌, ◌%◌, ◌^◌, ◌<◌, ◌≤◌, zero, suc, Bool, true, false, not, ◌&&◌, List, [], ◌∷◌, ◌++◌, length, nat_eq, nat_le, nat_lt, if◌then◌else◌, Result, Ok, Err, refl, ap, sym, subst, ◌∙◌, ◌⊎◌, inl, inr, arith, lit<, decimal, length-append, append_assoc}
+use Rattle.std.proofs.Common.{◌≡◌, ℕ, ◌+◌, ◌-◌, ◌*◌, ◌/◌, ◌%◌, ◌^◌, ◌<◌, ◌≤◌, zero, suc, Bool, true, false, ◌&&◌, List, [], ◌∷◌, ◌++◌, length, nat_eq, nat_le, nat_lt, Result, Ok, Err, refl, ap, sym, subst, ◌∙◌, ◌⊎◌, inl, inr, arith, decimal, length-append, append_assoc}
 use Rattle.std.specs.Fmt.{digit_glyph, digits}
-use Rattle.std.specs.List.{list_all}
 use Rattle.std.proofs.Math.Nat.{mul-le-mul_left}
 use Rattle.std.proofs.lemmas.Bool.{and_from, and_parts, cases_Bool, cases_eq, cases_lt, eq-eqb, ltb-true, leb-true, lt-ltb, le-leb, ne_eqb}
 use Rattle.std.proofs.lemmas.Bool.Decides.{nat_tests}
 use Rattle.std.proofs.lemmas.Fmt.{decimal_digit, decimal_step, hex_one_digit, hex_two_digits}
 use Rattle.std.proofs.lemmas.Grind.{common_steps}
-use Rattle.std.proofs.lemmas.List.{append_cancel_right}
 use Rattle.std.proofs.lemmas.List.Folds.{list_all-append}
-use Rattle.std.proofs.lemmas.Nat.{div-add-mod', div-mul-add, le-div, mod-mul-add, mod_below, same_from_place}
+use Rattle.std.proofs.lemmas.Nat.{div-add-mod', le-div, mod_below}
 use Rattle.pm_lineread.specs.Pieces.{closed, digit_starts, digit_value, ends, goes_on, longer_at, number_at}
 use Rattle.pm_lineread.proofs.Readers.{ReadsWord, answer_parts}
-use Rattle.pm_lineread.proofs.Shared.{clean_front, is_clean, shared, shared-append, shared-le, shared-longer, shared_front, shared_itself, words_alike}
+use Rattle.pm_lineread.proofs.Shared.{clean_front, is_clean, shared, shared_front, shared_itself, words_alike}
 
 -- the digits of each number up to the limit, in one base
 pub record IsNumeral (base limit : ℕ) (text : ℕ → List ℕ) : Type 0 where
@@ -354,7 +352,7 @@ module _ (base limit : ℕ) (text : ℕ → List ℕ) (is : IsNumeral base limit
     -- where it fails, it stopped at a byte that is no stop, or the first starts no number
     Failed : ℕ → List ℕ → ℕ → Type 0
     Failed b bytes left = ((digit_starts base least most (digit_value b) ≡ false) × (left ≡ length (b ∷ bytes)))
-      ⊎ ((digit_starts base least most (digit_value b) ≡ true) × (ends stop (longer_at base most (digit_value b) bytes).1 ≡ false) × (left ≡ length (longer_at base most (digit_value b) bytes).1))
+        ⊎ ((digit_starts base least most (digit_value b) ≡ true) × (ends stop (longer_at base most (digit_value b) bytes).1 ≡ false) × (left ≡ length (longer_at base most (digit_value b) bytes).1))
 
     number_failed : (b : ℕ) (bytes : List ℕ) (left : ℕ) → read (b ∷ bytes) ≡ Err left → Failed b bytes left
     unfolding number_at Failed

@@ -1,22 +1,17 @@
 -- The parts of an event: each is read exactly, and from its own texts.
-use Rattle.std.proofs.Common.{◌≡◌, ℕ, ◌+◌, ◌-◌, ◌^◌, ◌<◌, ◌≤◌, zero, suc, Bool, true, false, ◌&&◌, ◌||◌, List, [], ◌∷◌, ◌++◌, length, codes, decimal, nat_eq, nat_abs, nat_lt, nat_le, ℤ, pos, negsuc, if◌then◌else◌, slice_get, slice_index_or, Option, Some, None, Result, Ok, Err, refl, ap, sym, ◌∙◌, ◌⊎◌, inl, inr, arith, lit<, lit≤, append_assoc}
+use Rattle.std.proofs.Common.{◌≡◌, ℕ, ◌-◌, ◌^◌, ◌<◌, ◌≤◌, zero, suc, Bool, true, false, ◌&&◌, List, [], ◌∷◌, ◌++◌, length, codes, decimal, nat_eq, nat_lt, nat_le, ℤ, pos, negsuc, if◌then◌else◌, slice_get, Some, refl, ap, sym, ◌∙◌, ◌⊎◌, inl, inr, arith, lit<, lit≤, append_assoc}
 use Rattle.std.specs.Fmt.{digits, signed_decimal}
-use Rattle.std.specs.List.{list_all}
 use Rattle.std.specs.Ordering.{int_eq}
-use Rattle.std.proofs.lemmas.Bool.{and_from, and_parts, cases_Bool, cases_eq, cases_lt, leb-true, lt-ltb, ltb-true, ltb-false, le-leb, eqb-true, eq-eqb}
+use Rattle.std.proofs.lemmas.Bool.{and_from, and_parts, cases_Bool, cases_eq, leb-true, lt-ltb, ltb-true, ltb-false, le-leb, eq-eqb}
 use Rattle.std.proofs.lemmas.Bool.Decides.{Decides-int_eq, nat_tests}
 use Rattle.std.proofs.lemmas.Fmt.{decimal_digit}
-use Rattle.std.proofs.lemmas.Grind.{common_steps}
 use Rattle.std.proofs.lemmas.List.{append-nil}
-use Rattle.pm_base.specs.declared.Cb.{Cb}
-use Rattle.pm_base.specs.declared.Cb.TheVariants as cb
-use Rattle.pm_base.specs.declared.DevId.{DevId}
 use Rattle.pm_base.specs.declared.Req.{Req}
 use Rattle.pm_base.specs.declared.Req.TheVariants as req
 use Rattle.pm_base.specs.declared.Why.{Why}
 use Rattle.pm_base.specs.declared.Why.TheVariants as why
-use Rattle.pm_model.specs.LineOf.{are_fields, fits_i32, fits_signed, fits_u32, is_number_of, is_request, is_timer_line, is_why_of, is_work_line}
-use Rattle.pm_model.specs.Spelling.{Names, bit, cb_word, device_name, helper_word, kind_word, operand_part, padded, req_word, space, status_word, timer_text, why_text, work_text}
+use Rattle.pm_model.specs.LineOf.{are_fields, fits_signed, fits_u32, is_number_of, is_request, is_timer_line, is_why_of, is_work_line}
+use Rattle.pm_model.specs.Spelling.{Names, bit, device_name, kind_word, operand_part, padded, req_word, space, timer_text, why_text, work_text}
 use Rattle.pm_model.specs.declared.event.Fields.{Fields}
 use Rattle.pm_model.specs.declared.event.Operand.{Operand}
 use Rattle.pm_model.specs.declared.event.Operand.TheVariants as operand
@@ -24,17 +19,15 @@ use Rattle.pm_model.specs.declared.event.TimerAct.{TimerAct}
 use Rattle.pm_model.specs.declared.event.TimerAct.TheVariants as timer
 use Rattle.pm_model.specs.declared.event.WorkAct.{WorkAct}
 use Rattle.pm_model.specs.declared.event.WorkAct.TheVariants as work
-use Rattle.pm_names.specs.Table.{all_distinct}
 use Rattle.pm_lineread.specs.Pieces.{◌>>=◌, either_of, ended, ends, item_at, literal_at, number_at}
 use Rattle.pm_lineread.specs.Reading.{act_at, arm_at, bit_at, child_at, count_at, device_at, fields_at, fire_at, link_at, milliseconds_at, negative_at, operand_at, padding, positive_at, queue_at, queued_at, run_at, signed_at, states_at, supplier_at, switch_at, timer_kind_at, why_at, word_at}
 use Rattle.pm_lineread.proofs.Numbers.{decimal_is_numeral, first_high, hex_is_numeral, number_reads}
 use Rattle.pm_linetext.proofs.PieceLemmas.{padded_digit, padded_digits}
 use Rattle.pm_linetext.specs.Payload.{counts_text, states_text}
-use Rattle.pm_lineread.proofs.Places.{item_reads, place_reads}
-use Rattle.pm_linetext.specs.Words.{all_cbs, all_helpers, all_reqs, all_statuses}
-use Rattle.pm_names.specs.Words.{cb_words, helper_words, req_words, status_words}
+use Rattle.pm_lineread.proofs.Places.{item_reads}
+use Rattle.pm_linetext.specs.Words.{all_reqs}
+use Rattle.pm_names.specs.Words.{req_words}
 use Rattle.pm_lineread.proofs.Readers.{AfterLiteral, AfterWord, Reads, ReadsWord, either_reads, ended_reads, literal_reads, made_reads, reads-along, word_reads}
-use Rattle.pm_lineread.proofs.Shared.{is_clean}
 
 -- the texts of the values that pass a test
 abbrev pub Spelled : {C : Type 0} → (C → Bool) → (C → List ℕ) → List ℕ → C → Type 0
@@ -51,9 +44,9 @@ pub one_word_reads : {C : Type 0} (word : List ℕ) (x : C) → Reads (word_at w
 unfolding word_at
 one_word_reads {C} word x =
     reads-along (word_at word x) (AfterLiteral word (IsEnd x)) (IsWord word x)
-      (λ t c s. let (rest, whole, (none, is)) = s in (whole ∙ (ap (λ r. word ++ r) none ∙ append-nil word), is))
-      (λ t c s. let (whole, is) = s in ([], whole ∙ sym (append-nil word), (refl, is)))
-      (literal_reads word _ _ (ended_reads x))
+    (λ t c s. let (rest, whole, (none, is)) = s in (whole ∙ (ap (λ r. word ++ r) none ∙ append-nil word), is))
+    (λ t c s. let (whole, is) = s in ([], whole ∙ sym (append-nil word), (refl, is)))
+    (literal_reads word _ _ (ended_reads x))
 
 -- two texts that begin with words that differ
 
@@ -193,9 +186,9 @@ arm_reads : Reads arm_at IsArm
 unfolding arm_at
 arm_reads =
     literal_reads (codes "arm ") _ _
-      (word_reads 32 _ _ _ (decimal_reads 0 (2 ^ 64 - 1) (lit≤ tt) (lit≤ tt) (lit≤ tt)) _ (λ n. AfterLiteral (codes " ") (λ t act. (k : Bool) × Spelled (λ _. true) kind_word t k × (act ≡ timer.Arm n k)))
-        (λ n is. literal_reads (codes " ") _ _ (made_reads timer_kind_at _ timer_kind_reads (timer.Arm n)))
-        (λ n t act s. rw s.1 refl))
+    (word_reads 32 _ _ _ (decimal_reads 0 (2 ^ 64 - 1) (lit≤ tt) (lit≤ tt) (lit≤ tt)) _ (λ n. AfterLiteral (codes " ") (λ t act. (k : Bool) × Spelled (λ _. true) kind_word t k × (act ≡ timer.Arm n k)))
+    (λ n is. literal_reads (codes " ") _ _ (made_reads timer_kind_at _ timer_kind_reads (timer.Arm n)))
+    (λ n t act s. rw s.1 refl))
 
 abbrev IsFire : List ℕ → TimerAct → Type 0
 IsFire = AfterLiteral (codes "fire ") (λ t act. (k : Bool) × Spelled (λ _. true) kind_word t k × (act ≡ timer.Fire k))
@@ -238,20 +231,20 @@ queued_words : Reads queued_at IsQueued
 unfolding queued_at
 queued_words =
     either_reads (word_at (codes "idle") req.Idle) _ _ _ (one_word_reads (codes "idle") req.Idle)
-      (either_reads (word_at (codes "suspend") req.Suspend) _ _ _ (one_word_reads (codes "suspend") req.Suspend)
-        (either_reads (word_at (codes "autosuspend") req.Autosuspend) _ _ _ (one_word_reads (codes "autosuspend") req.Autosuspend) (one_word_reads (codes "resume") req.Resume)
-          (λ t c d a b. clash (codes "autosuspend") (codes "resume") t refl (autosuspend_begins t c a) (resume_begins t d b)))
-        (λ t c d a b. elim b [
-          | inl s ↦ clash (codes "suspend") (codes "autosuspend") t refl (suspend_begins t c a) (autosuspend_begins t d s)
-          | inr s ↦ clash (codes "suspend") (codes "resume") t refl (suspend_begins t c a) (resume_begins t d s)
-        ]))
-      (λ t c d a b. elim b [
-        | inl s ↦ clash (codes "idle") (codes "suspend") t refl (idle_begins t c a) (suspend_begins t d s)
-        | inr others ↦ elim others [
-          | inl s ↦ clash (codes "idle") (codes "autosuspend") t refl (idle_begins t c a) (autosuspend_begins t d s)
-          | inr s ↦ clash (codes "idle") (codes "resume") t refl (idle_begins t c a) (resume_begins t d s)
-        ]
-      ])
+    (either_reads (word_at (codes "suspend") req.Suspend) _ _ _ (one_word_reads (codes "suspend") req.Suspend)
+    (either_reads (word_at (codes "autosuspend") req.Autosuspend) _ _ _ (one_word_reads (codes "autosuspend") req.Autosuspend) (one_word_reads (codes "resume") req.Resume)
+    (λ t c d a b. clash (codes "autosuspend") (codes "resume") t refl (autosuspend_begins t c a) (resume_begins t d b)))
+    (λ t c d a b. elim b [
+      | inl s ↦ clash (codes "suspend") (codes "autosuspend") t refl (suspend_begins t c a) (autosuspend_begins t d s)
+      | inr s ↦ clash (codes "suspend") (codes "resume") t refl (suspend_begins t c a) (resume_begins t d s)
+    ]))
+    (λ t c d a b. elim b [
+      | inl s ↦ clash (codes "idle") (codes "suspend") t refl (idle_begins t c a) (suspend_begins t d s)
+      | inr others ↦ elim others [
+        | inl s ↦ clash (codes "idle") (codes "autosuspend") t refl (idle_begins t c a) (autosuspend_begins t d s)
+        | inr s ↦ clash (codes "idle") (codes "resume") t refl (idle_begins t c a) (resume_begins t d s)
+      ]
+    ])
 
 queued_reads : Reads queued_at (Spelled is_request req_word)
 queued_reads = reads-along _ _ _ to from queued_words
@@ -302,13 +295,13 @@ pub act_reads : Reads act_at (Spelled is_work_line work_text)
 unfolding act_at
 act_reads =
     reads-along _ _ _ to from
-      (either_reads queue_at _ IsQueue _ queue_reads
-        (either_reads (word_at (codes "defer") work.Defer) run_at IsDefer IsRun (one_word_reads (codes "defer") work.Defer) run_reads
-          (λ t c d a b. clash (codes "defer") (codes "run ") t refl (word_begins (codes "defer") work.Defer t c a) (b.0, b.1)))
-        (λ t c d a b. elim b [
-          | inl s ↦ clash (codes "queue ") (codes "defer") t refl (a.0, a.1) (word_begins (codes "defer") work.Defer t d s)
-          | inr s ↦ clash (codes "queue ") (codes "run ") t refl (a.0, a.1) (s.0, s.1)
-        ]))
+    (either_reads queue_at _ IsQueue _ queue_reads
+    (either_reads (word_at (codes "defer") work.Defer) run_at IsDefer IsRun (one_word_reads (codes "defer") work.Defer) run_reads
+    (λ t c d a b. clash (codes "defer") (codes "run ") t refl (word_begins (codes "defer") work.Defer t c a) (b.0, b.1)))
+    (λ t c d a b. elim b [
+      | inl s ↦ clash (codes "queue ") (codes "defer") t refl (a.0, a.1) (word_begins (codes "defer") work.Defer t d s)
+      | inr s ↦ clash (codes "queue ") (codes "run ") t refl (a.0, a.1) (s.0, s.1)
+    ]))
   where
     to : (t : List ℕ) (act : WorkAct) → IsQueue t act ⊎ (IsDefer t act ⊎ IsRun t act) → Spelled is_work_line work_text t act
     to t act (inl (rest, whole, (r, (fits, word), is))) = rw is (fits, rw (whole, word) refl)
@@ -388,12 +381,12 @@ module _ (flags cnt dep : ℕ) where
   unfolding states_at
   states_reads =
       word_reads 32 _ _ _ bits _ FromAuto
-        (λ a is. literal_reads (codes " p-") _ _
-          (word_reads 32 _ _ _ bits _ (FromPending a)
-            (λ p is. literal_reads (codes " irq-0 child-") _ _
-              (word_reads 32 _ _ _ count_reads (λ c. ended (made a p c)) (λ c. IsEnd (made a p c)) (λ c is. ended_reads (made a p c)) (λ c. end_stops 32 (made a p c))))
-            (λ p t f s. rw s.1 refl)))
-        (λ a t f s. rw s.1 refl)
+      (λ a is. literal_reads (codes " p-") _ _
+      (word_reads 32 _ _ _ bits _ (FromPending a)
+      (λ p is. literal_reads (codes " irq-0 child-") _ _
+      (word_reads 32 _ _ _ count_reads (λ c. ended (made a p c)) (λ c. IsEnd (made a p c)) (λ c is. ended_reads (made a p c)) (λ c. end_stops 32 (made a p c))))
+      (λ p t f s. rw s.1 refl)))
+      (λ a t f s. rw s.1 refl)
 
 abbrev FromDep : ℕ → ℕ → ℕ → List ℕ → Fields → Type 0
 FromDep flags cnt dep = AfterLiteral (padding dep) (AfterLiteral (codes " auto-") (IsStates flags cnt dep))
@@ -410,20 +403,20 @@ AreFields = AfterLiteral (codes " flags-") (AfterWord IsFlags (digits 16 false) 
 dep_reads : (flags cnt : ℕ) → Reads (λ bytes. count_at bytes >>= (λ dep. literal_at (padding dep.0) dep.1 >>= (λ rest. literal_at (codes " auto-") rest >>= states_at flags cnt dep.0))) (AfterWord IsCount decimal (FromDep flags cnt))
 dep_reads flags cnt =
     word_reads 32 _ _ _ count_reads _ (FromDep flags cnt)
-      (λ dep is. literal_reads (padding dep) _ _ (literal_reads (codes " auto-") _ _ (states_reads flags cnt dep)))
-      (λ dep t f s. rw (s.1, s.2.1) (padding_stops dep _))
+    (λ dep is. literal_reads (padding dep) _ _ (literal_reads (codes " auto-") _ _ (states_reads flags cnt dep)))
+    (λ dep t f s. rw (s.1, s.2.1) (padding_stops dep _))
 
 cnt_reads : (flags : ℕ) → Reads (λ bytes. count_at bytes >>= (λ cnt. literal_at (padding cnt.0) cnt.1 >>= (λ rest. literal_at (codes " dep-") rest >>= (λ rest. count_at rest >>= (λ dep. literal_at (padding dep.0) dep.1 >>= (λ rest. literal_at (codes " auto-") rest >>= states_at flags cnt.0 dep.0)))))) (AfterWord IsCount decimal (FromCnt flags))
 cnt_reads flags =
     word_reads 32 _ _ _ count_reads _ (FromCnt flags)
-      (λ cnt is. literal_reads (padding cnt) _ _ (literal_reads (codes " dep-") _ _ (dep_reads flags cnt)))
-      (λ cnt t f s. rw (s.1, s.2.1) (padding_stops cnt _))
+    (λ cnt is. literal_reads (padding cnt) _ _ (literal_reads (codes " dep-") _ _ (dep_reads flags cnt)))
+    (λ cnt t f s. rw (s.1, s.2.1) (padding_stops cnt _))
 
 are_fields_reads : Reads fields_at AreFields
 unfolding fields_at
 are_fields_reads =
     literal_reads (codes " flags-") _ _
-      (word_reads 32 _ _ _ hex_reads _ FromFlags (λ flags is. literal_reads (codes " cnt-") _ _ (cnt_reads flags)) (λ flags t f s. rw s.1 refl))
+    (word_reads 32 _ _ _ hex_reads _ FromFlags (λ flags is. literal_reads (codes " cnt-") _ _ (cnt_reads flags)) (λ flags t f s. rw s.1 refl))
 
 abbrev pub fields_text : Fields → List ℕ
 fields_text f = counts_text f ++ states_text f
@@ -456,7 +449,7 @@ spread flags cnt dep a p c =
 spread_text : (f : Fields) (a p : ℕ) → fits_u32 f.cnt ≡ true → fits_u32 f.dep ≡ true → bit f.auto_on ≡ decimal a → bit f.pending ≡ decimal p → fields_text f ≡ spread f.flags f.cnt f.dep a p f.child
 spread_text f a p cnt dep auto_on pending =
     regroup (codes " flags-") (digits 16 false f.flags) (codes " cnt-") (padded (decimal f.cnt)) (decimal f.cnt) (padding f.cnt) (codes " dep-") (padded (decimal f.dep)) (decimal f.dep) (padding f.dep)
-      (codes " auto-") (bit f.auto_on) (decimal a) (codes " p-") (bit f.pending) (decimal p) (codes " irq-0 child-") (decimal f.child) (pads f.cnt cnt) (pads f.dep dep) auto_on pending
+    (codes " auto-") (bit f.auto_on) (decimal a) (codes " p-") (bit f.pending) (decimal p) (codes " irq-0 child-") (decimal f.child) (pads f.cnt cnt) (pads f.dep dep) auto_on pending
 
 to_fields : (t : List ℕ) (f : Fields) → AreFields t f → Spelled are_fields fields_text t f
 to_fields t f (t1, e1, (flags, t2, is_flags, e2, (t3, e3, (cnt, t4, is_cnt, e4, (t5, e5, (t6, e6, (dep, t7, is_dep, e7, (t8, e8, (t9, e9, (a, t10, is_a, e10, (t11, e11, (p, t12, is_p, e12, (t13, e13, (c, t14, is_c, e14, (none, is))))))))))))))) =
@@ -506,8 +499,8 @@ module _ (names : Names) (devices : ReadsWord 32 (device_at names) (λ d. nat_lt
   unfolding switch_at
   switch_reads =
       reads-along _ _ _ to from
-        (either_reads (word_at (codes " off") (pos 0)) (word_at (codes " on") (pos 1)) _ _ (one_word_reads (codes " off") (pos 0)) (one_word_reads (codes " on") (pos 1))
-          (λ t c d a b. clash (codes " off") (codes " on") t refl (word_begins (codes " off") (pos 0) t c a) (word_begins (codes " on") (pos 1) t d b)))
+      (either_reads (word_at (codes " off") (pos 0)) (word_at (codes " on") (pos 1)) _ _ (one_word_reads (codes " off") (pos 0)) (one_word_reads (codes " on") (pos 1))
+      (λ t c d a b. clash (codes " off") (codes " on") t refl (word_begins (codes " off") (pos 0) t c a) (word_begins (codes " on") (pos 1) t d b)))
     where
       to : (t : List ℕ) (n : ℤ) → IsWord (codes " off") (pos 0) t n ⊎ IsWord (codes " on") (pos 1) t n → Spelled (is_number_of count operand.Switch) (operand_part names operand.Switch) t n
       to t n (inl (whole, is)) = rw is (refl, whole)
@@ -523,7 +516,7 @@ module _ (names : Names) (devices : ReadsWord 32 (device_at names) (λ d. nat_lt
   unfolding milliseconds_at
   milliseconds_reads =
       reads-along _ _ _ (λ t n s. let (rest, whole, (fits, number)) = s in (fits, whole ∙ ap (λ r. space ++ r) number)) (λ t n s. (signed_decimal n, s.1, (s.0, refl)))
-        (literal_reads (codes " ") _ _ (signed_reads (2 ^ 63) (lit< tt) (lit≤ tt)))
+      (literal_reads (codes " ") _ _ (signed_reads (2 ^ 63) (lit< tt) (lit≤ tt)))
 
   abbrev SupplierText : List ℕ → ℤ → Type 0
   SupplierText = Spelled (is_number_of count operand.Supplier) (operand_part names operand.Supplier)
@@ -532,9 +525,9 @@ module _ (names : Names) (devices : ReadsWord 32 (device_at names) (λ d. nat_lt
   unfolding supplier_at
   supplier_reads =
       reads-along _ (IsDeviceLast (codes " ") pos) SupplierText
-        (λ t n s. let (d, is, whole, number) = device_last_text (codes " ") pos t n s in rw number (and_from (nat_le 0 d) (IsDevice d) (le-leb 0 d (omega arith)) is, whole))
-        from
-        (device_last_reads (codes " ") pos)
+      (λ t n s. let (d, is, whole, number) = device_last_text (codes " ") pos t n s in rw number (and_from (nat_le 0 d) (IsDevice d) (le-leb 0 d (omega arith)) is, whole))
+      from
+      (device_last_reads (codes " ") pos)
     where
       from : (t : List ℕ) (n : ℤ) → SupplierText t n → IsDeviceLast (codes " ") pos t n
       from t (pos d) (fits, whole) = device_last_from (codes " ") pos t d (and_parts (nat_le 0 d) (IsDevice d) fits).1 whole
@@ -602,14 +595,14 @@ module _ (names : Names) (devices : ReadsWord 32 (device_at names) (λ d. nat_lt
   unfolding why_at
   why_words =
       either_reads (word_at (codes "caller") why.Caller) _ _ IsWhy2 (one_word_reads (codes "caller") why.Caller)
-        (either_reads (word_at (codes "control") why.Control) _ _ IsWhy3 (one_word_reads (codes "control") why.Control)
-          (either_reads (word_at (codes "forbid") why.Forbid) _ _ IsWhy4 (one_word_reads (codes "forbid") why.Forbid)
-            (either_reads (word_at (codes "delay") why.Delay) _ _ IsWhy5 (one_word_reads (codes "delay") why.Delay)
-              (either_reads (child_at names) (link_at names) IsChild IsLink child_reads link_reads (λ t c d a b. clash (codes "child ") (codes "link ") t refl (a.0, a.1) (b.0, b.1)))
-              (λ t c d a b. apart5 (codes "delay") t d refl refl (word_begins (codes "delay") why.Delay t c a) b))
-            (λ t c d a b. apart4 (codes "forbid") t d refl refl refl (word_begins (codes "forbid") why.Forbid t c a) b))
-          (λ t c d a b. apart3 (codes "control") t d refl refl refl refl (word_begins (codes "control") why.Control t c a) b))
-        (λ t c d a b. apart2 (codes "caller") t d refl refl refl refl refl (word_begins (codes "caller") why.Caller t c a) b)
+      (either_reads (word_at (codes "control") why.Control) _ _ IsWhy3 (one_word_reads (codes "control") why.Control)
+      (either_reads (word_at (codes "forbid") why.Forbid) _ _ IsWhy4 (one_word_reads (codes "forbid") why.Forbid)
+      (either_reads (word_at (codes "delay") why.Delay) _ _ IsWhy5 (one_word_reads (codes "delay") why.Delay)
+      (either_reads (child_at names) (link_at names) IsChild IsLink child_reads link_reads (λ t c d a b. clash (codes "child ") (codes "link ") t refl (a.0, a.1) (b.0, b.1)))
+      (λ t c d a b. apart5 (codes "delay") t d refl refl (word_begins (codes "delay") why.Delay t c a) b))
+      (λ t c d a b. apart4 (codes "forbid") t d refl refl refl (word_begins (codes "forbid") why.Forbid t c a) b))
+      (λ t c d a b. apart3 (codes "control") t d refl refl refl refl (word_begins (codes "control") why.Control t c a) b))
+      (λ t c d a b. apart2 (codes "caller") t d refl refl refl refl refl (word_begins (codes "caller") why.Caller t c a) b)
 
   to_why : (t : List ℕ) (w : Why) → IsWhy1 t w → Spelled (is_why_of count) (why_text names) t w
   to_why t w (inl (whole, is)) = rw is (refl, whole)

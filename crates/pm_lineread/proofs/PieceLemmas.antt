@@ -1,6 +1,6 @@
 -- What the loops over words and over bytes reach.
-use Rattle.std.proofs.Common.{◌≡◌, ℕ, ◌+◌, ◌≤◌, ◌<◌, max, zero, suc, Bool, true, false, List, [], ◌∷◌, ◌++◌, length, take, not, nat_eq, position, unwrap_or, slice_get, Option, Some, None, refl, ap, sym, ◌∙◌, arith}
-use Rattle.std.specs.List.{common_prefix_len, position_or_len, prefix_len}
+use Rattle.std.proofs.Common.{◌≡◌, ℕ, ◌+◌, max, Bool, List, [], ◌∷◌, ◌++◌, length, take, not, nat_eq, position, unwrap_or, slice_get, Some, ap, ◌∙◌, arith}
+use Rattle.std.specs.List.{common_prefix_len, position_or_len}
 use Rattle.std.proofs.lemmas.Bool.Decides.{nat_tests}
 use Rattle.std.proofs.lemmas.Grind.{common_steps}
 use Rattle.std.proofs.lemmas.List.Sums.{prefix_len-le-length}

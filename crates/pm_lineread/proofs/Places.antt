@@ -1,8 +1,7 @@
 -- A word that is one of a list.
-use Rattle.std.proofs.Common.{◌≡◌, ℕ, ◌+◌, ◌-◌, ◌<◌, ◌≤◌, zero, suc, Bool, true, false, not, List, [], ◌∷◌, ◌++◌, length, map, max, take, drop, nat_eq, nat_lt, get_or, slice_index_or, slice_get, Option, Some, None, IfSome, Result, Ok, Err, refl, ap, sym, ◌∙◌, ◌⊎◌, inl, inr, arith, length-append}
+use Rattle.std.proofs.Common.{◌≡◌, ℕ, ◌+◌, ◌-◌, ◌<◌, ◌≤◌, suc, Bool, true, List, [], ◌∷◌, ◌++◌, length, map, nat_eq, nat_lt, get_or, slice_index_or, slice_get, Option, Some, None, Result, Ok, Err, refl, ap, sym, ◌∙◌, inl, inr, arith}
 use Rattle.std.specs.List.{list_all, position_or_len}
-use Rattle.std.specs.Str.{bytes_eq}
-use Rattle.std.proofs.lemmas.Bool.{and_parts, cases_eq, cases_lt, ltb-true, lt-ltb, ne_eqb, eq-eqb}
+use Rattle.std.proofs.lemmas.Bool.{cases_eq, cases_lt, ltb-true, lt-ltb, ne_eqb, eq-eqb}
 use Rattle.std.proofs.lemmas.Bool.Decides.{nat_tests}
 use Rattle.std.proofs.lemmas.Grind.{common_steps}
 use Rattle.std.proofs.lemmas.List.{length-map}
@@ -15,9 +14,9 @@ use Rattle.pm_names.specs.Table.{all_distinct}
 use Rattle.pm_model.proofs.CommonLen.{common_len-le, le-common_len}
 use Rattle.pm_model.proofs.PlaceNamed.{place_named-found}
 use Rattle.pm_model.specs.NamedList.{common_len, place_named}
-use Rattle.pm_lineread.specs.Pieces.{◌>>=◌, ends, item_at, itemed, place_at, placed}
+use Rattle.pm_lineread.specs.Pieces.{ends, item_at, itemed, place_at, placed}
 use Rattle.pm_lineread.proofs.Readers.{ReadsWord, answer_parts, chain_err, chain_from, chain_ok}
-use Rattle.pm_lineread.proofs.Shared.{is_clean, shared, shared-le, words_alike, words_share}
+use Rattle.pm_lineread.proofs.Shared.{is_clean, shared, shared-le, words_share}
 
 -- the bytes before the first stop, and those from it on
 
@@ -93,7 +92,7 @@ module _ (words : List (List ℕ)) (stop : ℕ) (distinct : all_distinct words �
   place_sound bytes place rest h =
       let parts = split stop bytes in
       let answer : placed (place_named parts.word words) parts.rest (length (parts.word ++ parts.rest) - common_len (parts.word ++ parts.rest) words) ≡ Ok (place, rest) =
-          sym (place_at_word words stop parts.word parts.rest parts.clean parts.stops) ∙ (ap (place_at words stop) (sym parts.whole) ∙ h) in
+      sym (place_at_word words stop parts.word parts.rest parts.clean parts.stops) ∙ (ap (place_at words stop) (sym parts.whole) ∙ h) in
       let (found, tail) = placed_ok (place_named parts.word words) parts.rest _ place rest answer in
       let there : slice_get words place ≡ Some parts.word = stands parts.word (place_named parts.word words) refl place found in
       let word : word_of place ≡ parts.word = get_or_from_slice_get words place parts.word [] there in
@@ -117,7 +116,7 @@ module _ (words : List (List ℕ)) (stop : ℕ) (distinct : all_distinct words �
   no_place bytes left h =
       let parts = split stop bytes in
       let answer : placed (place_named parts.word words) parts.rest (length (parts.word ++ parts.rest) - common_len (parts.word ++ parts.rest) words) ≡ Err left =
-          sym (place_at_word words stop parts.word parts.rest parts.clean parts.stops) ∙ (ap (place_at words stop) (sym parts.whole) ∙ h) in
+      sym (place_at_word words stop parts.word parts.rest parts.clean parts.stops) ∙ (ap (place_at words stop) (sym parts.whole) ∙ h) in
       let (none, count) = placed_err (place_named parts.word words) parts.rest _ left answer in
       record { parts = parts; missing = none; count = sym count ∙ ap (λ t. length t - common_len t words) (sym parts.whole) }
 

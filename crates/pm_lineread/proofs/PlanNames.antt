@@ -1,11 +1,10 @@
 -- The names of a plan: each name of a list is another, and none has a byte that ends it in a line.
-use Rattle.std.proofs.Common.{◌≡◌, ℕ, ◌+◌, Bool, true, false, not, ◌&&◌, ◌||◌, List, [], ◌∷◌, length, map, nat_eq, nat_le, refl, sym, ◌∙◌, inl, inr, arith}
+use Rattle.std.proofs.Common.{◌≡◌, ℕ, ◌+◌, Bool, true, false, not, List, [], ◌∷◌, length, map, nat_eq, refl, inl, inr, arith}
 use Rattle.std.specs.List.{list_all, list_any}
 use Rattle.std.specs.Str.{bytes_eq}
 use Rattle.std.proofs.lemmas.Bool.{and_from, and_parts, cases_Bool, eqb-true}
 use Rattle.std.proofs.lemmas.Grind.{common_steps}
-use Rattle.pm_model.specs.IsPlan.{are_distinct, each_at, is_caller, is_device, is_link, is_name_byte, is_name_of, is_plain_byte, is_plan}
-use Rattle.pm_model.specs.Spelling.{Names}
+use Rattle.pm_model.specs.IsPlan.{are_distinct, each_at, is_caller, is_device, is_name_byte, is_name_of, is_plain_byte, is_plan}
 use Rattle.pm_model.specs.Text.{names_of}
 use Rattle.pm_model.specs.declared.plan.Plan.{Plan}
 use Rattle.pm_model.specs.declared.rows.CallerRow.{CallerRow}

@@ -1,10 +1,10 @@
 -- What a reader is to a language of texts, and how readers are put together.
-use Rattle.std.proofs.Common.{◌≡◌, ℕ, ◌+◌, ◌<◌, ◌≤◌, min, zero, suc, Bool, true, false, List, [], ◌∷◌, ◌++◌, length, nat_eq, Result, Ok, Err, refl, ap, sym, subst, ◌∙◌, ◌⊎◌, inl, inr, arith, length-append, append_assoc}
-use Rattle.std.proofs.lemmas.Bool.{eqb-true, eq-eqb, ne_eqb, cases_eq, cases_lt}
+use Rattle.std.proofs.Common.{◌≡◌, ℕ, ◌+◌, ◌≤◌, min, Bool, true, List, [], ◌∷◌, ◌++◌, length, Result, Ok, Err, refl, ap, sym, subst, ◌∙◌, ◌⊎◌, inl, inr, arith, length-append}
+use Rattle.std.proofs.lemmas.Bool.{eq-eqb, ne_eqb, cases_eq, cases_lt}
 use Rattle.std.proofs.lemmas.Bool.Decides.{nat_tests}
 use Rattle.std.proofs.lemmas.Grind.{common_steps}
 use Rattle.pm_lineread.specs.Pieces.{◌>>=◌, either_of, ended, ends, literal_at}
-use Rattle.pm_lineread.proofs.Shared.{is_clean, shared, shared-append, shared-le, shared-longer, shared_itself, words_alike, words_part}
+use Rattle.pm_lineread.proofs.Shared.{is_clean, shared, shared-append, shared-longer, words_part}
 
 -- It reads each text of the language whole, and nothing else. Where it fails, what isn't left is the most that
 -- the bytes have in common with a text.

@@ -1,6 +1,6 @@
 -- Reading a line, from left to right, as the functions of src/ do it. What this has to do with the texts of lines is
 -- no part of it: that is proved of it, and the contracts of read_line and read_line2 say it.
-use Rattle.std.specs.Prelude.{ℕ, ◌+◌, ◌-◌, ◌^◌, Bool, true, false, List, [], ◌∷◌, ◌++◌, Result, Ok, Err, ℤ, pos, negsuc, codes, length, nat_eq, nat_lt, if◌then◌else◌}
+use Rattle.std.specs.Prelude.{ℕ, ◌+◌, ◌-◌, ◌^◌, Bool, true, false, List, [], Result, Ok, Err, ℤ, pos, negsuc, codes, length, nat_eq, nat_lt, if◌then◌else◌}
 use Rattle.pm_base.specs.declared.ActorId.{ActorId}
 use Rattle.pm_base.specs.declared.ActorId.TheVariants.{Caller, Work, Timer}
 use Rattle.pm_base.specs.declared.Cb.{Cb}
@@ -22,7 +22,6 @@ use Rattle.pm_model.specs.declared.event.Operand.{Operand}
 use Rattle.pm_model.specs.declared.event.Operand.TheVariants as operand
 use Rattle.pm_model.specs.declared.event.TimerAct.{TimerAct}
 use Rattle.pm_model.specs.declared.event.TimerAct.TheVariants as timer
-use Rattle.pm_model.specs.declared.event.Word.{Word}
 use Rattle.pm_model.specs.declared.event.WorkAct.{WorkAct}
 use Rattle.pm_model.specs.declared.event.WorkAct.TheVariants as work
 use Rattle.pm_names.specs.Words.{cb_words, event_words, helper_words, req_words, status_words}
@@ -133,10 +132,10 @@ link_at names bytes = do
 unfoldable pub why_at : Names → List ℕ → Result Why ℕ
 why_at names bytes =
     either_of (word_at (codes "caller") why.Caller bytes)
-      (either_of (word_at (codes "control") why.Control bytes)
-        (either_of (word_at (codes "forbid") why.Forbid bytes)
-          (either_of (word_at (codes "delay") why.Delay bytes)
-            (either_of (child_at names bytes) (link_at names bytes)))))
+    (either_of (word_at (codes "control") why.Control bytes)
+    (either_of (word_at (codes "forbid") why.Forbid bytes)
+    (either_of (word_at (codes "delay") why.Delay bytes)
+    (either_of (child_at names bytes) (link_at names bytes)))))
 
 unfoldable pub get_at : Names → List ℕ → Result Event ℕ
 get_at names bytes = do
@@ -258,8 +257,8 @@ domain_at names bytes = do
 unfoldable pub queued_at : List ℕ → Result Req ℕ
 queued_at bytes =
     either_of (word_at (codes "idle") req.Idle bytes)
-      (either_of (word_at (codes "suspend") req.Suspend bytes)
-        (either_of (word_at (codes "autosuspend") req.Autosuspend bytes) (word_at (codes "resume") req.Resume bytes)))
+    (either_of (word_at (codes "suspend") req.Suspend bytes)
+    (either_of (word_at (codes "autosuspend") req.Autosuspend bytes) (word_at (codes "resume") req.Resume bytes)))
 
 unfoldable pub queue_at : List ℕ → Result WorkAct ℕ
 queue_at bytes = do
@@ -369,7 +368,7 @@ step_at names bytes =
     if nat_eq (length names.devices) 0
     then caller_step_at names bytes
     else either_of (device_step_at names (codes "work.") Work bytes)
-      (either_of (device_step_at names (codes "timer.") Timer bytes) (caller_step_at names bytes))
+    (either_of (device_step_at names (codes "timer.") Timer bytes) (caller_step_at names bytes))
 
 -- a line whose time is given since base
 unfoldable pub some_line_at : Names → ℕ → List ℕ → Result Line ℕ

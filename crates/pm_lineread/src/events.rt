@@ -136,7 +136,15 @@ fn ret(plan: &Plan, bytes: &[u8]) -> Result<Event, Left>
         device_ret(plan, helper, rest)
     } else {
         let dev = DevId(0);
-        word(b" 0", Event::Ret { helper, dev, code: 0 }, rest)
+        word(
+            b" 0",
+            Event::Ret {
+                helper,
+                dev,
+                code: 0,
+            },
+            rest,
+        )
     }
 }
 

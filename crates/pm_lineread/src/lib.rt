@@ -76,5 +76,4 @@ pub fn texts_are_distinct()
     ensures text2 { (plan : Plan) (base : ℕ) (a b : Line) → is_line_of plan a ≡ true → is_line_of plan b ≡ true
         → base ≤ a.time → base ≤ b.time
         → line_text2 (names_of plan) base a ≡ line_text2 (names_of plan) base b → a ≡ b }
-{
-}
+{}

@@ -72,11 +72,7 @@ fn some_line(plan: &Plan, base: u64, bytes: &[u8]) -> Result<Line, Left>
     let (since, rest) = number(10, 0, (1 << 63) - 1 - base, bytes)?;
     let (actor, event) = step(plan, literal(b" ", rest)?)?;
     let time = base + since;
-    Ok(Line {
-        time,
-        actor,
-        event,
-    })
+    Ok(Line { time, actor, event })
 }
 
 /// A line whose time is given since `base`.

@@ -92,10 +92,7 @@ fn word_len(stop: u8, bytes: &[u8]) -> usize
 
 /// The place of the name that stands before the first space, and what follows the name.
 #[tactic(auto, using(crate::proofs::Places::common_len_fits), unfolding(crate::specs::Pieces::place_at))]
-fn named<'a, T: Named>(
-    list: &NamedList<T>,
-    bytes: &'a [u8],
-) -> Result<(usize, &'a [u8]), Left>
+fn named<'a, T: Named>(list: &NamedList<T>, bytes: &'a [u8]) -> Result<(usize, &'a [u8]), Left>
     ensures place { Gives (λ found. (found.0, found.1.now)) result (place_at (map T.name_of list.now) 32 bytes.now) }
     ensures within { IfOk result (λ found. found.0 < length list.now) }
 {
@@ -215,12 +212,7 @@ fn close(number: u64, rest: &[u8]) -> Result<(u64, &[u8]), Left>
 
 /// A number from `least`, which is 0 or 1, to `most`, and what follows it.
 #[tactic(auto, unfolding(crate::specs::Pieces::number_at))]
-pub(crate) fn number(
-    base: u64,
-    least: u64,
-    most: u64,
-    bytes: &[u8],
-) -> Result<(u64, &[u8]), Left>
+pub(crate) fn number(base: u64, least: u64, most: u64, bytes: &[u8]) -> Result<(u64, &[u8]), Left>
     ensures number { Gives (λ found. (found.0, found.1.now)) result (number_at base least most 32 bytes.now) }
     ensures fits { IfOk result (λ found. found.0 ≤ most) }
 {

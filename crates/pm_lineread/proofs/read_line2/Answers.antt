@@ -1,9 +1,5 @@
 -- What reading the line from left to right answers is what the contract says.
-use Rattle.std.proofs.Common.{◌≡◌, List, ℕ, Ok, Err, sym, ◌∙◌, ap}
-use Rattle.pm_model.specs.Text.{names_of}
-use Rattle.pm_model.specs.declared.event.Line.{Line}
-use Rattle.pm_lineread.specs.Reading.{line_at}
-use Rattle.pm_lineread.specs.Texts.{IsText2Of}
+use Rattle.std.proofs.Common.{Ok, sym, ◌∙◌, ap}
 use Rattle.pm_lineread.proofs.Answered.{fault_longest, left_fits, not_text2, read_text2, text2_read}
 use Rattle.pm_lineread.proofs.Readers.{one_answer}
 use Rattle.pm_lineread.proofs.read_line2.Goals as goal

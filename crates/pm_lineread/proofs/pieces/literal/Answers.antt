@@ -1,6 +1,5 @@
 -- What strip_prefix tells of the front is what reading the word byte by byte gives.
 use Rattle.std.proofs.Common.{◌-◌, length, Ok, Err, ap, ◌∙◌, sym}
-use Rattle.std.proofs.lemmas.Grind.{common_steps}
 use Rattle.pm_lineread.proofs.LiteralLemmas.{literal_found, literal_missed}
 use Rattle.pm_lineread.proofs.pieces.literal.Goals as goal
 

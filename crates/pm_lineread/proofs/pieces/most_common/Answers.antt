@@ -1,6 +1,5 @@
 -- One word more.
-use Rattle.std.proofs.Common.{◌+◌, max, take, ◌∙◌, ap, sym, arith}
-use Rattle.std.specs.List.{common_prefix_len}
+use Rattle.std.proofs.Common.{arith}
 use Rattle.std.proofs.lemmas.Grind.{common_steps}
 use Rattle.pm_lineread.proofs.PieceLemmas.{common_len_more}
 use Rattle.pm_lineread.proofs.pieces.most_common.Goals as goal
