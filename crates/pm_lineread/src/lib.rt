@@ -18,6 +18,8 @@ mod events;
 mod kinds;
 mod lines;
 mod pieces;
+#[cfg(test)]
+mod tests;
 
 use crate::lines::line;
 use pm_model::{Line, Plan};
