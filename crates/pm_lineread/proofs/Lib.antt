@@ -1,0 +1,12 @@
+pub mod SignedLemmas
+pub mod PieceLemmas
+pub mod LiteralLemmas
+pub mod Shared
+pub mod Readers
+pub mod Numbers
+pub mod Places
+pub mod Parts
+pub mod EventReads
+pub mod LineReads
+pub mod PlanNames
+pub mod Answered

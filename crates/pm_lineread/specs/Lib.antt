@@ -1,0 +1,5 @@
+pub mod Gives
+pub mod Kinds
+pub mod Pieces
+pub mod Reading
+pub mod Texts
