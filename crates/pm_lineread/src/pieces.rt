@@ -7,7 +7,7 @@
 ghost use Rattle.std.specs.Prelude.{◌≡◌, ℕ, ◌+◌, ◌*◌, ◌-◌, ◌^◌, ◌<◌, ◌≤◌, Some, None, true, List, map, length, nat_eq, position, IfOk, if◌then◌else◌};
 ghost use Rattle.std.specs.List.{common_prefix_len, position_or_len};
 ghost use Rattle.pm_model.specs.LineOf.{fits_i32, fits_signed};
-ghost use Rattle.pm_model.specs.NamedList.{common_len};
+ghost use Rattle.pm_lists.specs.NamedList.{common_len};
 ghost use Rattle.pm_model.specs.Text.{names_of};
 ghost use Rattle.pm_lineread.specs.Gives.{Gives};
 ghost use Rattle.pm_lineread.specs.Pieces.{closed, digit_value, either_of, ended, goes_on, itemed, literal_at, longer_at, number_at, place_at};
