@@ -7,7 +7,7 @@ ghost use Rattle.pm_plantree.specs.Raw.{key_place, number_at, numbers_at, number
 
 use crate::tree::{items_at, list_at, member};
 use pm_base::DEFAULT_LINES;
-use pm_model::{Items, Name};
+use pm_model::{Items, Name, Named};
 use std::alloc::{AllocError, Global};
 use toml::{Table, Value};
 
@@ -20,6 +20,14 @@ pub struct RawDomain {
     pub name: Name,
     pub parent: Option<Name>,
     pub always_on: bool,
+}
+
+impl Named for RawDomain {
+    ghost name_of = { λ row. row.name };
+
+    fn name(&self) -> &Name {
+        &self.name
+    }
 }
 
 /// A device, which names its parent and its domain.
@@ -39,6 +47,14 @@ pub struct RawDevice {
     pub resume_ms: i64,
 }
 
+impl Named for RawDevice {
+    ghost name_of = { λ row. row.name };
+
+    fn name(&self) -> &Name {
+        &self.name
+    }
+}
+
 /// A link, which names its devices.
 #[derive(Debug, Drop)]
 pub struct RawLink {
@@ -53,6 +69,14 @@ pub struct RawLink {
 pub struct RawCaller {
     pub name: Name,
     pub script: Items<Name>,
+}
+
+impl Named for RawCaller {
+    ghost name_of = { λ row. row.name };
+
+    fn name(&self) -> &Name {
+        &self.name
+    }
 }
 
 /// What the text of a plan says.
