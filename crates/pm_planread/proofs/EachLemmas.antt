@@ -40,13 +40,13 @@ is_idle_in_domain row = row.no_callbacks && is_some row.domain
 pub domains_each : (names : List (List ℕ)) (rows : List RawDomain) → first_bad_name Domain (map (λ row. row.name) rows) ≡ None → first_fault domain_later 0 (map (domain_row names) rows) ≡ None → each_at is_domain 0 (map (domain_row names) rows) ≡ true
 domains_each names rows bad late =
     let named : each_at (λ i row. is_name row.name) 0 rows ≡ true =
-        sym (each_map (λ row. row.name) (λ i name. is_name name) 0 rows) ∙ named_each Domain (map (λ row. row.name) rows) bad in
+    sym (each_map (λ row. row.name) (λ i name. is_name name) 0 rows) ∙ named_each Domain (map (λ row. row.name) rows) bad in
     let early : each_at (λ i row. not (is_late_domain i (domain_row names row))) 0 rows ≡ true =
-        sym (each_map (domain_row names) (λ i row. not (is_late_domain i row)) 0 rows)
-        ∙ each_of domain_later (λ i row. not (is_late_domain i row)) (λ i row none. false_not (is_late_domain i row) (right Domain i (is_late_domain i row) none)) 0 (map (domain_row names) rows) late in
+    sym (each_map (domain_row names) (λ i row. not (is_late_domain i row)) 0 rows)
+    ∙ each_of domain_later (λ i row. not (is_late_domain i row)) (λ i row none. false_not (is_late_domain i row) (right Domain i (is_late_domain i row) none)) 0 (map (domain_row names) rows) late in
     each_map (domain_row names) is_domain 0 rows
     ∙ each_both (λ i row. is_name row.name) (λ i row. not (is_late_domain i (domain_row names row))) (λ i row. is_domain i (domain_row names row))
-        (λ i row is late. domain_ok names i row is (not_false (is_late_domain i (domain_row names row)) late)) 0 rows named early
+    (λ i row is late. domain_ok names i row is (not_false (is_late_domain i (domain_row names row)) late)) 0 rows named early
 
 pub devices_each : (domains devices : List (List ℕ)) (rows : List RawDevice) → first_bad_name Device (map (λ row. row.name) rows) ≡ None
     → each_at (λ i row. not (has_many_codes row)) 0 rows ≡ true
@@ -55,26 +55,26 @@ pub devices_each : (domains devices : List (List ℕ)) (rows : List RawDevice) �
     → each_at (is_device (length domains)) 0 (map (device_row domains devices) rows) ≡ true
 devices_each domains devices rows bad few late idle =
     let named : each_at (λ i row. is_name row.name) 0 rows ≡ true =
-        sym (each_map (λ row. row.name) (λ i name. is_name name) 0 rows) ∙ named_each Device (map (λ row. row.name) rows) bad in
+    sym (each_map (λ row. row.name) (λ i name. is_name name) 0 rows) ∙ named_each Device (map (λ row. row.name) rows) bad in
     let early : each_at (λ i row. not (is_late_device i (device_row domains devices row))) 0 rows ≡ true =
-        sym (each_map (device_row domains devices) (λ i row. not (is_late_device i row)) 0 rows)
-        ∙ each_of device_later (λ i row. not (is_late_device i row)) (λ i row none. false_not (is_late_device i row) (right Device i (is_late_device i row) none)) 0 (map (device_row domains devices) rows) late in
+    sym (each_map (device_row domains devices) (λ i row. not (is_late_device i row)) 0 rows)
+    ∙ each_of device_later (λ i row. not (is_late_device i row)) (λ i row none. false_not (is_late_device i row) (right Device i (is_late_device i row) none)) 0 (map (device_row domains devices) rows) late in
     let alone : each_at (λ i row. not (is_idle_in_domain (device_row domains devices row))) 0 rows ≡ true =
-        sym (each_map (device_row domains devices) (λ i row. not (is_idle_in_domain row)) 0 rows)
-        ∙ each_of idle_in_domain (λ i row. not (is_idle_in_domain row)) (λ i row none. false_not (is_idle_in_domain row) (right Device i (is_idle_in_domain row) none)) 0 (map (device_row domains devices) rows) idle in
+    sym (each_map (device_row domains devices) (λ i row. not (is_idle_in_domain row)) 0 rows)
+    ∙ each_of idle_in_domain (λ i row. not (is_idle_in_domain row)) (λ i row none. false_not (is_idle_in_domain row) (right Device i (is_idle_in_domain row) none)) 0 (map (device_row domains devices) rows) idle in
     let front : each_at (λ i row. is_name row.name && not (has_many_codes row)) 0 rows ≡ true =
-        each_both (λ i row. is_name row.name) (λ i row. not (has_many_codes row)) (λ i row. is_name row.name && not (has_many_codes row)) (λ i row a b. and_from _ _ a b) 0 rows named few in
+    each_both (λ i row. is_name row.name) (λ i row. not (has_many_codes row)) (λ i row. is_name row.name && not (has_many_codes row)) (λ i row a b. and_from _ _ a b) 0 rows named few in
     let back : each_at (λ i row. not (is_late_device i (device_row domains devices row)) && not (is_idle_in_domain (device_row domains devices row))) 0 rows ≡ true =
-        each_both (λ i row. not (is_late_device i (device_row domains devices row))) (λ i row. not (is_idle_in_domain (device_row domains devices row)))
-            (λ i row. not (is_late_device i (device_row domains devices row)) && not (is_idle_in_domain (device_row domains devices row))) (λ i row a b. and_from _ _ a b) 0 rows early alone in
+    each_both (λ i row. not (is_late_device i (device_row domains devices row))) (λ i row. not (is_idle_in_domain (device_row domains devices row)))
+    (λ i row. not (is_late_device i (device_row domains devices row)) && not (is_idle_in_domain (device_row domains devices row))) (λ i row a b. and_from _ _ a b) 0 rows early alone in
     each_map (device_row domains devices) (is_device (length domains)) 0 rows
     ∙ each_both (λ i row. is_name row.name && not (has_many_codes row)) (λ i row. not (is_late_device i (device_row domains devices row)) && not (is_idle_in_domain (device_row domains devices row)))
-        (λ i row. is_device (length domains) i (device_row domains devices row))
-        (λ i row a b.
-            let (is, short) = and_parts (is_name row.name) (not (has_many_codes row)) a in
-            let (on_time, free) = and_parts (not (is_late_device i (device_row domains devices row))) (not (is_idle_in_domain (device_row domains devices row))) b in
-            device_ok domains devices i row is short (not_false (is_late_device i (device_row domains devices row)) on_time) (not_false (is_idle_in_domain (device_row domains devices row)) free))
-        0 rows front back
+    (λ i row. is_device (length domains) i (device_row domains devices row))
+    (λ i row a b.
+    let (is, short) = and_parts (is_name row.name) (not (has_many_codes row)) a in
+    let (on_time, free) = and_parts (not (is_late_device i (device_row domains devices row))) (not (is_idle_in_domain (device_row domains devices row))) b in
+    device_ok domains devices i row is short (not_false (is_late_device i (device_row domains devices row)) on_time) (not_false (is_idle_in_domain (device_row domains devices row)) free))
+    0 rows front back
 
 pub links_each : (names : List (List ℕ)) (devices : List DeviceRow) (rows : List RawLink) → length devices ≡ length names
     → first_fault (link_unknown names) 0 rows ≡ None
@@ -83,23 +83,23 @@ pub links_each : (names : List (List ℕ)) (devices : List DeviceRow) (rows : Li
     → list_all (is_link devices) (map (link_row names) rows) ≡ true
 links_each names devices rows count unknown late idle =
     let known : each_at (λ i row. not (is_unknown names row.consumer || is_unknown names row.supplier)) 0 rows ≡ true =
-        each_of (link_unknown names) (λ i row. not (is_unknown names row.consumer || is_unknown names row.supplier)) (λ i row none. false_not _ (right Link i (is_unknown names row.consumer || is_unknown names row.supplier) none)) 0 rows unknown in
+    each_of (link_unknown names) (λ i row. not (is_unknown names row.consumer || is_unknown names row.supplier)) (λ i row none. false_not _ (right Link i (is_unknown names row.consumer || is_unknown names row.supplier) none)) 0 rows unknown in
     let early : each_at (λ i row. not (nat_le (link_row names row).consumer.0 (link_row names row).supplier.0)) 0 rows ≡ true =
-        sym (each_map (link_row names) (λ i row. not (nat_le row.consumer.0 row.supplier.0)) 0 rows)
-        ∙ each_of link_later (λ i row. not (nat_le row.consumer.0 row.supplier.0)) (λ i row none. false_not _ (right Link i (nat_le row.consumer.0 row.supplier.0) none)) 0 (map (link_row names) rows) late in
+    sym (each_map (link_row names) (λ i row. not (nat_le row.consumer.0 row.supplier.0)) 0 rows)
+    ∙ each_of link_later (λ i row. not (nat_le row.consumer.0 row.supplier.0)) (λ i row none. false_not _ (right Link i (nat_le row.consumer.0 row.supplier.0) none)) 0 (map (link_row names) rows) late in
     let alone : each_at (λ i row. not ((link_row names row).pm_runtime && lacks_callbacks devices (link_row names row).consumer)) 0 rows ≡ true =
-        sym (each_map (link_row names) (λ i row. not (row.pm_runtime && lacks_callbacks devices row.consumer)) 0 rows)
-        ∙ each_of (idle_consumer devices) (λ i row. not (row.pm_runtime && lacks_callbacks devices row.consumer)) (λ i row none. false_not _ (right Link i (row.pm_runtime && lacks_callbacks devices row.consumer) none)) 0 (map (link_row names) rows) idle in
+    sym (each_map (link_row names) (λ i row. not (row.pm_runtime && lacks_callbacks devices row.consumer)) 0 rows)
+    ∙ each_of (idle_consumer devices) (λ i row. not (row.pm_runtime && lacks_callbacks devices row.consumer)) (λ i row none. false_not _ (right Link i (row.pm_runtime && lacks_callbacks devices row.consumer) none)) 0 (map (link_row names) rows) idle in
     let back : each_at (λ i row. not (nat_le (link_row names row).consumer.0 (link_row names row).supplier.0) && not ((link_row names row).pm_runtime && lacks_callbacks devices (link_row names row).consumer)) 0 rows ≡ true =
-        each_both (λ i row. not (nat_le (link_row names row).consumer.0 (link_row names row).supplier.0)) (λ i row. not ((link_row names row).pm_runtime && lacks_callbacks devices (link_row names row).consumer))
-            (λ i row. not (nat_le (link_row names row).consumer.0 (link_row names row).supplier.0) && not ((link_row names row).pm_runtime && lacks_callbacks devices (link_row names row).consumer)) (λ i row a b. and_from _ _ a b) 0 rows early alone in
+    each_both (λ i row. not (nat_le (link_row names row).consumer.0 (link_row names row).supplier.0)) (λ i row. not ((link_row names row).pm_runtime && lacks_callbacks devices (link_row names row).consumer))
+    (λ i row. not (nat_le (link_row names row).consumer.0 (link_row names row).supplier.0) && not ((link_row names row).pm_runtime && lacks_callbacks devices (link_row names row).consumer)) (λ i row a b. and_from _ _ a b) 0 rows early alone in
     let each : each_at (λ i row. is_link devices (link_row names row)) 0 rows ≡ true =
-        each_both (λ i row. not (is_unknown names row.consumer || is_unknown names row.supplier)) (λ i row. not (nat_le (link_row names row).consumer.0 (link_row names row).supplier.0) && not ((link_row names row).pm_runtime && lacks_callbacks devices (link_row names row).consumer))
-            (λ i row. is_link devices (link_row names row))
-            (λ i row a b.
-                let (on_time, free) = and_parts (not (nat_le (link_row names row).consumer.0 (link_row names row).supplier.0)) (not ((link_row names row).pm_runtime && lacks_callbacks devices (link_row names row).consumer)) b in
-                link_ok names devices row count (not_false _ a) (not_false _ on_time) (not_false _ free))
-            0 rows known back in
+    each_both (λ i row. not (is_unknown names row.consumer || is_unknown names row.supplier)) (λ i row. not (nat_le (link_row names row).consumer.0 (link_row names row).supplier.0) && not ((link_row names row).pm_runtime && lacks_callbacks devices (link_row names row).consumer))
+    (λ i row. is_link devices (link_row names row))
+    (λ i row a b.
+    let (on_time, free) = and_parts (not (nat_le (link_row names row).consumer.0 (link_row names row).supplier.0)) (not ((link_row names row).pm_runtime && lacks_callbacks devices (link_row names row).consumer)) b in
+    link_ok names devices row count (not_false _ a) (not_false _ on_time) (not_false _ free))
+    0 rows known back in
     sym (each_all (is_link devices) 0 (map (link_row names) rows)) ∙ each_map (link_row names) (λ i row. is_link devices row) 0 rows ∙ each
 
 fewer_cons : {A B : Type 0} (f : A → Option B) (x : A) (xs : List A) (b : Option B) → f x ≡ b → length (filter_map f xs) ≤ length xs → length (filter_map f (x ∷ xs)) ≤ suc (length xs)
@@ -125,13 +125,13 @@ pub callers_each : (names : List (List ℕ)) (devices : ℕ) (rows : List RawCal
     → list_all (is_caller devices) (map (caller_row names) rows) ≡ true
 callers_each names devices rows bad few valid =
     let named : each_at (λ i row. is_caller_name row.name) 0 rows ≡ true =
-        sym (each_map (λ row. row.name) (λ i name. is_caller_name name) 0 rows) ∙ named_each Caller (map (λ row. row.name) rows) bad in
+    sym (each_map (λ row. row.name) (λ i name. is_caller_name name) 0 rows) ∙ named_each Caller (map (λ row. row.name) rows) bad in
     let commands : each_at (λ i row. are_commands devices (caller_row names row)) 0 rows ≡ true =
-        sym (each_map (caller_row names) (λ i row. are_commands devices row) 0 rows) ∙ each_all (are_commands devices) 0 (map (caller_row names) rows) ∙ valid in
+    sym (each_map (caller_row names) (λ i row. are_commands devices row) 0 rows) ∙ each_all (are_commands devices) 0 (map (caller_row names) rows) ∙ valid in
     let front : each_at (λ i row. is_caller_name row.name && not (has_many_commands row)) 0 rows ≡ true =
-        each_both (λ i row. is_caller_name row.name) (λ i row. not (has_many_commands row)) (λ i row. is_caller_name row.name && not (has_many_commands row)) (λ i row a b. and_from _ _ a b) 0 rows named few in
+    each_both (λ i row. is_caller_name row.name) (λ i row. not (has_many_commands row)) (λ i row. is_caller_name row.name && not (has_many_commands row)) (λ i row a b. and_from _ _ a b) 0 rows named few in
     let each : each_at (λ i row. is_caller devices (caller_row names row)) 0 rows ≡ true =
-        each_both (λ i row. is_caller_name row.name && not (has_many_commands row)) (λ i row. are_commands devices (caller_row names row)) (λ i row. is_caller devices (caller_row names row))
-            (λ i row a b. let (is, short) = and_parts (is_caller_name row.name) (not (has_many_commands row)) a in caller_ok names devices row is (not_false (has_many_commands row) short) b)
-            0 rows front commands in
+    each_both (λ i row. is_caller_name row.name && not (has_many_commands row)) (λ i row. are_commands devices (caller_row names row)) (λ i row. is_caller devices (caller_row names row))
+    (λ i row a b. let (is, short) = and_parts (is_caller_name row.name) (not (has_many_commands row)) a in caller_ok names devices row is (not_false (has_many_commands row) short) b)
+    0 rows front commands in
     sym (each_all (is_caller devices) 0 (map (caller_row names) rows)) ∙ each_map (caller_row names) (λ i row. is_caller devices row) 0 rows ∙ each

@@ -48,7 +48,7 @@ links_known : (raw : RawPlan) → unknown_fault raw ≡ None → first_fault (li
 unfolding unknown_fault
 links_known raw none =
     (neither (first_fault (device_unknown (domain_names raw) (device_names raw)) 0 raw.devices) (first_fault (link_unknown (device_names raw)) 0 raw.links)
-        (neither (first_fault (domain_unknown (domain_names raw)) 0 raw.domains) _ none).1).1
+    (neither (first_fault (domain_unknown (domain_names raw)) 0 raw.domains) _ none).1).1
 
 later_none : (domains : List DomainRow) (devices : List DeviceRow) (links : List LinkRow) → later_fault domains devices links ≡ None → (first_fault domain_later 0 domains ≡ None) × (first_fault device_later 0 devices ≡ None) × (first_fault link_later 0 links ≡ None)
 unfolding later_fault
@@ -83,22 +83,22 @@ law raw named ordered commands =
     let device_count : length (device_rows raw) ≡ length (device_names raw) = length-map raw.devices (device_row (domain_names raw) (device_names raw)) ∙ sym (length-map raw.devices (λ row. row.name)) in
     and_from _ _ (and_from _ _ (and_from _ _ (and_from _ _ (and_from _ _ (and_from _ _ (and_from _ _ (and_from _ _
     (and_from _ _ (and_from _ _ (and_from _ _ (and_from _ _ (and_from _ _ (and_from _ _ (and_from _ _
-        (at_least 1 MAX_LINES raw.lines)
-        (at_most 1 MAX_LINES raw.lines (omega arith)))
-        (at_least 1 2 raw.trace))
-        (at_most 1 2 raw.trace (omega arith)))
-        (in_limit (length (domain_rows raw)) (length raw.domains) MAX_DOMAINS (length-map raw.domains (domain_row (domain_names raw))) short.few.domains))
-        (in_limit (length (device_rows raw)) (length raw.devices) MAX_DEVICES (length-map raw.devices (device_row (domain_names raw) (device_names raw))) short.few.devices))
-        (in_limit (length (link_rows raw)) (length raw.links) MAX_LINKS (length-map raw.links (link_row (device_names raw))) short.few.links))
-        (in_limit (length (caller_rows raw)) (length raw.callers) MAX_CALLERS (length-map raw.callers (caller_row (device_names raw))) short.few.callers))
-        (domains_each (domain_names raw) raw.domains bad_domain late_domain))
-        (rw domain_count (devices_each (domain_names raw) (device_names raw) raw.devices bad_device short.codes late_device idle)))
-        (links_each (device_names raw) (device_rows raw) raw.links device_count known late_link consumers))
-        (callers_each (device_names raw) (length (device_rows raw)) raw.callers bad_caller short.commands commands))
-        (rw (names_of_domains raw) (distinct_names Domain (domain_names raw) twice_domain)))
-        (rw (names_of_rows raw) (distinct_names Device (device_names raw) twice_device)))
-        (distinct_links (device_names raw) raw.links known twice_link))
-        (rw (names_of_callers raw) (distinct_names Caller (caller_names raw) twice_caller))
+    (at_least 1 MAX_LINES raw.lines)
+    (at_most 1 MAX_LINES raw.lines (omega arith)))
+    (at_least 1 2 raw.trace))
+    (at_most 1 2 raw.trace (omega arith)))
+    (in_limit (length (domain_rows raw)) (length raw.domains) MAX_DOMAINS (length-map raw.domains (domain_row (domain_names raw))) short.few.domains))
+    (in_limit (length (device_rows raw)) (length raw.devices) MAX_DEVICES (length-map raw.devices (device_row (domain_names raw) (device_names raw))) short.few.devices))
+    (in_limit (length (link_rows raw)) (length raw.links) MAX_LINKS (length-map raw.links (link_row (device_names raw))) short.few.links))
+    (in_limit (length (caller_rows raw)) (length raw.callers) MAX_CALLERS (length-map raw.callers (caller_row (device_names raw))) short.few.callers))
+    (domains_each (domain_names raw) raw.domains bad_domain late_domain))
+    (rw domain_count (devices_each (domain_names raw) (device_names raw) raw.devices bad_device short.codes late_device idle)))
+    (links_each (device_names raw) (device_rows raw) raw.links device_count known late_link consumers))
+    (callers_each (device_names raw) (length (device_rows raw)) raw.callers bad_caller short.commands commands))
+    (rw (names_of_domains raw) (distinct_names Domain (domain_names raw) twice_domain)))
+    (rw (names_of_rows raw) (distinct_names Device (device_names raw) twice_device)))
+    (distinct_links (device_names raw) raw.links known twice_link))
+    (rw (names_of_callers raw) (distinct_names Caller (caller_names raw) twice_caller))
 
 -- the callers over the devices that were made
 pub callers_are : (raw : RawPlan) (devices : List DeviceRow) (callers : List CallerRow) (rows : List RawCaller) → devices ≡ device_rows raw → rows ≡ raw.callers → callers ≡ map (caller_row (map (λ row. row.name) devices)) rows → callers ≡ caller_rows raw

@@ -33,8 +33,8 @@ turned a b differ = not_same b a (λ same. true≢false (sym ((bytes_eq-Decides 
 pub distinct_names : (section : Section) (names : List (List ℕ)) → first_repeat section names ≡ None → are_distinct bytes_eq names ≡ true
 distinct_names section names none =
     distinct_by_place bytes_eq names (λ i j d less below.
-        let first : is_earlier j (place_named (get_or names j d) names) ≡ false = right section j _ (none_at (repeated_name section names) 0 names j j d none below (omega arith)) in
-        turned (get_or names j d) (get_or names i d) (none_before (bytes_eq (get_or names j d)) names i j d first less below))
+    let first : is_earlier j (place_named (get_or names j d) names) ≡ false = right section j _ (none_at (repeated_name section names) 0 names j j d none below (omega arith)) in
+    turned (get_or names j d) (get_or names i d) (none_before (bytes_eq (get_or names j d)) names i j d first less below))
 
 known_below : (place : Option ℕ) (n : ℕ) → is_none place ≡ false → option_map_or (λ p. nat_lt p n) place true ≡ true → nat_lt (unwrap_or place 0) n ≡ true
 known_below None n known below = cc
@@ -52,7 +52,7 @@ unfolding link_row
 link_ok names devices row count known late alone =
     let (consumer, supplier) = either_parts (is_unknown names row.consumer) (is_unknown names row.supplier) known in
     let there : nat_lt (unwrap_or (place_named row.consumer names) 0) (length devices) ≡ true =
-        rw count (known_below (place_named row.consumer names) (length names) consumer (place_below row.consumer names)) in
+    rw count (known_below (place_named row.consumer names) (length names) consumer (place_below row.consumer names)) in
     and_from _ _ (and_from _ _ there (less_of (unwrap_or (place_named row.consumer names) 0) (unwrap_or (place_named row.supplier names) 0) late)) (false_not _ alone)
 
 -- names that are known and have one place are one name
@@ -73,10 +73,10 @@ link_differ names x y x_known y_known differ =
     let (x_consumer, x_supplier) = either_parts (is_unknown names x.consumer) (is_unknown names x.supplier) x_known in
     let (y_consumer, y_supplier) = either_parts (is_unknown names y.consumer) (is_unknown names y.supplier) y_known in
     false_from_ne_true _ (λ same.
-        let (consumers, suppliers) = and_parts (nat_eq (unwrap_or (place_named x.consumer names) 0) (unwrap_or (place_named y.consumer names) 0)) (nat_eq (unwrap_or (place_named x.supplier names) 0) (unwrap_or (place_named y.supplier names) 0)) same in
-        let consumer = same_name x.consumer y.consumer names (place_named x.consumer names) (place_named y.consumer names) refl refl x_consumer y_consumer consumers in
-        let supplier = same_name x.supplier y.supplier names (place_named x.supplier names) (place_named y.supplier names) refl refl x_supplier y_supplier suppliers in
-        true≢false (sym (and_from (bytes_eq y.consumer x.consumer) (bytes_eq y.supplier x.supplier) ((bytes_eq-Decides y.consumer x.consumer).1 (sym consumer)) ((bytes_eq-Decides y.supplier x.supplier).1 (sym supplier))) ∙ differ))
+    let (consumers, suppliers) = and_parts (nat_eq (unwrap_or (place_named x.consumer names) 0) (unwrap_or (place_named y.consumer names) 0)) (nat_eq (unwrap_or (place_named x.supplier names) 0) (unwrap_or (place_named y.supplier names) 0)) same in
+    let consumer = same_name x.consumer y.consumer names (place_named x.consumer names) (place_named y.consumer names) refl refl x_consumer y_consumer consumers in
+    let supplier = same_name x.supplier y.supplier names (place_named x.supplier names) (place_named y.supplier names) refl refl x_supplier y_supplier suppliers in
+    true≢false (sym (and_from (bytes_eq y.consumer x.consumer) (bytes_eq y.supplier x.supplier) ((bytes_eq-Decides y.consumer x.consumer).1 (sym consumer)) ((bytes_eq-Decides y.supplier x.supplier).1 (sym supplier))) ∙ differ))
 
 any_map : {A B : Type 0} (p : B → Bool) (g : A → B) (xs : List A) → list_any p (map g xs) ≡ list_any (λ x. p (g x)) xs
 any_map p g [] = refl
@@ -91,7 +91,7 @@ pub distinct_links : (names : List (List ℕ)) (links : List RawLink) → first_
 distinct_links names links known none =
     distinct_map is_same_pair (link_row names) links
     ∙ distinct_by_place (λ x y. is_same_pair (link_row names x) (link_row names y)) links (λ i j d less below.
-        let i_known = right Link i _ (none_at (link_unknown names) 0 links i i d known (omega arith) (omega arith)) in
-        let j_known = right Link j _ (none_at (link_unknown names) 0 links j j d known below (omega arith)) in
-        let first : is_earlier j (position (is_same_link (get_or links j d)) links) ≡ false = right Link j _ (none_at (repeated_link links) 0 links j j d none below (omega arith)) in
-        link_differ names (get_or links i d) (get_or links j d) i_known j_known (none_before (is_same_link (get_or links j d)) links i j d first less below))
+    let i_known = right Link i _ (none_at (link_unknown names) 0 links i i d known (omega arith) (omega arith)) in
+    let j_known = right Link j _ (none_at (link_unknown names) 0 links j j d known below (omega arith)) in
+    let first : is_earlier j (position (is_same_link (get_or links j d)) links) ≡ false = right Link j _ (none_at (repeated_link links) 0 links j j d none below (omega arith)) in
+    link_differ names (get_or links i d) (get_or links j d) i_known j_known (none_before (is_same_link (get_or links j d)) links i j d first less below))

@@ -34,4 +34,4 @@ pub links_repeat : (links : List RawLink) → first_repeat Link (map (λ row. pa
 links_repeat links =
     fault_map pair_of (repeated_name Link (map pair_of links)) 0 links
     ∙ fault_same (λ i row. repeated_name Link (map pair_of links) i (pair_of row)) (repeated_link links)
-        (λ i row. ap (λ place. fault_if Link i (is_earlier i place)) (pair_place links row)) 0 links
+    (λ i row. ap (λ place. fault_if Link i (is_earlier i place)) (pair_place links row)) 0 links

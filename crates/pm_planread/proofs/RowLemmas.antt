@@ -95,16 +95,16 @@ unfolding device_row
 device_ok domains devices i row named few late alone =
     let (idle, suspend, resume) = many_parts (option_map_or are_many_codes row.idle false) (are_many_codes row.suspend) (are_many_codes row.resume) few in
     and_from _ _ (and_from _ _ (and_from _ _ (and_from _ _ (and_from _ _ (and_from _ _ (and_from _ _ (and_from _ _ (and_from _ _
-        named
-        (device_parent_of devices i row.parent late))
-        (domain_there_of domains row.domain))
-        (false_not _ alone))
-        (time_ok row.idle_ms))
-        (time_ok row.suspend_ms))
-        (time_ok row.resume_ms))
-        (idle_codes_ok row.idle idle))
-        (codes_are row.suspend suspend))
-        (codes_are row.resume resume)
+    named
+    (device_parent_of devices i row.parent late))
+    (domain_there_of domains row.domain))
+    (false_not _ alone))
+    (time_ok row.idle_ms))
+    (time_ok row.suspend_ms))
+    (time_ok row.resume_ms))
+    (idle_codes_ok row.idle idle))
+    (codes_are row.suspend suspend))
+    (codes_are row.resume resume)
 
 names_of_domain_list : (domains : List (List ℕ)) (rows : List RawDomain) → map (λ row. row.name) (map (domain_row domains) rows) ≡ map (λ row. row.name) rows
 unfolding domain_row

@@ -24,9 +24,13 @@ pub fn is_within(low: u32, high: u32, number: i64) -> bool
 pub fn number_fault(raw: &RawPlan) -> Option<Place>
     ensures { result ≡ number_fault raw.now }
 {
-    fault_if(Section::Top, raw.lines_at, !is_within(1, MAX_LINES, raw.lines))
-        .or_else(|| fault_if(Section::Top, raw.trace_at, !is_within(1, 2, raw.trace)))
-        .or_else(|| bad_times(raw.devices.as_slice()))
+    fault_if(
+        Section::Top,
+        raw.lines_at,
+        !is_within(1, MAX_LINES, raw.lines),
+    )
+    .or_else(|| fault_if(Section::Top, raw.trace_at, !is_within(1, 2, raw.trace)))
+    .or_else(|| bad_times(raw.devices.as_slice()))
 }
 
 fn bad_times(rows: &[RawDevice]) -> Option<Place>

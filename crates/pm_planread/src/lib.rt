@@ -15,6 +15,8 @@ mod read;
 mod refusal;
 mod rows;
 mod scripts;
+#[cfg(test)]
+mod tests;
 
 pub use pm_plantree::Section;
 pub use read::read_plan;

@@ -5,9 +5,7 @@ ghost use Rattle.std.specs.Option.{option_map_or};
 ghost use Rattle.pm_plantree.specs.Places.{first_fault};
 ghost use Rattle.pm_planread.specs.TooMany.{are_many_codes, caller_too_many, device_too_many, has_many_codes, has_many_commands, item_too_many, past_limit, too_many_fault};
 
-use pm_base::{
-    MAX_CALLERS, MAX_CODES, MAX_COMMANDS, MAX_DEVICES, MAX_DOMAINS, MAX_LINKS,
-};
+use pm_base::{MAX_CALLERS, MAX_CODES, MAX_COMMANDS, MAX_DEVICES, MAX_DOMAINS, MAX_LINKS};
 use pm_plantree::{Codes64, Place, RawCaller, RawDevice, RawPlan, Section};
 
 /// The first item past its limit, or list of codes or commands past its limit.
@@ -55,7 +53,13 @@ fn many_in_devices(rows: &[RawDevice]) -> Option<Place>
     ensures { result ≡ first_fault device_too_many 0 rows.now }
 {
     for (i, row) in rows.iter().enumerate() {
-        let fault = item_too_many(Section::Device, MAX_DEVICES, MAX_CODES, i, has_many_codes(row));
+        let fault = item_too_many(
+            Section::Device,
+            MAX_DEVICES,
+            MAX_CODES,
+            i,
+            has_many_codes(row),
+        );
         if fault.is_some() {
             return fault;
         }

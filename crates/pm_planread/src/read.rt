@@ -79,11 +79,20 @@ fn ordered_plan(alloc: Global, raw: &RawPlan, names: &Names) -> Result<Plan, Pla
     let domains = domain_rows(alloc, raw, names)?;
     let devices = device_rows(alloc, raw, names)?;
     let links = link_rows(alloc, raw, names)?;
-    let (domain_slice, device_slice, link_slice) =
-        (domains.as_slice(), devices.as_slice(), links.as_slice());
-    refuse(PlanWhy::Later, later_fault(domain_slice, device_slice, link_slice))?;
+    let (domain_slice, device_slice, link_slice) = (
+        domains.as_slice(),
+        devices.as_slice(),
+        links.as_slice(),
+    );
+    refuse(
+        PlanWhy::Later,
+        later_fault(domain_slice, device_slice, link_slice),
+    )?;
     refuse(PlanWhy::NoCallbacksWithDomain, domain_fault(device_slice))?;
-    refuse(PlanWhy::NoCallbacksWithLink, link_fault(device_slice, link_slice))?;
+    refuse(
+        PlanWhy::NoCallbacksWithLink,
+        link_fault(device_slice, link_slice),
+    )?;
     counted_plan(alloc, raw, domains, devices, links)
 }
 
@@ -107,7 +116,10 @@ fn counted_plan(
 {
     refuse(PlanWhy::Number, number_fault(raw))?;
     refuse(PlanWhy::Code, code_fault(raw))?;
-    refuse(PlanWhy::Script, script_fault(&devices, raw.callers.as_slice()))?;
+    refuse(
+        PlanWhy::Script,
+        script_fault(&devices, raw.callers.as_slice()),
+    )?;
     let callers = caller_rows(alloc, &devices, raw.callers.as_slice())?;
     Ok(Plan {
         lines: lines_of(raw),

@@ -22,10 +22,17 @@ pub fn domain_rows(alloc: Global, raw: &RawPlan, names: &Names) -> Result<Domain
     requires names { AreNamesOf raw.now names.now }
     ensures { IfOk result (λ rows. rows ≡ domain_rows raw.now) }
 {
-    NamedList::new(alloc, domains_in(alloc, raw.domains.as_slice(), &names.domains)?)
+    NamedList::new(
+        alloc,
+        domains_in(alloc, raw.domains.as_slice(), &names.domains)?,
+    )
 }
 
-fn domains_in(alloc: Global, rows: &[RawDomain], domains: &Index) -> Result<Vec<DomainRow>, NoMemory>
+fn domains_in(
+    alloc: Global,
+    rows: &[RawDomain],
+    domains: &Index,
+) -> Result<Vec<DomainRow>, NoMemory>
     requires { length domains.now ≤ MAX_DEVICES }
     ensures { IfOk result (λ v. v.items ≡ map (domain_row (names_in domains.now)) rows.now) }
 {
@@ -55,7 +62,10 @@ pub fn device_rows(alloc: Global, raw: &RawPlan, names: &Names) -> Result<Device
     ensures { IfOk result (λ rows. rows ≡ device_rows raw.now) }
 {
     let rows = raw.devices.as_slice();
-    NamedList::new(alloc, devices_in(alloc, rows, &names.domains, &names.devices)?)
+    NamedList::new(
+        alloc,
+        devices_in(alloc, rows, &names.domains, &names.devices)?,
+    )
 }
 
 fn devices_in(

@@ -20,4 +20,4 @@ returns-clause-ok c =
     let scripts = script_none c.args.raw.now c.args.devices c.as_slice.result.now c.requires.devices c.as_slice.ensures (sym c.script_fault.ensures ∙ c.in_ok-refuse-3.ensures.none) in
     counted_ok c.args.raw.now numbers codes scripts
     ∙ ap Ok (contents_are c.args.raw.now c.lines_of.result c.trace_of.result c.args.domains c.args.devices c.args.links c.in_ok-callers.callers
-        c.lines_of.ensures c.trace_of.ensures c.requires.domains c.requires.devices c.requires.links callers)
+    c.lines_of.ensures c.trace_of.ensures c.requires.domains c.requires.devices c.requires.links callers)
