@@ -1,0 +1,10 @@
+pub mod FaultLemmas
+pub mod PositionLemmas
+pub mod NameLemmas
+pub mod FewLemmas
+pub mod DistinctLemmas
+pub mod RangeLemmas
+pub mod RowLemmas
+pub mod LinkLemmas
+pub mod EachLemmas
+pub mod LawLemmas

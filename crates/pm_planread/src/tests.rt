@@ -1,0 +1,280 @@
+//! Plans that are read, and plans that are refused at a place.
+
+use super::*;
+use pm_base::{DevId, DomId};
+use pm_model::{Command, Helper, LinkRow, Plan};
+use std::alloc::Global;
+use std::test::Fail;
+
+// What is said of a text: `ok`, or the message of its refusal.
+fn answer(alloc: Global, text: &[u8]) -> Result<String, Fail> {
+    match read_plan(alloc, text) {
+        Ok(_plan) => Ok(String::from_str(alloc, "ok")?),
+        Err(fault) => Ok(format!(in alloc; "{fault}")?),
+    }
+}
+
+// A plan that is read.
+fn plan(alloc: Global, text: &str) -> Result<Plan, Fail> {
+    match read_plan(alloc, text.as_bytes()) {
+        Ok(plan) => Ok(plan),
+        Err(fault) => Err(format!(in alloc; "{fault}")?.into()),
+    }
+}
+
+const DEVICES: &str = "[[device]]\nname = \"a\"\n[[device]]\nname = \"b\"\n";
+
+#[test]
+fn refusals_have_their_places(rt: HostRuntime) -> Result<(), Fail> {
+    let cases = [
+        ("[[device", "plan: not_toml top 0 0"),
+        ("lines = 9223372036854775808", "plan: not_toml top 0 0"),
+        ("x = 1", "plan: key top 0 0"),
+        ("lines = \"5\"\ntrade = 1", "plan: key top 1 0"),
+        ("[[device]]\nbusy = true\nnime = 1", "plan: key device 0 1"),
+        ("[[device]]\nbusy = true", "plan: key device 0 1"),
+        (
+            "device = [1, {name = \"a\", x = 1}]",
+            "plan: key device 1 1",
+        ),
+        ("[[link]]\nsupplier = \"a\"", "plan: key link 0 1"),
+        ("lines = \"5\"", "plan: kind top 0 0"),
+        ("[device]\nname = \"a\"", "plan: kind top 0 0"),
+        ("device = [{name = \"\"}, 1]", "plan: kind device 1 0"),
+        (
+            "[[device]]\nname = \"a\"\nidle = [0, 1.5]",
+            "plan: kind device 0 0",
+        ),
+        (
+            "[[caller]]\nname = \"c.d\"\nscript = [1]",
+            "plan: kind caller 0 1",
+        ),
+        ("[[device]]\nname = \"\"", "plan: name device 0 0"),
+        (
+            "[[caller]]\nname = \"c.d\"\n[[domain]]\nname = \"m n\"",
+            "plan: name domain 0 0",
+        ),
+        ("[[caller]]\nname = \"c.d\"", "plan: name caller 0 0"),
+        (
+            "[[device]]\nname = \"a\"\nparent = \"z\"\n[[device]]\nname = \"a\"",
+            "plan: repeat device 1 0",
+        ),
+        (
+            "[[link]]\nconsumer = \"z\"\nsupplier = \"z\"\n[[link]]\nconsumer = \"z\"\nsupplier = \"z\"",
+            "plan: repeat link 1 0",
+        ),
+        (
+            "[[device]]\nname = \"a\"\ndomain = \"m\"",
+            "plan: unknown device 0 0",
+        ),
+        (
+            "[[domain]]\nname = \"m\"\nparent = \"m\"\n[[domain]]\nname = \"n\"\nparent = \"o\"",
+            "plan: unknown domain 1 0",
+        ),
+        (
+            "[[device]]\nname = \"k\"\nparent = \"p\"\n[[device]]\nname = \"p\"",
+            "plan: later device 0 0",
+        ),
+        (
+            "lines = 0\n[[domain]]\nname = \"m\"\nparent = \"m\"",
+            "plan: later domain 0 0",
+        ),
+        (
+            "[[domain]]\nname = \"m\"\n[[device]]\nname = \"a\"\ndomain = \"m\"\nno_callbacks = true",
+            "plan: no_callbacks_with_domain device 0 0",
+        ),
+        ("lines = 0", "plan: number top 0 0"),
+        ("lines = 200001\ntrace = 3", "plan: number top 0 0"),
+        ("lines = 200000\ntrace = 3", "plan: number top 1 0"),
+        (
+            "[[device]]\nname = \"a\"\nresume_ms = 1000001\nidle = [1]",
+            "plan: number device 0 0",
+        ),
+        (
+            "[[device]]\nname = \"a\"\nresume = [0, -13]",
+            "plan: code device 0 1",
+        ),
+        (
+            "[[device]]\nname = \"a\"\nsuspend = [0, 0, 1]\nresume = [-4096]",
+            "plan: code device 0 2",
+        ),
+        (
+            "[[caller]]\nname = \"c\"\nscript = [\"delay 1\", \"get a\"]",
+            "plan: script caller 0 1",
+        ),
+        (
+            "[[caller]]\nname = \"c\"\n[[caller]]\nname = \"d\"\nscript = [\"\"]",
+            "plan: script caller 1 0",
+        ),
+        ("", "ok"),
+        ("device = []\nlines = 200000", "ok"),
+    ];
+    for (text, wanted) in cases {
+        let said = answer(rt.alloc(), text.as_bytes())?;
+        assert_eq!(rt; said.as_str(), wanted, "{text:?}");
+    }
+    assert_eq!(rt;
+        answer(rt.alloc(), b"\xff")?.as_str(),
+        "plan: not_toml top 0 0"
+    );
+    Ok(())
+}
+
+#[test]
+fn links_are_looked_at_last(rt: HostRuntime) -> Result<(), Fail> {
+    let cases = [
+        (
+            "[[link]]\nconsumer = \"a\"\nsupplier = \"b\"",
+            "plan: later link 0 0",
+        ),
+        (
+            "[[link]]\nconsumer = \"b\"\nsupplier = \"b\"",
+            "plan: later link 0 0",
+        ),
+        (
+            "[[link]]\nconsumer = \"b\"\nsupplier = \"c\"",
+            "plan: unknown link 0 0",
+        ),
+        (
+            "[[link]]\nconsumer = \"k\"\nsupplier = \"a\"",
+            "plan: no_callbacks_with_link link 0 0",
+        ),
+        (
+            "[[link]]\nconsumer = \"b\"\nsupplier = \"a\"\n[[link]]\nconsumer = \"k\"\nsupplier = \"a\"\nlater = true",
+            "plan: no_callbacks_with_link link 1 0",
+        ),
+        (
+            "[[link]]\nconsumer = \"k\"\nsupplier = \"a\"\npm_runtime = false",
+            "ok",
+        ),
+        (
+            "[[link]]\nconsumer = \"b\"\nsupplier = \"a\"\nlater = true",
+            "ok",
+        ),
+    ];
+    for (links, wanted) in cases {
+        let text = format!(in rt.alloc();
+            "{DEVICES}[[device]]\nname = \"k\"\nno_callbacks = true\n{links}"
+        )?;
+        assert_eq!(rt;
+            answer(rt.alloc(), text.as_bytes())?.as_str(),
+            wanted,
+            "{links:?}"
+        );
+    }
+    Ok(())
+}
+
+// The text of so many tables of a section with a name.
+fn tables(alloc: Global, section: &str, count: u32) -> Result<String, Fail> {
+    let mut text = String::new(alloc);
+    for i in 0..count {
+        text.push_str(format!(in alloc; "[[{section}]]\nname = \"n{i}\"\n")?.as_str())?;
+    }
+    Ok(text)
+}
+
+#[test]
+fn limits_are_kept(rt: HostRuntime) -> Result<(), Fail> {
+    let cases = [
+        ("domain", 128, "ok"),
+        ("domain", 129, "plan: too_many domain 128 0"),
+        ("device", 1024, "ok"),
+        ("device", 1026, "plan: too_many device 1024 0"),
+        ("caller", 16, "ok"),
+        ("caller", 17, "plan: too_many caller 16 0"),
+    ];
+    for (section, count, wanted) in cases {
+        let text = tables(rt.alloc(), section, count)?;
+        assert_eq!(rt;
+            answer(rt.alloc(), text.as_bytes())?.as_str(),
+            wanted,
+            "{section} {count}"
+        );
+    }
+    let mut codes = String::from_str(rt.alloc(), "[[device]]\nname = \"\"\nresume = [0")?;
+    for _ in 0..64 {
+        codes.push_str(",0")?;
+    }
+    codes.push_str("]\n")?;
+    assert_eq!(rt;
+        answer(rt.alloc(), codes.as_bytes())?.as_str(),
+        "plan: too_many device 0 64"
+    );
+    let long = vec![in rt.alloc(); b' '; 1_048_577]?;
+    assert_eq!(rt;
+        answer(rt.alloc(), long.as_slice())?.as_str(),
+        "plan: too_long top 0 0"
+    );
+    Ok(())
+}
+
+#[test]
+fn a_plan_is_what_its_text_says(rt: HostRuntime) -> Result<(), Fail> {
+    let text =
+        "lines = 7\ntrace = 2\n[[domain]]\nname = \"m\"\n[[domain]]\nname = \"n\"\nparent = \"m\"\nalways_on = true\n\
+        [[device]]\nname = \"a\"\ndomain = \"n\"\nbusy = true\nidle = []\n\
+        [[device]]\nname = \"b\"\nparent = \"a\"\nsuspend = [-16, 0]\nresume_ms = 1000000\n\
+        [[link]]\nconsumer = \"b\"\nsupplier = \"a\"\n\
+        [[caller]]\nname = \"c\"\nscript = [\" set_autosuspend_delay  b -5\", \"link_add b a\"]\n";
+    let plan = plan(rt.alloc(), text)?;
+    assert_eq!(rt; (plan.lines, plan.trace), (7, 2));
+    let domain = plan.domains.get(1).ok_or("a domain")?;
+    assert_eq!(rt; (domain.parent, domain.always_on), (Some(DomId(0)), true));
+    let a = plan.devices.get(0).ok_or("a device")?;
+    assert_eq!(rt; (a.parent, a.domain, a.busy), (None, Some(DomId(1)), true));
+    assert!(rt; a.idle.is_some());
+    let b = plan.devices.get(1).ok_or("a device")?;
+    assert_eq!(rt; (b.parent, b.domain, b.busy), (Some(DevId(0)), None, false));
+    assert!(rt; b.idle.is_none());
+    assert_eq!(rt; b.suspend.as_slice(), [-16, 0].as_slice());
+    assert_eq!(rt; (b.suspend_ms, b.resume_ms), (0, 1_000_000));
+    let link = LinkRow {
+        consumer: DevId(1),
+        supplier: DevId(0),
+        pm_runtime: true,
+        later: false,
+    };
+    assert_eq!(rt; plan.links.as_slice(), [link].as_slice());
+    let caller = plan.callers.get(0).ok_or("a caller")?;
+    let commands = [
+        Command {
+            helper: Helper::SetAutosuspendDelay,
+            dev: DevId(1),
+            number: -5,
+        },
+        Command {
+            helper: Helper::LinkAdd,
+            dev: DevId(1),
+            number: 0,
+        },
+    ];
+    assert_eq!(rt; caller.script.as_slice(), commands.as_slice());
+    Ok(())
+}
+
+// Each start of a text is read or refused: how many are read, are no TOML, and are refused otherwise.
+#[test]
+fn a_plan_that_is_cut_off(rt: HostRuntime) -> Result<(), Fail> {
+    let text =
+        b"[[device]]\nname = \"a\"\n[[caller]]\nname = \"c\"\nscript = [\"enable a\", \"get_sync a\", \"put_noidle a\"]\n";
+    let mut counts = [0u32; 3];
+    for end in 0..=text.len() {
+        let (start, _) = text.split_at(end);
+        match read_plan(rt.alloc(), start) {
+            Ok(_plan) => counts[0] = counts[0].wrapping_add(1),
+            Err(
+                PlanFault::Refused {
+                    why: PlanWhy::NotToml,
+                    ..
+                },
+            ) => {
+                counts[1] = counts[1].wrapping_add(1);
+            }
+            Err(PlanFault::Refused { .. }) => counts[2] = counts[2].wrapping_add(1),
+            Err(PlanFault::NoMemory) => return Err("memory".into()),
+        }
+    }
+    assert_eq!(rt; counts, [7, 86, 4]);
+    Ok(())
+}

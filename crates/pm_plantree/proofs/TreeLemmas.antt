@@ -1,0 +1,49 @@
+-- The tree of a plan in the words of its values.
+use Rattle.std.proofs.Common.{◌≡◌, ℕ, Bool, ◌&&◌, None, is_some, List, [], ◌∷◌, length, map, String, Global, string_bytes, refl, ap, ◌∙◌}
+use Rattle.std.proofs.lemmas.Bool.{false_from_ne_true}
+use Rattle.std.proofs.lemmas.List.{length-map}
+use Rattle.std.proofs.lemmas.Str.{IsUtf8-from_is_utf8, is_utf8-from_IsUtf8}
+use Rattle.std.specs.List.{list_all}
+use Rattle.std.specs.Str.{IsUtf8, is_utf8}
+use Rattle.toml.specs.Data.{Data, as_integer, as_str}
+use Rattle.toml.specs.Parse.{parse_document}
+use Rattle.toml.specs.declared.value.Value.{Value}
+use Rattle.toml.specs.View.{items_view, members_view, view}
+use Rattle.pm_plantree.specs.Tree.{document, items_list, member_keys, member_list}
+
+pub items_list_view : (values : List Value) → items_list (items_view values) ≡ map view values
+items_list_view [] = refl
+items_list_view (value ∷ values) = ap (λ rest. view value ∷ rest) (items_list_view values)
+
+-- the keys of a map, as bytes
+pub member_keys_view : (entries : List (String Global × Value)) → member_keys (members_view entries) ≡ map string_bytes (map (λ entry. entry.0) entries)
+member_keys_view [] = refl
+member_keys_view (entry ∷ entries) = ap (λ rest. string_bytes entry.0 ∷ rest) (member_keys_view entries)
+
+-- a map's keys and values
+pub member_list_view : (entries : List (String Global × Value)) → member_list (members_view entries) ≡ map (λ entry. (string_bytes entry.0, view entry.1)) entries
+member_list_view [] = refl
+member_list_view (entry ∷ entries) = ap (λ rest. (string_bytes entry.0, view entry.1) ∷ rest) (member_list_view entries)
+
+pub keys_counted : (entries : List (String Global × Value)) → length (member_keys (members_view entries)) ≡ length entries
+keys_counted entries = ap length (member_keys_view entries) ∙ length-map (map (λ entry. entry.0) entries) string_bytes ∙ length-map entries (λ entry. entry.0)
+
+-- bytes that are UTF-8 have the tree of their text, and others have none
+pub document_of_text : (bytes : List ℕ) → IsUtf8 bytes → document bytes ≡ parse_document bytes
+unfolding document
+document_of_text bytes text = rw (is_utf8-from_IsUtf8 bytes text)
+
+pub document_of_other : (bytes : List ℕ) → ¬ (IsUtf8 bytes) → document bytes ≡ None
+unfolding document
+document_of_other bytes other = rw (false_from_ne_true (is_utf8 bytes) (λ text. other (IsUtf8-from_is_utf8 bytes text)))
+
+-- all items of an array pass
+pub all_of_view : (p : Data → Bool) (values : List Value) → list_all p (items_list (items_view values)) ≡ list_all (λ value. p (view value)) values
+all_of_view p [] = refl
+all_of_view p (value ∷ values) = ap (λ rest. p (view value) && rest) (all_of_view p values)
+
+pub integers_of_view : (values : List Value) → list_all (λ d. is_some (as_integer d)) (items_list (items_view values)) ≡ list_all (λ value. is_some (as_integer (view value))) values
+integers_of_view values = all_of_view (λ d. is_some (as_integer d)) values
+
+pub strings_of_view : (values : List Value) → list_all (λ d. is_some (as_str d)) (items_list (items_view values)) ≡ list_all (λ value. is_some (as_str (view value))) values
+strings_of_view values = all_of_view (λ d. is_some (as_str d)) values

@@ -1,0 +1,6 @@
+pub mod Keys
+pub mod Places
+pub mod Tree
+pub mod KeyFault
+pub mod KindFault
+pub mod Raw

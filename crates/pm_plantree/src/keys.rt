@@ -1,0 +1,142 @@
+//! The keys of a plan's tables and the kinds of their values.
+
+ghost use Rattle.std.specs.Prelude.{◌≡◌, is_some};
+ghost use Rattle.std.specs.List.{list_all};
+ghost use Rattle.toml.specs.Data.{as_integer, as_str};
+ghost use Rattle.toml.specs.View.{view};
+ghost use Rattle.pm_plantree.specs.Keys.{is_number_key, is_numbers_key, is_of_kind, is_switch_key, is_tables_key, is_text_key, is_texts_key, kind_of};
+
+use crate::place::Section;
+use toml::Value;
+
+/// What stands under a key.
+#[derive(Clone, Copy, Debug, PartialEq, Eq)]
+pub enum Kind {
+    /// A string.
+    Text,
+    /// An integer.
+    Number,
+    /// A boolean.
+    Switch,
+    /// An array of integers.
+    Numbers,
+    /// An array of strings.
+    Texts,
+    /// An array of tables.
+    Tables,
+}
+
+/// The kind of a key's value, where a table of the section has the key.
+#[tactic(auto, unfolding(crate::specs::Keys::kind_of))]
+pub fn kind_of(section: Section, key: &str) -> Option<Kind>
+    ensures { result ≡ kind_of section key.now }
+{
+    if is_text_key(section, key) {
+        Some(Kind::Text)
+    } else if is_number_key(section, key) {
+        Some(Kind::Number)
+    } else if is_switch_key(section, key) {
+        Some(Kind::Switch)
+    } else if is_numbers_key(section, key) {
+        Some(Kind::Numbers)
+    } else if is_texts_key(section, key) {
+        Some(Kind::Texts)
+    } else if is_tables_key(section, key) {
+        Some(Kind::Tables)
+    } else {
+        None
+    }
+}
+
+fn is_text_key(section: Section, key: &str) -> bool
+    ensures { result ≡ is_text_key section key.now }
+{
+    match section {
+        Section::Top => false,
+        Section::Domain => key == "name" || key == "parent",
+        Section::Device => key == "name" || key == "parent" || key == "domain",
+        Section::Link => key == "consumer" || key == "supplier",
+        Section::Caller => key == "name",
+    }
+}
+
+fn is_number_key(section: Section, key: &str) -> bool
+    ensures { result ≡ is_number_key section key.now }
+{
+    match section {
+        Section::Top => key == "lines" || key == "trace",
+        Section::Device => key == "idle_ms" || key == "suspend_ms" || key == "resume_ms",
+        Section::Domain | Section::Link | Section::Caller => false,
+    }
+}
+
+fn is_switch_key(section: Section, key: &str) -> bool
+    ensures { result ≡ is_switch_key section key.now }
+{
+    match section {
+        Section::Domain => key == "always_on",
+        Section::Device => key == "ignore_children" || key == "no_callbacks" || key == "busy",
+        Section::Link => key == "pm_runtime" || key == "later",
+        Section::Top | Section::Caller => false,
+    }
+}
+
+fn is_numbers_key(section: Section, key: &str) -> bool
+    ensures { result ≡ is_numbers_key section key.now }
+{
+    match section {
+        Section::Device => key == "idle" || key == "suspend" || key == "resume",
+        Section::Top | Section::Domain | Section::Link | Section::Caller => false,
+    }
+}
+
+fn is_texts_key(section: Section, key: &str) -> bool
+    ensures { result ≡ is_texts_key section key.now }
+{
+    match section {
+        Section::Caller => key == "script",
+        Section::Top | Section::Domain | Section::Device | Section::Link => false,
+    }
+}
+
+fn is_tables_key(section: Section, key: &str) -> bool
+    ensures { result ≡ is_tables_key section key.now }
+{
+    match section {
+        Section::Top => key == "domain" || key == "device" || key == "link" || key == "caller",
+        Section::Domain | Section::Device | Section::Link | Section::Caller => false,
+    }
+}
+
+fn are_integers(values: &[Value]) -> bool
+    ensures { result ≡ list_all (λ value. is_some (as_integer (view value))) values.now }
+{
+    values.iter().all(|value| value.is_integer())
+}
+
+fn are_strings(values: &[Value]) -> bool
+    ensures { result ≡ list_all (λ value. is_some (as_str (view value))) values.now }
+{
+    values.iter().all(|value| value.is_str())
+}
+
+/// Whether the value is of the kind. The elements of an array of tables are looked at apart.
+#[tactic(auto, using(crate::proofs::TreeLemmas::integers_of_view, crate::proofs::TreeLemmas::strings_of_view))]
+pub fn is_of_kind(kind: Kind, value: &Value) -> bool
+    ensures { result ≡ is_of_kind kind (view value.now) }
+{
+    match kind {
+        Kind::Text => value.is_str(),
+        Kind::Number => value.is_integer(),
+        Kind::Switch => value.is_bool(),
+        Kind::Tables => value.is_array(),
+        Kind::Numbers => match value.as_array() {
+            Some(values) => are_integers(values.as_slice()),
+            None => false,
+        },
+        Kind::Texts => match value.as_array() {
+            Some(values) => are_strings(values.as_slice()),
+            None => false,
+        },
+    }
+}

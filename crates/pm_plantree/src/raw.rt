@@ -1,0 +1,305 @@
+//! What the tree of a plan says, row by row.
+
+ghost use Rattle.std.specs.Prelude.{◌≡◌, [], map, option_map, unwrap_or, IfOk};
+ghost use Rattle.toml.specs.Data.{Members};
+ghost use Rattle.toml.specs.View.{table_view, view};
+ghost use Rattle.pm_plantree.specs.Raw.{key_place, number_at, numbers_at, numbers_in, raw_caller, raw_device, raw_domain, raw_link, raw_plan, rows_in, switch_at, text_at, texts_in};
+
+use crate::tree::{items_at, list_at, member};
+use pm_base::DEFAULT_LINES;
+use pm_model::{Items, Name, Named};
+use std::alloc::{AllocError, Global};
+use toml::{Table, Value};
+
+/// Codes of a callback as the text writes them.
+pub type Codes64 = Items<i64>;
+
+/// A domain, which names its parent.
+#[derive(Debug, Drop)]
+pub struct RawDomain {
+    pub name: Name,
+    pub parent: Option<Name>,
+    pub always_on: bool,
+}
+
+impl Named for RawDomain {
+    ghost name_of = { λ row. row.name };
+
+    fn name(&self) -> &Name {
+        &self.name
+    }
+}
+
+/// A device, which names its parent and its domain.
+#[derive(Debug, Drop)]
+pub struct RawDevice {
+    pub name: Name,
+    pub parent: Option<Name>,
+    pub domain: Option<Name>,
+    pub ignore_children: bool,
+    pub no_callbacks: bool,
+    pub busy: bool,
+    pub idle: Option<Codes64>,
+    pub suspend: Codes64,
+    pub resume: Codes64,
+    pub idle_ms: i64,
+    pub suspend_ms: i64,
+    pub resume_ms: i64,
+}
+
+impl Named for RawDevice {
+    ghost name_of = { λ row. row.name };
+
+    fn name(&self) -> &Name {
+        &self.name
+    }
+}
+
+/// A link, which names its devices.
+#[derive(Debug, Drop)]
+pub struct RawLink {
+    pub consumer: Name,
+    pub supplier: Name,
+    pub pm_runtime: bool,
+    pub later: bool,
+}
+
+/// A caller with the text of each command.
+#[derive(Debug, Drop)]
+pub struct RawCaller {
+    pub name: Name,
+    pub script: Items<Name>,
+}
+
+impl Named for RawCaller {
+    ghost name_of = { λ row. row.name };
+
+    fn name(&self) -> &Name {
+        &self.name
+    }
+}
+
+/// What the text of a plan says.
+#[derive(Debug, Drop)]
+pub struct RawPlan {
+    pub lines: i64,
+    /// The place of the key `lines` among the top keys in byte order, and 0 where it is missing.
+    pub lines_at: usize,
+    pub trace: i64,
+    /// The same of the key `trace`.
+    pub trace_at: usize,
+    pub domains: Items<RawDomain>,
+    pub devices: Items<RawDevice>,
+    pub links: Items<RawLink>,
+    pub callers: Items<RawCaller>,
+}
+
+/// A row of a plan that a table says.
+trait Row: Drop {
+    /// The row of a table.
+    ghost row_of: { Members → Self };
+
+    fn row(alloc: Global, table: &Table) -> Result<Self, AllocError>
+        ensures { IfOk result (λ row. row ≡ row_of (table_view table.now)) };
+}
+
+/// What the tree says. It fails where memory runs out.
+#[tactic(auto, unfolding(crate::specs::Raw::raw_plan))]
+pub fn raw_plan(alloc: Global, tree: &Table) -> Result<RawPlan, AllocError>
+    ensures { IfOk result (λ plan. plan ≡ raw_plan (table_view tree.now)) }
+{
+    let domains = Items::new(rows_in(alloc, list_at(tree, "domain"))?);
+    let devices = Items::new(rows_in(alloc, list_at(tree, "device"))?);
+    let links = Items::new(rows_in(alloc, list_at(tree, "link"))?);
+    let callers = Items::new(rows_in(alloc, list_at(tree, "caller"))?);
+    Ok(RawPlan {
+        lines: number_at(tree, "lines").unwrap_or(i64::from(DEFAULT_LINES)),
+        lines_at: key_place(tree, "lines"),
+        trace: number_at(tree, "trace").unwrap_or(1),
+        trace_at: key_place(tree, "trace"),
+        domains,
+        devices,
+        links,
+        callers,
+    })
+}
+
+/// The rows of an array's tables.
+fn rows_in<T: Row>(alloc: Global, values: &[Value]) -> Result<Vec<T>, AllocError>
+    ensures { IfOk result (λ rows. rows.items ≡ rows_in T.row_of (map view values.now)) }
+{
+    let mut rows = Vec::new(alloc);
+    for value in values {
+        if let Some(table) = value.as_table() {
+            rows.push(T::row(alloc, table)?)?;
+        }
+    }
+    Ok(rows)
+}
+
+impl Row for RawDomain {
+    ghost row_of = { raw_domain };
+
+    #[tactic(auto, unfolding(crate::specs::Raw::raw_domain))]
+    fn row(alloc: Global, table: &Table) -> Result<RawDomain, AllocError> {
+        Ok(RawDomain {
+            name: text_or_empty(alloc, table, "name")?,
+            parent: text_at(alloc, table, "parent")?,
+            always_on: switch_at(table, "always_on").unwrap_or(false),
+        })
+    }
+}
+
+impl Row for RawDevice {
+    ghost row_of = { raw_device };
+
+    #[tactic(auto, unfolding(crate::specs::Raw::raw_device))]
+    fn row(alloc: Global, table: &Table) -> Result<RawDevice, AllocError> {
+        Ok(RawDevice {
+            name: text_or_empty(alloc, table, "name")?,
+            parent: text_at(alloc, table, "parent")?,
+            domain: text_at(alloc, table, "domain")?,
+            ignore_children: switch_at(table, "ignore_children").unwrap_or(false),
+            no_callbacks: switch_at(table, "no_callbacks").unwrap_or(false),
+            busy: switch_at(table, "busy").unwrap_or(false),
+            idle: numbers_at(alloc, table, "idle")?,
+            suspend: Items::new(numbers_in(alloc, list_at(table, "suspend"))?),
+            resume: Items::new(numbers_in(alloc, list_at(table, "resume"))?),
+            idle_ms: number_at(table, "idle_ms").unwrap_or(0),
+            suspend_ms: number_at(table, "suspend_ms").unwrap_or(0),
+            resume_ms: number_at(table, "resume_ms").unwrap_or(0),
+        })
+    }
+}
+
+impl Row for RawLink {
+    ghost row_of = { raw_link };
+
+    #[tactic(auto, unfolding(crate::specs::Raw::raw_link))]
+    fn row(alloc: Global, table: &Table) -> Result<RawLink, AllocError> {
+        Ok(RawLink {
+            consumer: text_or_empty(alloc, table, "consumer")?,
+            supplier: text_or_empty(alloc, table, "supplier")?,
+            pm_runtime: switch_at(table, "pm_runtime").unwrap_or(true),
+            later: switch_at(table, "later").unwrap_or(false),
+        })
+    }
+}
+
+impl Row for RawCaller {
+    ghost row_of = { raw_caller };
+
+    #[tactic(auto, unfolding(crate::specs::Raw::raw_caller))]
+    fn row(alloc: Global, table: &Table) -> Result<RawCaller, AllocError> {
+        Ok(RawCaller {
+            name: text_or_empty(alloc, table, "name")?,
+            script: Items::new(texts_in(alloc, list_at(table, "script"))?),
+        })
+    }
+}
+
+/// A copy of the text.
+fn copied(alloc: Global, text: &str) -> Result<Name, AllocError>
+    ensures { IfOk result (λ copy. copy ≡ text.now) }
+{
+    Ok(Items::new(Vec::from_slice(alloc, text.as_bytes())?))
+}
+
+/// The string under a key.
+fn text_at(alloc: Global, table: &Table, key: &str) -> Result<Option<Name>, AllocError>
+    ensures { IfOk result (λ text. text ≡ text_at key.now (table_view table.now)) }
+{
+    match string_at(table, key) {
+        Some(text) => Ok(Some(copied(alloc, text)?)),
+        None => Ok(None),
+    }
+}
+
+fn string_at<'a>(table: &'a Table, key: &str) -> Option<&'a str>
+    ensures { option_map (λ text. text.now) result ≡ text_at key.now (table_view table.now) }
+{
+    match member(table, key) {
+        Some(value) => value.as_str(),
+        None => None,
+    }
+}
+
+/// The string under a key, and no bytes where none stands there.
+fn text_or_empty(alloc: Global, table: &Table, key: &str) -> Result<Name, AllocError>
+    ensures { IfOk result (λ text. text ≡ unwrap_or (text_at key.now (table_view table.now)) []) }
+{
+    match string_at(table, key) {
+        Some(text) => copied(alloc, text),
+        None => Ok(Items::new(Vec::new(alloc))),
+    }
+}
+
+/// The integer under a key.
+fn number_at(table: &Table, key: &str) -> Option<i64>
+    ensures { result ≡ number_at key.now (table_view table.now) }
+{
+    match member(table, key) {
+        Some(value) => value.as_integer(),
+        None => None,
+    }
+}
+
+/// The boolean under a key.
+fn switch_at(table: &Table, key: &str) -> Option<bool>
+    ensures { result ≡ switch_at key.now (table_view table.now) }
+{
+    match member(table, key) {
+        Some(value) => value.as_bool(),
+        None => None,
+    }
+}
+
+/// The integers of the array under a key, where an array stands there.
+fn numbers_at(alloc: Global, table: &Table, key: &str) -> Result<Option<Codes64>, AllocError>
+    ensures { IfOk result (λ numbers. numbers ≡ numbers_at key.now (table_view table.now)) }
+{
+    match items_at(table, key) {
+        Some(values) => Ok(Some(Items::new(numbers_in(alloc, values)?))),
+        None => Ok(None),
+    }
+}
+
+/// The integers of an array.
+fn numbers_in(alloc: Global, values: &[Value]) -> Result<Vec<i64>, AllocError>
+    ensures { IfOk result (λ numbers. numbers.items ≡ numbers_in (map view values.now)) }
+{
+    let mut numbers = Vec::new(alloc);
+    for value in values {
+        if let Some(number) = value.as_integer() {
+            numbers.push(number)?;
+        }
+    }
+    Ok(numbers)
+}
+
+/// The strings of an array.
+fn texts_in(alloc: Global, values: &[Value]) -> Result<Vec<Name>, AllocError>
+    ensures { IfOk result (λ texts. texts.items ≡ texts_in (map view values.now)) }
+{
+    let mut texts = Vec::new(alloc);
+    for value in values {
+        if let Some(text) = value.as_str() {
+            texts.push(copied(alloc, text)?)?;
+        }
+    }
+    Ok(texts)
+}
+
+/// The place of a key among the keys of a table in byte order; 0 where it is missing.
+fn key_place(table: &Table, key: &str) -> usize
+    ensures { result ≡ key_place key.now (table_view table.now) }
+{
+    let mut at = 0;
+    for other in table.keys() {
+        if other.as_str() == key {
+            return at;
+        }
+        at += 1;
+    }
+    0
+}

@@ -1,0 +1,55 @@
+//! Reads the tree of a plan's text.
+
+ghost use Rattle.std.specs.Prelude.{◌≡◌, map, option_map, option_and_then, IfOk};
+ghost use Rattle.toml.specs.Data.{as_array, get_member};
+ghost use Rattle.toml.specs.View.{table_view, view};
+ghost use Rattle.pm_plantree.specs.Tree.{document, items_list, list_at};
+
+use pm_base::NoMemory;
+use std::alloc::Global;
+use toml::{Table, Value};
+
+/// The tree of the bytes; `None` where they aren't UTF-8 or no TOML.
+#[tactic(auto, unfolding(crate::specs::Tree::document))]
+pub fn document(alloc: Global, bytes: &[u8]) -> Result<Option<Table>, NoMemory>
+    ensures { IfOk result (λ table. option_map table_view table ≡ document bytes.now) }
+{
+    let Ok(text) = std::str::from_utf8(bytes) else {
+        return Ok(None);
+    };
+    match toml::table_from_str(alloc, text) {
+        Ok(table) => Ok(Some(table)),
+        Err(error) if error.is_memory() => Err(NoMemory),
+        Err(_) => Ok(None),
+    }
+}
+
+/// The value under a key.
+pub fn member<'a>(table: &'a Table, key: &str) -> Option<&'a Value>
+    ensures { option_map (λ value. view value.now) result
+        ≡ get_member key.now (table_view table.now) }
+{
+    table.get(key)
+}
+
+/// The elements of the array under a key, where one stands there.
+#[tactic(auto, using(crate::proofs::TreeLemmas::items_list_view))]
+pub fn items_at<'a>(table: &'a Table, key: &str) -> Option<&'a [Value]>
+    ensures { option_map (λ values. map view values.now) result
+        ≡ option_map items_list (option_and_then as_array (get_member key.now (table_view table.now))) }
+{
+    match member(table, key) {
+        Some(value) => Some(value.as_array()?.as_slice()),
+        None => None,
+    }
+}
+
+/// The elements of the array under a key, and none where no array stands there.
+pub fn list_at<'a>(table: &'a Table, key: &str) -> &'a [Value]
+    ensures { map view result.now ≡ list_at key.now (table_view table.now) }
+{
+    match items_at(table, key) {
+        Some(values) => values,
+        None => &[],
+    }
+}

@@ -1,0 +1,70 @@
+-- What a command of a script says, and why it is refused (this project's own): a helper's word, then what the helper takes.
+use Rattle.std.specs.Prelude.{ℕ, ◌+◌, Bool, List, [], ◌∷◌, Option, Some, None, Result, Ok, Err, ℤ, pos, find, is_none, length, map, ok_or, option_and_then, option_map, slice_get, if◌then◌else◌}
+use Rattle.std.specs.Str.{bytes_eq}
+use Rattle.pm_base.specs.declared.DevId.{DevId}
+use Rattle.pm_linetext.specs.Words.{all_helpers}
+use Rattle.pm_lists.specs.NamedList.{place_named}
+use Rattle.pm_model.specs.Spelling.{helper_word, operand_of, takes_device}
+use Rattle.pm_model.specs.declared.event.Command.{Command}
+use Rattle.pm_model.specs.declared.event.Helper.{Helper}
+use Rattle.pm_model.specs.declared.event.Operand.{Operand}
+use Rattle.pm_model.specs.declared.event.Operand.TheVariants.{Nothing, Milliseconds, Switch, Supplier}
+use Rattle.pm_script.specs.Numbers.{milliseconds_in, switch_in}
+use Rattle.pm_script.specs.Words.{words_of}
+use Rattle.pm_script.specs.declared.fault.ScriptFault.{ScriptFault}
+use Rattle.pm_script.specs.declared.fault.ScriptFault.TheVariants.{Word, Device, Number, Extra}
+
+-- what follows, where there is no fault
+abbrev pub result_and_then : {A B : Type 0} → (A → Result B ScriptFault) → Result A ScriptFault → Result B ScriptFault
+result_and_then next (Err fault) = Err fault
+result_and_then next (Ok value) = next value
+
+-- the helper whose word this is
+unfoldable pub helper_named : List ℕ → Option Helper
+helper_named word = find (λ h. bytes_eq word (helper_word h)) all_helpers
+
+-- the place of the device that the nth word names, counted from 0
+abbrev pub device_at : List (List ℕ) → List (List ℕ) → ℕ → Option ℕ
+device_at names words n = option_and_then (λ word. place_named word names) (slice_get words n)
+
+abbrev pub dev_at : ℕ → DevId
+dev_at place = record { 0 = place }
+
+-- Word: there is no first word, or it isn't a helper
+abbrev pub helper_in : List (List ℕ) → Result Helper ScriptFault
+helper_in words = ok_or (option_and_then helper_named (slice_get words 0)) Word
+
+-- Device: the helper takes a device, and the next word is missing or names none. `delay` takes none and has 0.
+abbrev pub device_in : List (List ℕ) → Helper → List (List ℕ) → Result DevId ScriptFault
+device_in names h words = if takes_device h then ok_or (option_map dev_at (device_at names words 1)) Device else Ok (dev_at 0)
+
+-- how many words there are up to the helper's device
+abbrev pub words_before_operand : Helper → ℕ
+words_before_operand h = if takes_device h then 2 else 1
+
+-- Device: the helper takes a second device, and the word is missing or names none.
+-- Number: the helper takes a number, or on or off, and the word is missing or is no such number.
+abbrev pub operand_in : List (List ℕ) → Helper → Operand → List (List ℕ) → Result ℤ ScriptFault
+operand_in names h Nothing words = Ok (pos 0)
+operand_in names h Milliseconds words = ok_or (option_and_then (milliseconds_in h) (slice_get words (words_before_operand h))) Number
+operand_in names h Switch words = ok_or (option_and_then switch_in (slice_get words (words_before_operand h))) Number
+operand_in names h Supplier words = ok_or (option_map pos (device_at names words (words_before_operand h))) Device
+
+-- how many words a command of the helper has
+abbrev pub word_count : Helper → Operand → ℕ
+word_count h Nothing = words_before_operand h
+word_count h _ = words_before_operand h + 1
+
+-- Extra: words are left
+abbrev pub ended : Helper → List (List ℕ) → Command → Result Command ScriptFault
+ended h words command = if is_none (slice_get words (word_count h (operand_of h))) then Ok command else Err Extra
+
+-- the command that these words are over devices of these names, or the first of its refusals
+abbrev pub command_in : List (List ℕ) → List (List ℕ) → Result Command ScriptFault
+command_in names words =
+    result_and_then (λ h. result_and_then (λ d. result_and_then (λ n. ended h words (record { helper = h; dev = d; number = n }))
+    (operand_in names h (operand_of h) words)) (device_in names h words)) (helper_in words)
+
+-- the command that these bytes are
+unfoldable pub command_of : List (List ℕ) → List ℕ → Result Command ScriptFault
+command_of names bytes = command_in names (words_of bytes)
