@@ -195,7 +195,11 @@ pub fn starts(parts: &mut Parts, plan: &Plan, command: Command, time: u64)
     requires in_time { time < 2 ^ 63 }
     ensures { parts.new ≡ record parts.old { views = changed_by (control_starts plan.now parts.old.views command time) parts.old.views } }
 {
-    let Command { helper, dev, number } = command;
+    let Command {
+        helper,
+        dev,
+        number,
+    } = command;
     match helper {
         Helper::ScheduleSuspend => schedules(parts, plan, dev, number.unsigned_abs(), time),
         Helper::Enable => enabling(parts, dev),

@@ -14,10 +14,9 @@ mod idle;
 mod resume;
 mod suspend;
 
+pub use events::happen;
 use pm_device::Parts;
 use pm_model::{Line, Plan, Stage};
-
-pub use events::happen;
 
 // What the row at a stage changes beside its event.
 #[tactic(auto, using(crate::proofs::QuietLemmas::idle_changed_is, crate::proofs::QuietLemmas::suspend_changed_is, crate::proofs::QuietLemmas::resume_changed_is, crate::proofs::QuietLemmas::helper_changed_is, crate::proofs::QuietLemmas::control_changed_is))]

@@ -60,7 +60,7 @@ fn index_of<T: Named>(alloc: Global, rows: &[T]) -> Result<Index, NoMemory>
     requires { length rows.now < 2 ^ 32 }
     ensures { IfOk result (λ index. names_in index ≡ map T.name_of rows.now) }
 {
-    NamedList::new(alloc, labels(alloc, rows)?)
+    Ok(NamedList::new(alloc, labels(alloc, rows)?)?)
 }
 
 fn labels<T: Named>(alloc: Global, rows: &[T]) -> Result<Vec<Label>, NoMemory>
@@ -80,7 +80,7 @@ fn link_index(alloc: Global, rows: &[RawLink]) -> Result<Index, NoMemory>
     requires { length rows.now < 2 ^ 32 }
     ensures { IfOk result (λ index. names_in index ≡ map (λ row. pair_name row.consumer row.supplier) rows.now) }
 {
-    NamedList::new(alloc, link_labels(alloc, rows)?)
+    Ok(NamedList::new(alloc, link_labels(alloc, rows)?)?)
 }
 
 fn link_labels(alloc: Global, rows: &[RawLink]) -> Result<Vec<Label>, NoMemory>

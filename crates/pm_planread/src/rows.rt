@@ -22,10 +22,8 @@ pub fn domain_rows(alloc: Global, raw: &RawPlan, names: &Names) -> Result<Domain
     requires names { AreNamesOf raw.now names.now }
     ensures { IfOk result (λ rows. rows ≡ domain_rows raw.now) }
 {
-    NamedList::new(
-        alloc,
-        domains_in(alloc, raw.domains.as_slice(), &names.domains)?,
-    )
+    let rows = domains_in(alloc, raw.domains.as_slice(), &names.domains)?;
+    Ok(NamedList::new(alloc, rows)?)
 }
 
 fn domains_in(
@@ -62,10 +60,8 @@ pub fn device_rows(alloc: Global, raw: &RawPlan, names: &Names) -> Result<Device
     ensures { IfOk result (λ rows. rows ≡ device_rows raw.now) }
 {
     let rows = raw.devices.as_slice();
-    NamedList::new(
-        alloc,
-        devices_in(alloc, rows, &names.domains, &names.devices)?,
-    )
+    let rows = devices_in(alloc, rows, &names.domains, &names.devices)?;
+    Ok(NamedList::new(alloc, rows)?)
 }
 
 fn devices_in(

@@ -58,7 +58,8 @@ pub fn caller_rows(
     ensures rows { IfOk result (λ rows. rows ≡ map (caller_row (map (λ row. row.name) devices.now)) callers.now) }
     ensures valid { IfOk result (λ rows. list_all (are_commands (length devices.now)) rows ≡ true) }
 {
-    NamedList::new(alloc, callers_in(alloc, devices, callers)?)
+    let rows = callers_in(alloc, devices, callers)?;
+    Ok(NamedList::new(alloc, rows)?)
 }
 
 fn callers_in(

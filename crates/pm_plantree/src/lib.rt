@@ -5,8 +5,8 @@
 //! have as places.
 #![tactic(auto)]
 
-mod keys;
 mod key_faults;
+mod keys;
 mod kind_faults;
 mod place;
 mod raw;
