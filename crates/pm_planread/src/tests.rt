@@ -4,6 +4,7 @@ use super::*;
 use pm_base::{DevId, DomId};
 use pm_model::{Command, Helper, LinkRow, Plan};
 use std::alloc::Global;
+use std::process::Abort;
 use std::test::Fail;
 
 // What is said of a text: `ok`, or the message of its refusal.
@@ -24,95 +25,102 @@ fn plan(alloc: Global, text: &str) -> Result<Plan, Fail> {
 
 const DEVICES: &str = "[[device]]\nname = \"a\"\n[[device]]\nname = \"b\"\n";
 
-#[test]
-fn refusals_have_their_places(rt: HostRuntime) -> Result<(), Fail> {
-    let cases = [
-        ("[[device", "plan: not_toml top 0 0"),
-        ("lines = 9223372036854775808", "plan: not_toml top 0 0"),
-        ("x = 1", "plan: key top 0 0"),
-        ("lines = \"5\"\ntrade = 1", "plan: key top 1 0"),
-        ("[[device]]\nbusy = true\nnime = 1", "plan: key device 0 1"),
-        ("[[device]]\nbusy = true", "plan: key device 0 1"),
-        (
-            "device = [1, {name = \"a\", x = 1}]",
-            "plan: key device 1 1",
-        ),
-        ("[[link]]\nsupplier = \"a\"", "plan: key link 0 1"),
-        ("lines = \"5\"", "plan: kind top 0 0"),
-        ("[device]\nname = \"a\"", "plan: kind top 0 0"),
-        ("device = [{name = \"\"}, 1]", "plan: kind device 1 0"),
-        (
-            "[[device]]\nname = \"a\"\nidle = [0, 1.5]",
-            "plan: kind device 0 0",
-        ),
-        (
-            "[[caller]]\nname = \"c.d\"\nscript = [1]",
-            "plan: kind caller 0 1",
-        ),
-        ("[[device]]\nname = \"\"", "plan: name device 0 0"),
-        (
-            "[[caller]]\nname = \"c.d\"\n[[domain]]\nname = \"m n\"",
-            "plan: name domain 0 0",
-        ),
-        ("[[caller]]\nname = \"c.d\"", "plan: name caller 0 0"),
-        (
-            "[[device]]\nname = \"a\"\nparent = \"z\"\n[[device]]\nname = \"a\"",
-            "plan: repeat device 1 0",
-        ),
-        (
-            "[[link]]\nconsumer = \"z\"\nsupplier = \"z\"\n[[link]]\nconsumer = \"z\"\nsupplier = \"z\"",
-            "plan: repeat link 1 0",
-        ),
-        (
-            "[[device]]\nname = \"a\"\ndomain = \"m\"",
-            "plan: unknown device 0 0",
-        ),
-        (
-            "[[domain]]\nname = \"m\"\nparent = \"m\"\n[[domain]]\nname = \"n\"\nparent = \"o\"",
-            "plan: unknown domain 1 0",
-        ),
-        (
-            "[[device]]\nname = \"k\"\nparent = \"p\"\n[[device]]\nname = \"p\"",
-            "plan: later device 0 0",
-        ),
-        (
-            "lines = 0\n[[domain]]\nname = \"m\"\nparent = \"m\"",
-            "plan: later domain 0 0",
-        ),
-        (
-            "[[domain]]\nname = \"m\"\n[[device]]\nname = \"a\"\ndomain = \"m\"\nno_callbacks = true",
-            "plan: no_callbacks_with_domain device 0 0",
-        ),
-        ("lines = 0", "plan: number top 0 0"),
-        ("lines = 200001\ntrace = 3", "plan: number top 0 0"),
-        ("lines = 200000\ntrace = 3", "plan: number top 1 0"),
-        (
-            "[[device]]\nname = \"a\"\nresume_ms = 1000001\nidle = [1]",
-            "plan: number device 0 0",
-        ),
-        (
-            "[[device]]\nname = \"a\"\nresume = [0, -13]",
-            "plan: code device 0 1",
-        ),
-        (
-            "[[device]]\nname = \"a\"\nsuspend = [0, 0, 1]\nresume = [-4096]",
-            "plan: code device 0 2",
-        ),
-        (
-            "[[caller]]\nname = \"c\"\nscript = [\"delay 1\", \"get a\"]",
-            "plan: script caller 0 1",
-        ),
-        (
-            "[[caller]]\nname = \"c\"\n[[caller]]\nname = \"d\"\nscript = [\"\"]",
-            "plan: script caller 1 0",
-        ),
-        ("", "ok"),
-        ("device = []\nlines = 200000", "ok"),
-    ];
+// Each text is answered so.
+fn answered(rt: &(impl Abort + AllocGlobal), cases: &[(&str, &str)]) -> Result<(), Fail> {
     for (text, wanted) in cases {
         let said = answer(rt.alloc(), text.as_bytes())?;
-        assert_eq!(rt; said.as_str(), wanted, "{text:?}");
+        assert_eq!(rt; said.as_str(), *wanted, "{text:?}");
     }
+    Ok(())
+}
+
+static REFUSALS: [(&str, &str); 33] = [
+    ("[[device", "plan: not_toml top 0 0"),
+    ("lines = 9223372036854775808", "plan: not_toml top 0 0"),
+    ("x = 1", "plan: key top 0 0"),
+    ("lines = \"5\"\ntrade = 1", "plan: key top 1 0"),
+    ("[[device]]\nbusy = true\nnime = 1", "plan: key device 0 1"),
+    ("[[device]]\nbusy = true", "plan: key device 0 1"),
+    (
+        "device = [1, {name = \"a\", x = 1}]",
+        "plan: key device 1 1",
+    ),
+    ("[[link]]\nsupplier = \"a\"", "plan: key link 0 1"),
+    ("lines = \"5\"", "plan: kind top 0 0"),
+    ("[device]\nname = \"a\"", "plan: kind top 0 0"),
+    ("device = [{name = \"\"}, 1]", "plan: kind device 1 0"),
+    (
+        "[[device]]\nname = \"a\"\nidle = [0, 1.5]",
+        "plan: kind device 0 0",
+    ),
+    (
+        "[[caller]]\nname = \"c.d\"\nscript = [1]",
+        "plan: kind caller 0 1",
+    ),
+    ("[[device]]\nname = \"\"", "plan: name device 0 0"),
+    (
+        "[[caller]]\nname = \"c.d\"\n[[domain]]\nname = \"m n\"",
+        "plan: name domain 0 0",
+    ),
+    ("[[caller]]\nname = \"c.d\"", "plan: name caller 0 0"),
+    (
+        "[[device]]\nname = \"a\"\nparent = \"z\"\n[[device]]\nname = \"a\"",
+        "plan: repeat device 1 0",
+    ),
+    (
+        "[[link]]\nconsumer = \"z\"\nsupplier = \"z\"\n[[link]]\nconsumer = \"z\"\nsupplier = \"z\"",
+        "plan: repeat link 1 0",
+    ),
+    (
+        "[[device]]\nname = \"a\"\ndomain = \"m\"",
+        "plan: unknown device 0 0",
+    ),
+    (
+        "[[domain]]\nname = \"m\"\nparent = \"m\"\n[[domain]]\nname = \"n\"\nparent = \"o\"",
+        "plan: unknown domain 1 0",
+    ),
+    (
+        "[[device]]\nname = \"k\"\nparent = \"p\"\n[[device]]\nname = \"p\"",
+        "plan: later device 0 0",
+    ),
+    (
+        "lines = 0\n[[domain]]\nname = \"m\"\nparent = \"m\"",
+        "plan: later domain 0 0",
+    ),
+    (
+        "[[domain]]\nname = \"m\"\n[[device]]\nname = \"a\"\ndomain = \"m\"\nno_callbacks = true",
+        "plan: no_callbacks_with_domain device 0 0",
+    ),
+    ("lines = 0", "plan: number top 0 0"),
+    ("lines = 200001\ntrace = 3", "plan: number top 0 0"),
+    ("lines = 200000\ntrace = 3", "plan: number top 1 0"),
+    (
+        "[[device]]\nname = \"a\"\nresume_ms = 1000001\nidle = [1]",
+        "plan: number device 0 0",
+    ),
+    (
+        "[[device]]\nname = \"a\"\nresume = [0, -13]",
+        "plan: code device 0 1",
+    ),
+    (
+        "[[device]]\nname = \"a\"\nsuspend = [0, 0, 1]\nresume = [-4096]",
+        "plan: code device 0 2",
+    ),
+    (
+        "[[caller]]\nname = \"c\"\nscript = [\"delay 1\", \"get a\"]",
+        "plan: script caller 0 1",
+    ),
+    (
+        "[[caller]]\nname = \"c\"\n[[caller]]\nname = \"d\"\nscript = [\"\"]",
+        "plan: script caller 1 0",
+    ),
+    ("", "ok"),
+    ("device = []\nlines = 200000", "ok"),
+];
+
+#[test]
+fn refusals_have_their_places(rt: HostRuntime) -> Result<(), Fail> {
+    answered(&rt, &REFUSALS)?;
     assert_eq!(rt;
         answer(rt.alloc(), b"\xff")?.as_str(),
         "plan: not_toml top 0 0"
@@ -120,45 +128,46 @@ fn refusals_have_their_places(rt: HostRuntime) -> Result<(), Fail> {
     Ok(())
 }
 
+static LINKS: [(&str, &str); 7] = [
+    (
+        "[[link]]\nconsumer = \"a\"\nsupplier = \"b\"",
+        "plan: later link 0 0",
+    ),
+    (
+        "[[link]]\nconsumer = \"b\"\nsupplier = \"b\"",
+        "plan: later link 0 0",
+    ),
+    (
+        "[[link]]\nconsumer = \"b\"\nsupplier = \"c\"",
+        "plan: unknown link 0 0",
+    ),
+    (
+        "[[link]]\nconsumer = \"k\"\nsupplier = \"a\"",
+        "plan: no_callbacks_with_link link 0 0",
+    ),
+    (
+        "[[link]]\nconsumer = \"b\"\nsupplier = \"a\"\n[[link]]\nconsumer = \"k\"\nsupplier = \"a\"\nlater = true",
+        "plan: no_callbacks_with_link link 1 0",
+    ),
+    (
+        "[[link]]\nconsumer = \"k\"\nsupplier = \"a\"\npm_runtime = false",
+        "ok",
+    ),
+    (
+        "[[link]]\nconsumer = \"b\"\nsupplier = \"a\"\nlater = true",
+        "ok",
+    ),
+];
+
 #[test]
 fn links_are_looked_at_last(rt: HostRuntime) -> Result<(), Fail> {
-    let cases = [
-        (
-            "[[link]]\nconsumer = \"a\"\nsupplier = \"b\"",
-            "plan: later link 0 0",
-        ),
-        (
-            "[[link]]\nconsumer = \"b\"\nsupplier = \"b\"",
-            "plan: later link 0 0",
-        ),
-        (
-            "[[link]]\nconsumer = \"b\"\nsupplier = \"c\"",
-            "plan: unknown link 0 0",
-        ),
-        (
-            "[[link]]\nconsumer = \"k\"\nsupplier = \"a\"",
-            "plan: no_callbacks_with_link link 0 0",
-        ),
-        (
-            "[[link]]\nconsumer = \"b\"\nsupplier = \"a\"\n[[link]]\nconsumer = \"k\"\nsupplier = \"a\"\nlater = true",
-            "plan: no_callbacks_with_link link 1 0",
-        ),
-        (
-            "[[link]]\nconsumer = \"k\"\nsupplier = \"a\"\npm_runtime = false",
-            "ok",
-        ),
-        (
-            "[[link]]\nconsumer = \"b\"\nsupplier = \"a\"\nlater = true",
-            "ok",
-        ),
-    ];
-    for (links, wanted) in cases {
+    for (links, wanted) in &LINKS {
         let text = format!(in rt.alloc();
             "{DEVICES}[[device]]\nname = \"k\"\nno_callbacks = true\n{links}"
         )?;
         assert_eq!(rt;
             answer(rt.alloc(), text.as_bytes())?.as_str(),
-            wanted,
+            *wanted,
             "{links:?}"
         );
     }

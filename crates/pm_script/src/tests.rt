@@ -64,99 +64,92 @@ fn command(helper: Helper, dev: u32, number: i64) -> Command {
     }
 }
 
+static READ: [(&[u8], Helper, u32, i64); 16] = [
+    (b"get_sync a", Helper::GetSync, 0, 0),
+    (b"  enable   on  ", Helper::Enable, 3, 0),
+    (b"delay 1000000", Helper::Delay, 0, 1_000_000),
+    (b"delay 0000000001", Helper::Delay, 0, 1),
+    (b"delay -0", Helper::Delay, 0, 0),
+    (b"schedule_suspend a 5", Helper::ScheduleSuspend, 0, 5),
+    (
+        b"set_autosuspend_delay on -1000000",
+        Helper::SetAutosuspendDelay,
+        3,
+        -1_000_000,
+    ),
+    (
+        b"set_autosuspend_delay a -01000000",
+        Helper::SetAutosuspendDelay,
+        0,
+        -1_000_000,
+    ),
+    (
+        b"set_autosuspend_delay b 1000000",
+        Helper::SetAutosuspendDelay,
+        1,
+        1_000_000,
+    ),
+    (b"ignore_children on on", Helper::IgnoreChildren, 3, 1),
+    (b"ignore_children a off", Helper::IgnoreChildren, 0, 0),
+    (b"link_add b a", Helper::LinkAdd, 1, 0),
+    (b"link_add a b", Helper::LinkAdd, 0, 1),
+    (b"link_del on on", Helper::LinkDel, 3, 3),
+    (b"get delay", Helper::Get, 2, 0),
+    (b"request_autosuspend a", Helper::RequestAutosuspend, 0, 0),
+];
+
 #[test]
 fn commands_are_read(rt: HostRuntime) -> Result<(), Fail> {
     let plan = plan(rt.alloc())?;
-    let cases: [(&[u8], Command); 16] = [
-        (b"get_sync a", command(Helper::GetSync, 0, 0)),
-        (b"  enable   on  ", command(Helper::Enable, 3, 0)),
-        (b"delay 1000000", command(Helper::Delay, 0, 1_000_000)),
-        (b"delay 0000000001", command(Helper::Delay, 0, 1)),
-        (b"delay -0", command(Helper::Delay, 0, 0)),
-        (
-            b"schedule_suspend a 5",
-            command(Helper::ScheduleSuspend, 0, 5),
-        ),
-        (
-            b"set_autosuspend_delay on -1000000",
-            command(Helper::SetAutosuspendDelay, 3, -1_000_000),
-        ),
-        (
-            b"set_autosuspend_delay a -01000000",
-            command(Helper::SetAutosuspendDelay, 0, -1_000_000),
-        ),
-        (
-            b"set_autosuspend_delay b 1000000",
-            command(Helper::SetAutosuspendDelay, 1, 1_000_000),
-        ),
-        (
-            b"ignore_children on on",
-            command(Helper::IgnoreChildren, 3, 1),
-        ),
-        (
-            b"ignore_children a off",
-            command(Helper::IgnoreChildren, 0, 0),
-        ),
-        (b"link_add b a", command(Helper::LinkAdd, 1, 0)),
-        (b"link_add a b", command(Helper::LinkAdd, 0, 1)),
-        (b"link_del on on", command(Helper::LinkDel, 3, 3)),
-        (b"get delay", command(Helper::Get, 2, 0)),
-        (
-            b"request_autosuspend a",
-            command(Helper::RequestAutosuspend, 0, 0),
-        ),
-    ];
-    for (text, wanted) in cases {
-        assert_eq!(rt; read_command(text, &plan), Ok(wanted), "{text:?}");
-        assert_eq!(rt;
-            read_command_of(text, &plan.devices),
-            Ok(wanted),
-            "{text:?}"
-        );
+    for (text, helper, dev, number) in &READ {
+        let wanted = Ok(command(*helper, *dev, *number));
+        assert_eq!(rt; read_command(*text, &plan), wanted, "{text:?}");
+        assert_eq!(rt; read_command_of(*text, &plan.devices), wanted, "{text:?}");
     }
     Ok(())
 }
 
+static REFUSED: [(&[u8], ScriptFault); 33] = [
+    (b"", ScriptFault::Word),
+    (b"  ", ScriptFault::Word),
+    (b"nothing a", ScriptFault::Word),
+    (b"GET a", ScriptFault::Word),
+    (b"\tdelay 1", ScriptFault::Word),
+    (b"get\0 a", ScriptFault::Word),
+    (b"nothing", ScriptFault::Word),
+    (b"get", ScriptFault::Device),
+    (b"get ", ScriptFault::Device),
+    (b"get nowhere", ScriptFault::Device),
+    (b"get del", ScriptFault::Device),
+    (b"get aa b c", ScriptFault::Device),
+    (b"schedule_suspend nowhere x", ScriptFault::Device),
+    (b"link_add a", ScriptFault::Device),
+    (b"link_add a nowhere b", ScriptFault::Device),
+    (b"link_del nowhere a", ScriptFault::Device),
+    (b"delay", ScriptFault::Number),
+    (b"delay x", ScriptFault::Number),
+    (b"delay -1", ScriptFault::Number),
+    (b"delay 1000001 2", ScriptFault::Number),
+    (b"delay 01234567890", ScriptFault::Number),
+    (b"delay 00000000001", ScriptFault::Number),
+    (b"delay +1", ScriptFault::Number),
+    (b"delay 1\t", ScriptFault::Number),
+    (b"delay -", ScriptFault::Number),
+    (b"delay --1", ScriptFault::Number),
+    (b"set_autosuspend_delay a -1000001", ScriptFault::Number),
+    (b"schedule_suspend a -1", ScriptFault::Number),
+    (b"ignore_children a", ScriptFault::Number),
+    (b"ignore_children a ON", ScriptFault::Number),
+    (b"delay 1 2", ScriptFault::Extra),
+    (b"get_sync on on", ScriptFault::Extra),
+    (b"link_del a a 1", ScriptFault::Extra),
+];
+
 #[test]
 fn others_are_refused(rt: HostRuntime) -> Result<(), Fail> {
     let plan = plan(rt.alloc())?;
-    let cases: [(&[u8], ScriptFault); 33] = [
-        (b"", ScriptFault::Word),
-        (b"  ", ScriptFault::Word),
-        (b"nothing a", ScriptFault::Word),
-        (b"GET a", ScriptFault::Word),
-        (b"\tdelay 1", ScriptFault::Word),
-        (b"get\0 a", ScriptFault::Word),
-        (b"nothing", ScriptFault::Word),
-        (b"get", ScriptFault::Device),
-        (b"get ", ScriptFault::Device),
-        (b"get nowhere", ScriptFault::Device),
-        (b"get del", ScriptFault::Device),
-        (b"get aa b c", ScriptFault::Device),
-        (b"schedule_suspend nowhere x", ScriptFault::Device),
-        (b"link_add a", ScriptFault::Device),
-        (b"link_add a nowhere b", ScriptFault::Device),
-        (b"link_del nowhere a", ScriptFault::Device),
-        (b"delay", ScriptFault::Number),
-        (b"delay x", ScriptFault::Number),
-        (b"delay -1", ScriptFault::Number),
-        (b"delay 1000001 2", ScriptFault::Number),
-        (b"delay 01234567890", ScriptFault::Number),
-        (b"delay 00000000001", ScriptFault::Number),
-        (b"delay +1", ScriptFault::Number),
-        (b"delay 1\t", ScriptFault::Number),
-        (b"delay -", ScriptFault::Number),
-        (b"delay --1", ScriptFault::Number),
-        (b"set_autosuspend_delay a -1000001", ScriptFault::Number),
-        (b"schedule_suspend a -1", ScriptFault::Number),
-        (b"ignore_children a", ScriptFault::Number),
-        (b"ignore_children a ON", ScriptFault::Number),
-        (b"delay 1 2", ScriptFault::Extra),
-        (b"get_sync on on", ScriptFault::Extra),
-        (b"link_del a a 1", ScriptFault::Extra),
-    ];
-    for (text, fault) in cases {
-        assert_eq!(rt; read_command(text, &plan), Err(fault), "{text:?}");
+    for (text, fault) in &REFUSED {
+        assert_eq!(rt; read_command(*text, &plan), Err(*fault), "{text:?}");
     }
     Ok(())
 }
