@@ -22,7 +22,7 @@ lacks key members = is_none (get_member key members)
 
 -- whether a required key is missing
 abbrev pub lacks_key : Section → Members → Bool
-lacks_key Top members = false
+lacks_key Top _ = false
 lacks_key Link members = lacks (codes "consumer") members || lacks (codes "supplier") members
 lacks_key _ members = lacks (codes "name") members
 
