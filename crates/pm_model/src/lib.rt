@@ -21,6 +21,6 @@ pub use rows::{
 };
 pub use stage::{
     Await, ControlStage, Handed, HelperStage, IdleStage, Move, Purpose, ResumeCall, ResumeStage,
-    Stage, Stages, SuspendStage, Then,
+    Stage, StageRow, Stages, SuspendStage, Then,
 };
 pub use views::Device;

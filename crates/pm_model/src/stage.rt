@@ -3,6 +3,7 @@
 //! The names in brackets are those of the call table in `docs/CALL-TABLE.md`.
 
 ghost use Rattle.std.specs.Prelude.{◌≡◌, [], ◌∷◌};
+ghost use Rattle.pm_model.specs.StageRows.{stages_of};
 
 use crate::event::{Command, Event, Helper};
 use pm_base::DevId;
@@ -207,8 +208,9 @@ pub enum Stage {
     Await(Await),
 }
 
+/// No stage, one, or two of which the first writes next.
 #[derive(Clone, Copy)]
-enum StageRow {
+pub enum StageRow {
     Zero,
     One(Stage),
     Two(Stage, Stage),
@@ -261,6 +263,13 @@ impl Stages {
         Stages {
             row: StageRow::Two(called, under),
         }
+    }
+
+    /// The stages one by one.
+    pub fn row(self) -> StageRow
+        ensures { stages_of result ≡ self }
+    {
+        self.row
     }
 }
 
