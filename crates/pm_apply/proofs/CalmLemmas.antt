@@ -31,7 +31,7 @@ use Rattle.pm_model.specs.declared.stage.SuspendStage.{SuspendStage}
 use Rattle.pm_model.specs.declared.stage.SuspendStage.TheVariants as suspend
 use Rattle.pm_model.specs.declared.stage.Then.{Then}
 use Rattle.pm_model.specs.declared.views.Device.{Device}
-use Rattle.pm_model.specs.Changes.{callback_marks, cancel, cancel_all, disables, disarm, enables, has_auto_timer, rcancel, same, set_deferred, set_depth, set_last, set_present, set_setting}
+use Rattle.pm_model.specs.Changes.{callback_marks, cancel, cancel_all, disables, disarm, enables, has_auto_timer, rcancel, same, set_deferred, set_depth, set_present, set_setting}
 use Rattle.pm_model.specs.ControlTable.{barrier_idles, barrier_resumes, control_starts, disable_ends, disable_starts, disabled_at_once, disabling, enabling, link_adds, link_dels, schedules, sets}
 use Rattle.pm_model.specs.Derived.{begun, callback_code}
 use Rattle.pm_model.specs.Events.{held_from, is_try_again}
@@ -42,7 +42,7 @@ use Rattle.pm_model.specs.Row.{Row, writes, waits}
 use Rattle.pm_model.specs.SuspendTable.{suspend_ended, suspend_verdict}
 use Rattle.pm_model.specs.Views.{Views, device, fresh_device, with_device, with_pending}
 use Rattle.pm_apply.specs.Changing.{changed, changed_by, control_changed, idle_changed, resume_changed, suspend_changed}
-use Rattle.pm_apply.specs.Happening.{CanGive, CanGiveShare, CanHappen, CanTake, CanTakeShare, CanWrite}
+use Rattle.pm_apply.specs.Happening.{CanGiveShare, CanHappen, CanTakeShare, CanWrite}
 use Rattle.pm_apply.proofs.QuietLemmas.{IsQuiet, active_starts_quiet, allowing_quiet, control_changed_is, forbidding_quiet, helper_changed_is, idle_changed_is, resume_changed_is, suspend_changed_is, suspended_starts_quiet}
 
 -- the counts of a device that an event's condition reads
@@ -147,8 +147,8 @@ writes_calm : (v : Views) (e : Event) (changes : Views → Views) (next : Then) 
 writes_calm v e changes next calm = record { calm = calm }
 
 -- a line that changes nothing beside its event
-plain : (v : Views) (e : Event) (next : Then) → IsCalmRow v (writes e same next)
-plain v e next = record { calm = same_calm v }
+plain_calm : (v : Views) (e : Event) (next : Then) → IsCalmRow v (writes e same next)
+plain_calm v e next = record { calm = same_calm v }
 
 waits_calm : (v : Views) (d : DevId) → IsCalmRow v (waits d)
 waits_calm v d = record { calm = same_calm v }
@@ -159,7 +159,7 @@ quiet_calm v r is = record { calm = subst (λ w. IsCalm v w) (sym is.quiet) (sam
 -- idle
 idle_verdict_calm : (plan : Plan) (v : Views) (d : DevId) (f t : ℕ) → IsCalmRow v (idle_verdict plan v d f t)
 unfolding idle_verdict
-idle_verdict_calm plan v d f t = search (either_calm, plain, writes_calm, pending_calm) depth 9
+idle_verdict_calm plan v d f t = search (either_calm, plain_calm, writes_calm, pending_calm) depth 9
 
 idle_calm : (plan : Plan) (v : Views) (s : IdleStage) (t : ℕ) → IsCalm v (idle_changed plan v s t)
 idle_calm plan v (idle.Verdict d f) t = (idle_verdict_calm plan v d f t).calm
@@ -169,7 +169,7 @@ idle_calm plan v _ t = same_calm v
 -- suspend
 suspend_verdict_calm : (plan : Plan) (v : Views) (d : DevId) (f t : ℕ) → IsCalmRow v (suspend_verdict plan v d f t)
 unfolding suspend_verdict
-suspend_verdict_calm plan v d f t = search (either_calm, plain, writes_calm, pending_calm, disarm_calm, cancel_calm) depth 10
+suspend_verdict_calm plan v d f t = search (either_calm, plain_calm, writes_calm, pending_calm, disarm_calm, cancel_calm) depth 10
 
 suspend_calm : (plan : Plan) (v : Views) (s : SuspendStage) (t : ℕ) → IsCalm v (suspend_changed plan v s t)
 suspend_calm plan v (suspend.Verdict d f) t = (suspend_verdict_calm plan v d f t).calm
@@ -180,11 +180,11 @@ suspend_calm plan v _ t = same_calm v
 -- resume
 resume_verdict_calm : (plan : Plan) (v : Views) (r : ResumeCall) (tried : Bool) → IsCalmRow v (resume_verdict plan v r tried)
 unfolding resume_verdict
-resume_verdict_calm plan v r tried = search (either_calm, plain, writes_calm, rcancel_calm) depth 15
+resume_verdict_calm plan v r tried = search (either_calm, plain_calm, writes_calm, rcancel_calm) depth 15
 
 resume_ends_calm : (plan : Plan) (v : Views) (r : ResumeCall) → IsCalmRow v (resume_ends plan v r)
 unfolding resume_ends
-resume_ends_calm plan v r = either_calm v _ _ _ (plain v _ _) (writes_calm v _ _ _ (cancel_calm v r.dev))
+resume_ends_calm plan v r = either_calm v _ _ _ (plain_calm v _ _) (writes_calm v _ _ _ (cancel_calm v r.dev))
 
 resume_calm : (plan : Plan) (v : Views) (s : ResumeStage) → IsCalm v (resume_changed plan v s)
 resume_calm plan v (resume.Verdict r tried) = (resume_verdict_calm plan v r tried).calm
@@ -195,7 +195,7 @@ resume_calm plan v _ = same_calm v
 -- the control functions
 enabling_calm : (v : Views) (d : DevId) → IsCalmRow v (enabling v d)
 unfolding enabling
-enabling_calm v d = either_calm v _ _ _ (plain v _ _) (writes_calm v _ _ _ (enables_calm v d))
+enabling_calm v d = either_calm v _ _ _ (plain_calm v _ _) (writes_calm v _ _ _ (enables_calm v d))
 
 disabling_calm : (v : Views) (d : DevId) → IsCalmRow v (disabling v d)
 unfolding disabling
@@ -203,12 +203,12 @@ disabling_calm v d = search (either_calm, writes_calm, disables_calm v d, disabl
 
 disable_starts_calm : (v : Views) (d : DevId) → IsCalmRow v (disable_starts v d)
 unfolding disable_starts
-disable_starts_calm v d = either_calm v _ _ _ (plain v _ _) (disabling_calm v d)
+disable_starts_calm v d = either_calm v _ _ _ (plain_calm v _ _) (disabling_calm v d)
 
 disable_ends_calm : (v : Views) (d : DevId) → IsCalmRow v (disable_ends v d)
 unfolding disable_ends
 disable_ends_calm v d =
-    either_calm v _ _ _ (waits_calm v d) (either_calm v _ _ _ (writes_calm v _ _ _ (device_calm v d _ refl)) (plain v _ _))
+    either_calm v _ _ _ (waits_calm v d) (either_calm v _ _ _ (writes_calm v _ _ _ (device_calm v d _ refl)) (plain_calm v _ _))
 
 barrier_idles_calm : (v : Views) (d : DevId) (c : ℤ) → IsCalmRow v (barrier_idles v d c)
 unfolding barrier_idles
@@ -217,7 +217,7 @@ barrier_idles_calm v d c =
 
 barrier_resumes_calm : (plan : Plan) (v : Views) (d : DevId) → IsCalmRow v (barrier_resumes plan v d)
 unfolding barrier_resumes
-barrier_resumes_calm plan v d = either_calm v _ _ _ (plain v _ _) (barrier_idles_calm v d (pos 0))
+barrier_resumes_calm plan v d = either_calm v _ _ _ (plain_calm v _ _) (barrier_idles_calm v d (pos 0))
 
 sets_calm : (plan : Plan) (v : Views) (h : Helper) (d : DevId) (use_auto : Bool) (delay : ℤ) → IsCalmRow v (sets plan v h d use_auto delay)
 unfolding sets
@@ -227,15 +227,15 @@ sets_calm plan v h d use_auto delay =
 
 schedules_calm : (plan : Plan) (v : Views) (d : DevId) (ms t : ℕ) → IsCalmRow v (schedules plan v d ms t)
 unfolding schedules
-schedules_calm plan v d ms t = search (either_calm, plain, writes_calm, pending_calm)
+schedules_calm plan v d ms t = search (either_calm, plain_calm, writes_calm, pending_calm)
 
 link_adds_calm : (plan : Plan) (v : Views) (c s : DevId) → IsCalmRow v (link_adds plan v c s)
 unfolding link_adds
-link_adds_calm plan v c s = search (either_calm, plain, writes_calm, present_calm)
+link_adds_calm plan v c s = search (either_calm, plain_calm, writes_calm, present_calm)
 
 link_dels_calm : (plan : Plan) (v : Views) (c s : DevId) → IsCalmRow v (link_dels plan v c s)
 unfolding link_dels
-link_dels_calm plan v c s = search (either_calm, plain, writes_calm, present_calm)
+link_dels_calm plan v c s = search (either_calm, plain_calm, writes_calm, present_calm)
 
 control_starts_calm : (plan : Plan) (v : Views) (c : Command) (t : ℕ) → IsCalmRow v (control_starts plan v c t)
 unfolding control_starts
@@ -256,7 +256,7 @@ control_starts_calm plan v c t = go c.helper
     go helper.IgnoreChildren = writes_calm v _ _ _ (device_calm v c.dev _ refl)
     go helper.LinkAdd = link_adds_calm plan v c.dev _
     go helper.LinkDel = link_dels_calm plan v c.dev _
-    go _ = plain v _ _
+    go _ = plain_calm v _ _
 
 control_calm : (plan : Plan) (v : Views) (s : ControlStage) (t : ℕ) → IsCalm v (control_changed plan v s t)
 control_calm plan v (control.Start c) t = (control_starts_calm plan v c t).calm
