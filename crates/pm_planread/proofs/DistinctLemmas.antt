@@ -7,8 +7,8 @@ use Rattle.std.specs.List.{list_any, position_or_len}
 use Rattle.pm_model.specs.IsPlan.{are_distinct}
 use Rattle.pm_plantree.specs.Places.{first_fault}
 use Rattle.pm_plantree.specs.declared.place.Place.{Place}
-use Rattle.pm_planread.proofs.FaultLemmas.{none_at}
-use Rattle.pm_planread.specs.Names.{is_earlier}
+use Rattle.pm_planrows.proofs.FaultLemmas.{none_at}
+use Rattle.pm_planrows.specs.Names.{is_earlier}
 
 none_passes : {A : Type 0} (p : A → Bool) (xs : List A) → ((j : ℕ) (d : A) → j < length xs → p (get_or xs j d) ≡ false) → list_any p xs ≡ false
 none_passes p [] fails = refl

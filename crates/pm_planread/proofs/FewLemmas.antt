@@ -11,9 +11,9 @@ use Rattle.pm_plantree.specs.declared.place.Section.TheVariants.{Domain, Device,
 use Rattle.pm_plantree.specs.declared.raw.RawDevice.{RawDevice}
 use Rattle.pm_plantree.specs.declared.raw.RawCaller.{RawCaller}
 use Rattle.pm_plantree.specs.declared.raw.RawPlan.{RawPlan}
-use Rattle.pm_planread.proofs.FaultLemmas.{each_of, neither, none_at}
-use Rattle.pm_planread.specs.Few.{AreFew}
-use Rattle.pm_planread.specs.TooMany.{caller_too_many, device_too_many, has_many_codes, has_many_commands, item_too_many, past_limit, too_many_fault}
+use Rattle.pm_planrows.proofs.FaultLemmas.{each_of, neither, none_at}
+use Rattle.pm_planrows.specs.Few.{AreFew}
+use Rattle.pm_planrows.specs.TooMany.{caller_too_many, device_too_many, has_many_codes, has_many_commands, item_too_many, past_limit, too_many_fault}
 
 within_limit : (section : Section) (limit count : ℕ) → past_limit section limit count ≡ None → count ≤ limit
 within_limit section limit count none = grind (arith, nat_tests)

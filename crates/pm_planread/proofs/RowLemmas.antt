@@ -13,12 +13,12 @@ use Rattle.pm_plantree.specs.declared.raw.RawDomain.{RawDomain}
 use Rattle.pm_plantree.specs.declared.raw.RawDevice.{RawDevice}
 use Rattle.pm_plantree.specs.declared.raw.RawCaller.{RawCaller}
 use Rattle.pm_plantree.specs.declared.raw.RawPlan.{RawPlan}
-use Rattle.pm_planread.proofs.PositionLemmas.{place_below}
+use Rattle.pm_planrows.proofs.PositionLemmas.{place_below}
 use Rattle.pm_planread.proofs.RangeLemmas.{at_most, codes_are}
-use Rattle.pm_planread.specs.Names.{caller_names, device_names, domain_names}
+use Rattle.pm_planrows.specs.Names.{caller_names, device_names, domain_names}
 use Rattle.pm_planread.specs.Scripts.{caller_row, caller_rows}
-use Rattle.pm_planread.specs.Rows.{codes_of, device_of, device_row, device_rows, domain_of, domain_row, domain_rows, ms_of}
-use Rattle.pm_planread.specs.TooMany.{are_many_codes, has_many_codes}
+use Rattle.pm_planrows.specs.Rows.{codes_of, device_of, device_row, device_rows, domain_of, domain_row, domain_rows, ms_of}
+use Rattle.pm_planrows.specs.TooMany.{are_many_codes, has_many_codes}
 
 names_of_list : (domains devices : List (List ℕ)) (rows : List RawDevice) → map (λ row. row.name) (map (device_row domains devices) rows) ≡ map (λ row. row.name) rows
 unfolding device_row

@@ -11,7 +11,7 @@ use Rattle.pm_plantree.specs.declared.place.Place.{Place}
 use Rattle.pm_plantree.specs.declared.place.Section.TheVariants.{Caller}
 use Rattle.pm_plantree.specs.declared.raw.RawCaller.{RawCaller}
 use Rattle.pm_plantree.specs.declared.raw.RawPlan.{RawPlan}
-use Rattle.pm_planread.specs.Names.{device_names}
+use Rattle.pm_planrows.specs.Names.{device_names}
 use Rattle.pm_script.specs.Command.{command_of}
 
 abbrev pub is_no_command : List (List ℕ) → List ℕ → Bool
