@@ -1,5 +1,5 @@
 -- The pieces of a message are short.
-use Rattle.std.proofs.Common.{◌≡◌, ℕ, ◌<◌, ◌≤◌, ◌^◌, List, length, decimal, arith, lit<}
+use Rattle.std.proofs.Common.{ℕ, ◌<◌, ◌≤◌, ◌^◌, length, decimal, arith, lit<}
 use Rattle.std.proofs.lemmas.Fmt.{length-decimal-le}
 use Rattle.pm_plantree.specs.Keys.{section_key}
 use Rattle.pm_plantree.specs.declared.place.Section.{Section}

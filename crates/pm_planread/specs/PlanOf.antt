@@ -23,7 +23,7 @@ use Rattle.pm_planrows.specs.Rows.{device_rows, domain_rows, link_rows, natural_
 use Rattle.pm_planread.specs.Scripts.{caller_rows, script_fault}
 use Rattle.pm_planrows.specs.TooMany.{too_many_fault}
 use Rattle.pm_planread.specs.declared.refusal.PlanFault.{PlanFault}
-use Rattle.pm_planread.specs.declared.refusal.PlanFault.TheVariants.{Refused, NoMemory}
+use Rattle.pm_planread.specs.declared.refusal.PlanFault.TheVariants.{NoMemory}
 use Rattle.pm_planread.specs.declared.refusal.PlanWhy.TheVariants as why
 
 -- what stands in a plan

@@ -1,6 +1,6 @@
 -- The refusal `script`: a command that isn't one over the plan's devices (this project's own). The part is its place in the
 -- script.
-use Rattle.std.specs.Prelude.{ℕ, Bool, List, Option, Ok, is_err, map, option_map}
+use Rattle.std.specs.Prelude.{ℕ, Bool, List, Option, is_err, map, option_map}
 use Rattle.std.specs.List.{filter_map, list_all}
 use Rattle.std.specs.Result.{result_ok}
 use Rattle.pm_model.specs.IsPlan.{is_command}
