@@ -15,6 +15,8 @@ mod links;
 mod moves;
 mod readers;
 mod rows;
+#[cfg(test)]
+mod tests;
 
 pub use guards::{has, is_above_idle, is_try_again, may_not_wait, prevented};
 pub use moves::{back, calls, goes, ret, returning, returns, supplier_call, to_resume};
