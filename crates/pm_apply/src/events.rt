@@ -9,7 +9,7 @@ ghost use Rattle.pm_apply.specs.Happening.{ActsWithin, CanGive, CanHappen, CanTa
 ghost use Rattle.pm_device.specs.Fitting.{CanFree};
 ghost use Rattle.pm_device.specs.Parts.{IsFor};
 
-use pm_base::{Cb, DevId, Req, Status, Why};
+use pm_base::{Cb, DevId, Status, Why};
 use pm_device::{Parts, is_try_again};
 use pm_model::{Event, Plan, TimerAct, Word, WorkAct};
 

@@ -11,7 +11,7 @@ ghost use Rattle.pm_apply.specs.Changing.{changed_by, resume_changed};
 ghost use Rattle.pm_apply.specs.Fits.{ResumeFits};
 ghost use Rattle.pm_device.specs.Parts.{IsFor};
 
-use pm_base::{ASYNC, Cb, DevId};
+use pm_base::{ASYNC, Cb};
 use pm_device::{Parts, has, has_parent};
 use pm_model::{Plan, ResumeCall, ResumeStage};
 

@@ -1,6 +1,6 @@
 //! The single changes of the views of a device (`runtime_pm.rst`, section 3).
 
-ghost use Rattle.std.specs.Prelude.{◌≡◌, ◌+◌, ◌-◌, ◌<◌, ◌≤◌, ◌≤ℤ◌, ◌^◌, Bool, true, false, ℤ, pos, neg_ℤ, length};
+ghost use Rattle.std.specs.Prelude.{◌≡◌, ◌+◌, ◌-◌, ◌<◌, ◌≤◌, ◌≤ℤ◌, ◌^◌, true, false, ℤ, pos, neg_ℤ, length};
 ghost use Rattle.pm_base.specs.declared.limits.TheConstants.{MAX_MS};
 ghost use Rattle.pm_base.specs.declared.Req.TheVariants.{Nothing};
 ghost use Rattle.pm_base.specs.declared.Cb.TheVariants.{Idle};
@@ -8,7 +8,7 @@ ghost use Rattle.pm_model.specs.declared.event.TimerAct.TheVariants.{Arm};
 ghost use Rattle.pm_model.specs.Changes.{cancel, cancel_all, disables, disarm, enables, rcancel, set_deferred, set_depth, set_ignores, set_last, set_last_busy, set_queued, set_request, set_setting};
 ghost use Rattle.pm_model.specs.Derived.{begun};
 ghost use Rattle.pm_model.specs.Events.{by_begin, by_end, by_timer, set_auto, set_error, set_share, set_status, set_usage};
-ghost use Rattle.pm_model.specs.Views.{device, with_timer};
+ghost use Rattle.pm_model.specs.Views.{device};
 
 use crate::Parts;
 use pm_base::{Cb, DevId, Req, Status};

@@ -1,7 +1,7 @@
 //! The power domains of a device among the counters (this project's own, after the kernel's generic
 //! power domains).
 
-ghost use Rattle.std.specs.Prelude.{◌≡◌, ◌<◌, false, length, true};
+ghost use Rattle.std.specs.Prelude.{◌≡◌, false, length, true};
 ghost use Rattle.pm_model.specs.Derived.{down, up};
 ghost use Rattle.pm_model.specs.Events.{switches};
 ghost use Rattle.pm_device.specs.Parts.{IsFor};

@@ -1,10 +1,10 @@
 //! The counters before any line.
 
-ghost use Rattle.std.specs.Prelude.{◌≡◌, IfOk, false, length, map, replicate};
+ghost use Rattle.std.specs.Prelude.{◌≡◌, IfOk, false, map, replicate};
 ghost use Rattle.pm_model.specs.Views.{fresh_device};
 ghost use Rattle.pm_model.specs.World.{start_views};
 ghost use Rattle.pm_device.specs.Children.{counts};
-ghost use Rattle.pm_device.specs.Parts.{IsFor, is_quiet};
+ghost use Rattle.pm_device.specs.Parts.{IsFor};
 
 use crate::Parts;
 use pm_base::{DevId, NoMemory, Status};

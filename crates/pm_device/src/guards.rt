@@ -1,10 +1,9 @@
 //! The tests of the call table, each by its name there (`runtime_pm.rst`, sections 2, 4 and 9).
 
-ghost use Rattle.std.specs.Prelude.{◌≡◌, ◌+◌, ◌<◌, ◌&&◌, ◌||◌, ◌^◌, ℕ, IfSome, int_lt, length, not, option_map, pos};
+ghost use Rattle.std.specs.Prelude.{◌≡◌, ◌<◌, ◌&&◌, ◌||◌, length, not};
 ghost use Rattle.pm_base.specs.declared.codes.TheConstants.{ASYNC, AUTO, NOWAIT};
-ghost use Rattle.pm_link.specs.Links.{with_supplier};
 ghost use Rattle.pm_model.specs.ControlTable.{may_not_force};
-ghost use Rattle.pm_model.specs.Derived.{asks_resume, awaits_parent, begun, callback_code, expiry, first_free, first_held, has, has_children, has_error, has_link, is_active, is_ahead, is_disabled, is_in_use, is_resuming, is_suspended, is_suspending, minds_parent, next_supplier, prevented, refusal};
+ghost use Rattle.pm_model.specs.Derived.{asks_resume, awaits_parent, begun, callback_code, expiry, has, has_children, has_error, is_active, is_ahead, is_disabled, is_in_use, is_resuming, is_suspended, is_suspending, minds_parent, prevented, refusal};
 ghost use Rattle.pm_model.specs.Events.{is_try_again};
 ghost use Rattle.pm_model.specs.IdleTable.{is_above_idle};
 ghost use Rattle.pm_model.specs.SuspendTable.{autosuspend_at, may_not_wait, tells_parent};

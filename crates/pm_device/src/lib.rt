@@ -2,10 +2,10 @@
 //! its lines (`runtime_pm.rst`, section 3).
 #![tactic(auto)]
 
-ghost use Rattle.std.specs.Prelude.{◌≡◌, ◌<◌, ◌+◌, ◌^◌, true, length, slice_set, IfOk};
+ghost use Rattle.std.specs.Prelude.{◌≡◌, ◌<◌, ◌+◌, ◌^◌, true, length, slice_set};
 ghost use Rattle.pm_model.specs.Views.{device, with_device};
 ghost use Rattle.pm_device.specs.Children.{child_count_at, counts, device_at, parent_at, recounted};
-ghost use Rattle.pm_device.specs.Parts.{Counters, IsFor, IsInTime, is_quiet};
+ghost use Rattle.pm_device.specs.Parts.{Counters, IsInTime, is_quiet};
 
 mod changes;
 mod domains;
@@ -15,20 +15,21 @@ mod links;
 mod moves;
 mod readers;
 mod rows;
+#[cfg(test)]
+mod tests;
 
 pub use guards::{has, is_above_idle, is_try_again, may_not_wait, prevented};
 pub use moves::{back, calls, goes, ret, returning, returns, supplier_call, to_resume};
-use pm_base::{DevId, NoMemory, Status};
+use pm_base::{DevId, Status};
 use pm_domain::Domains;
 use pm_link::Links;
-use pm_model::{Device, Plan};
+use pm_model::Device;
 use pm_request::Requests;
 use pm_timer::Timers;
 pub use rows::{
     added, code_of, domain, has_domain, has_idle, has_parent, marks_busy, ms_of, no_callbacks,
     parent, parent_of, removed,
 };
-use std::alloc::Global;
 use std::marker::Model;
 
 /// The counters of all devices, links and domains. Contracts see the views that they keep, and what

@@ -1,15 +1,14 @@
 //! What the counters tell.
 
-ghost use Rattle.std.specs.Prelude.{◌≡◌, ◌<◌, ◌^◌, length};
+ghost use Rattle.std.specs.Prelude.{◌≡◌, ◌<◌, length};
 ghost use Rattle.pm_model.specs.declared.plan.Plan.{Plan as APlan};
 ghost use Rattle.pm_model.specs.Changes.{has_auto_timer};
-ghost use Rattle.pm_model.specs.Derived.{asks_resume, begun, busy, children, expiry, fields, has_error, is_active, is_disabled, is_in_use, is_moving, is_resuming, is_suspended, is_suspending};
+ghost use Rattle.pm_model.specs.Derived.{busy, children, expiry, fields, is_active, is_moving};
 ghost use Rattle.pm_model.specs.Views.{device, pending_of, timer};
-ghost use Rattle.pm_device.specs.Children.{children_of};
 ghost use Rattle.pm_device.specs.Parts.{IsFor, IsInTime};
 
 use crate::Parts;
-use pm_base::{Armed, Cb, DevId, Pending, Req, Status};
+use pm_base::{Armed, DevId, Pending, Status};
 use pm_model::{Device, Fields};
 
 impl Parts {

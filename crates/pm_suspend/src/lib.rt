@@ -1,11 +1,9 @@
 //! The lines of suspend (`runtime_pm.rst`, sections 2, 4 and 9).
 #![tactic(auto)]
 
-ghost use Rattle.std.specs.Prelude.{◌≡◌, ◌+◌, ◌<◌, ◌∷◌, ◌^◌, [], length};
+ghost use Rattle.std.specs.Prelude.{◌≡◌, ◌+◌, ◌<◌, ◌^◌, length};
 ghost use Rattle.pm_base.specs.declared.Cb.TheVariants as cb;
 ghost use Rattle.pm_model.specs.declared.event.Event.TheVariants as event;
-ghost use Rattle.pm_model.specs.declared.plan.Plan.{Plan as APlan};
-ghost use Rattle.pm_model.specs.declared.stage.Await.TheVariants as await;
 ghost use Rattle.pm_model.specs.declared.stage.Move.TheVariants as move;
 ghost use Rattle.pm_model.specs.declared.stage.Purpose.TheVariants.{Plain};
 ghost use Rattle.pm_model.specs.declared.stage.Stage.TheVariants as the_stage;
