@@ -1,0 +1,13 @@
+//! Where a run of a plan stands: the counters, the open stages of each actor, and how far each script
+//! is (this project's own).
+#![tactic(auto)]
+
+mod acting;
+mod going;
+mod moves;
+mod state;
+mod tests_of_events;
+mod tests_of_stages;
+
+pub use acting::Turn;
+pub use state::State;
