@@ -1,6 +1,5 @@
 -- The stages at which no row changes anything beside its event.
 use Rattle.std.proofs.Common.{ℕ, ◌≡◌, Bool, true, false, ◌&&◌, List, [], ◌∷◌, Option, Some, None, ℤ, pos, if◌then◌else◌, refl}
-use Rattle.std.specs.Ordering.{int_eq}
 use Rattle.pm_base.specs.declared.DevId.{DevId}
 use Rattle.pm_model.specs.declared.event.Command.{Command}
 use Rattle.pm_base.specs.declared.Why.TheVariants as why

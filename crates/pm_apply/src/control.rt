@@ -1,11 +1,10 @@
 //! What the rows of the control functions change beside their events (`runtime_pm.rst`, sections 4, 5
 //! and 9; the topology helpers are this project's own).
 
-ghost use Rattle.std.specs.Prelude.{◌≡◌, ◌+◌, ◌<◌, ◌&&◌, ◌^◌, length, nat_abs, not, true};
+ghost use Rattle.std.specs.Prelude.{◌≡◌, ◌+◌, ◌<◌, ◌^◌, length, true};
 ghost use Rattle.pm_model.specs.declared.event.Helper.TheVariants as helper;
 ghost use Rattle.pm_model.specs.Changes.{set_setting};
 ghost use Rattle.pm_model.specs.ControlTable.{barrier_idles, barrier_resumes, control_starts, disable_ends, disable_starts, disabling, enabling, link_adds, link_dels, schedules};
-ghost use Rattle.pm_model.specs.Derived.{asks_resume, is_disabled};
 ghost use Rattle.pm_model.specs.IsPlan.{is_command};
 ghost use Rattle.pm_model.specs.Views.{device};
 ghost use Rattle.pm_apply.specs.Changing.{changed_by, control_changed};
@@ -13,7 +12,7 @@ ghost use Rattle.pm_apply.specs.Fits.{ControlFits};
 ghost use Rattle.pm_device.specs.Parts.{IsFor};
 
 use pm_base::DevId;
-use pm_device::Parts;
+use pm_device::{Parts, added, removed};
 use pm_model::{Command, ControlStage, Helper, Plan};
 
 // `enable`.
@@ -47,14 +46,6 @@ pub fn disabling(parts: &mut Parts, dev: DevId)
     }
 }
 
-// A pending resume is carried out first.
-fn resumes_first(parts: &Parts, dev: DevId) -> bool
-    requires { dev.0 < length parts.now.shape.parents }
-    ensures { result ≡ (not (is_disabled parts.now.views dev) && asks_resume parts.now.views dev) }
-{
-    !parts.is_disabled(dev) && parts.asks_resume(dev)
-}
-
 // [X1]
 #[tactic(auto, unfolding(pm_model::specs::ControlTable::disable_starts))]
 fn disable_starts(parts: &mut Parts, dev: DevId)
@@ -62,7 +53,7 @@ fn disable_starts(parts: &mut Parts, dev: DevId)
     requires fits { (device parts.old.views dev).depth + 1 < 2 ^ 32 }
     ensures { parts.new ≡ record parts.old { views = changed_by (disable_starts parts.old.views dev) parts.old.views } }
 {
-    if !resumes_first(parts, dev) {
+    if !parts.resumes_first(dev) {
         disabling(parts, dev);
     }
 }
@@ -144,24 +135,6 @@ fn link_dels(parts: &mut Parts, plan: &Plan, consumer: DevId, supplier: DevId)
         return;
     }
     parts.set_present(plan, consumer, supplier, false);
-}
-
-// The supplier that `link_add` names.
-fn added(plan: &Plan, command: Command) -> DevId
-    requires command { is_command (length plan.now.devices) command ≡ true }
-    requires helper { command.helper ≡ helper.LinkAdd }
-    ensures { result ≡ record { 0 = nat_abs command.number } }
-{
-    DevId(command.number.unsigned_abs() as u32)
-}
-
-// The supplier that `link_del` names.
-fn removed(plan: &Plan, command: Command) -> DevId
-    requires command { is_command (length plan.now.devices) command ≡ true }
-    requires helper { command.helper ≡ helper.LinkDel }
-    ensures { result ≡ record { 0 = nat_abs command.number } }
-{
-    DevId(command.number.unsigned_abs() as u32)
 }
 
 // `use_autosuspend` and `dont_use_autosuspend`.

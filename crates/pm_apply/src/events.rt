@@ -3,22 +3,15 @@
 
 ghost use Rattle.std.specs.Prelude.{◌≡◌, ◌+◌, ◌-◌, ◌<◌, ◌^◌, length};
 ghost use Rattle.pm_model.specs.declared.event.Word.TheVariants.{ForcedSuspended};
-ghost use Rattle.pm_model.specs.Events.{by_end, by_event, by_timer, by_word, by_work, gave, got, is_try_again, set_usage, suspend_failed};
+ghost use Rattle.pm_model.specs.Events.{by_end, by_event, by_timer, by_word, by_work, gave, got, set_usage, suspend_failed};
 ghost use Rattle.pm_model.specs.Views.{device};
 ghost use Rattle.pm_apply.specs.Happening.{ActsWithin, CanGive, CanHappen, CanTake, CanWrite};
 ghost use Rattle.pm_device.specs.Fitting.{CanFree};
 ghost use Rattle.pm_device.specs.Parts.{IsFor};
 
-use pm_base::{Cb, DevId, EAGAIN, EBUSY, Req, Status, Why};
-use pm_device::Parts;
+use pm_base::{Cb, DevId, Req, Status, Why};
+use pm_device::{Parts, is_try_again};
 use pm_model::{Event, Plan, TimerAct, Word, WorkAct};
-
-/// Whether a suspend callback that answers this code leaves its device active without an error.
-pub fn is_try_again(code: i32) -> bool
-    ensures { result ≡ is_try_again code }
-{
-    code == EAGAIN || code == EBUSY
-}
 
 // A count was taken for this reason.
 fn get(parts: &mut Parts, plan: &Plan, dev: DevId, why: Why)

@@ -2,21 +2,14 @@
 
 ghost use Rattle.std.specs.Prelude.{◌≡◌, ◌<◌, ◌^◌, ℕ, length};
 ghost use Rattle.pm_model.specs.Changes.{callback_marks};
-ghost use Rattle.pm_model.specs.IdleTable.{idle_verdict, is_above_idle};
+ghost use Rattle.pm_model.specs.IdleTable.{idle_verdict};
 ghost use Rattle.pm_apply.specs.Changing.{changed_by, idle_changed};
 ghost use Rattle.pm_apply.specs.Fits.{IdleFits};
 ghost use Rattle.pm_device.specs.Parts.{IsFor};
 
-use pm_base::{ASYNC, DevId, Req};
-use pm_device::{Parts, has, has_idle, marks_busy};
+use pm_base::{ASYNC, DevId};
+use pm_device::{Parts, has, has_idle, is_above_idle, marks_busy};
 use pm_model::{IdleStage, Plan};
-
-// Whether a request is for more than an idle: to suspend or to resume.
-fn is_above_idle(req: Req) -> bool
-    ensures { result ≡ is_above_idle req }
-{
-    !matches!(req, Req::Nothing | Req::Idle)
-}
 
 /// [I1]
 #[tactic(auto, unfolding(pm_model::specs::IdleTable::idle_verdict))]

@@ -38,11 +38,14 @@ fn changes(parts: &mut Parts, plan: &Plan, stage: Stage, time: u64)
 
 /// What the row of the call table at a stage makes of the counters, with its line: first what the row
 /// changes by name, and then what the line's event changes of itself. It takes no memory.
+///
+/// That the event can happen is asked of the counters as they stand before the line: what a row changes
+/// by name leaves each device's usage, share and begun callbacks, and the held links, as they are.
 pub fn apply(parts: &mut Parts, plan: &Plan, stage: Stage, line: &Line)
     requires made_for { IsFor plan.now parts.old.shape }
     requires changes { CanChange plan.now parts.old.views stage }
     requires in_range { ActsWithin (length parts.old.shape.parents) line.now.event }
-    requires happens { CanHappen plan.now (changed plan.now parts.old.views stage line.now.time) line.now.event }
+    requires happens { CanHappen plan.now parts.old.views line.now.event }
     requires in_time { line.now.time < 2 ^ 63 }
     ensures { parts.new ≡ record parts.old { views = by_event plan.now line.now.time line.now.event (changed plan.now parts.old.views stage line.now.time) } }
 {

@@ -3,18 +3,16 @@
 ghost use Rattle.std.specs.Prelude.{◌≡◌, ◌<◌, ◌&&◌, ◌^◌, length, not};
 ghost use Rattle.pm_base.specs.declared.Cb.TheVariants as cb;
 ghost use Rattle.pm_model.specs.declared.stage.SuspendStage.TheVariants as suspend;
-ghost use Rattle.pm_base.specs.declared.codes.TheConstants.{ASYNC, AUTO};
-ghost use Rattle.pm_model.specs.Derived.{begun, callback_code, expiry, has, is_ahead, is_resuming, is_suspending};
-ghost use Rattle.pm_model.specs.Events.{is_try_again};
+ghost use Rattle.pm_base.specs.declared.codes.TheConstants.{ASYNC};
+ghost use Rattle.pm_model.specs.Derived.{begun, callback_code, has, is_resuming};
 ghost use Rattle.pm_model.specs.SuspendTable.{suspend_ended, suspend_row, suspend_verdict};
 ghost use Rattle.pm_apply.specs.Changing.{changed_by, suspend_changed};
 ghost use Rattle.pm_apply.specs.Fits.{SuspendFits};
 ghost use Rattle.pm_device.specs.Parts.{IsFor};
 
-use crate::events::is_try_again;
 use crate::idle::callback_marks;
-use pm_base::{ASYNC, AUTO, Cb, DevId};
-use pm_device::{Parts, has, no_callbacks};
+use pm_base::{ASYNC, Cb, DevId};
+use pm_device::{Parts, has, is_try_again, no_callbacks};
 use pm_model::{Plan, SuspendStage};
 
 // A resume is under way, and the suspend waits for its end.
@@ -23,14 +21,6 @@ fn is_resumed(parts: &Parts, dev: DevId, flags: u8) -> bool
     ensures { result ≡ (is_resuming parts.now.views dev && not (has flags ASYNC)) }
 {
     parts.is_resuming(dev) && !has(flags, ASYNC)
-}
-
-// An autosuspend isn't due yet.
-fn is_early(parts: &Parts, dev: DevId, flags: u8, time: u64) -> bool
-    requires { dev.0 < length parts.now.shape.parents }
-    ensures { result ≡ (has flags AUTO && not (is_suspending parts.now.views dev) && is_ahead (expiry parts.now.views dev) time) }
-{
-    has(flags, AUTO) && !parts.is_suspending(dev) && parts.is_ahead(dev, time)
 }
 
 /// [S1]
@@ -43,7 +33,7 @@ pub fn verdict(parts: &mut Parts, plan: &Plan, dev: DevId, flags: u8, time: u64)
     if parts.refusal(plan, dev) != 0 || is_resumed(parts, dev, flags) {
         return;
     }
-    if is_early(parts, dev, flags, time) {
+    if parts.is_early(dev, flags, time) {
         parts.cancel_request(dev);
         return;
     }

@@ -3,17 +3,13 @@
 
 ghost use Rattle.std.specs.Prelude.{◌≡◌, ◌<◌, length};
 ghost use Rattle.pm_model.specs.ControlTable.{active_links, active_starts, active_unwinds, forces_active, suppliers_idle, suspended_starts};
-ghost use Rattle.pm_model.specs.ResumeTable.{resumes_supplier};
 ghost use Rattle.pm_model.specs.Row.{move_of};
 ghost use Rattle.pm_device.specs.Parts.{IsFor};
 
-use crate::{gives, goes_on, returning, takes, writes_status};
+use crate::{gives, goes_on, takes, writes_status};
 use pm_base::{DevId, EAGAIN, EBUSY, Why};
-use pm_device::{Parts, calls, parent_of, ret};
-use pm_model::{
-    Await, ControlStage, Helper, IdleStage, Move, Plan, Purpose, ResumeCall, ResumeStage, Stage,
-    Word,
-};
+use pm_device::{Parts, calls, parent_of, ret, returning, supplier_call};
+use pm_model::{Await, ControlStage, Helper, IdleStage, Move, Plan, Stage, Word};
 
 // The device becomes Active.
 fn forces_active(dev: DevId) -> Move
@@ -77,20 +73,6 @@ pub fn active_unwinds(plan: &Plan, parts: &Parts, dev: DevId, code: i32) -> Move
             returning(Helper::SetActive, dev, code),
         ),
     }
-}
-
-// A resume of a supplier for a link.
-fn supplier_call(link: u32, supplier: DevId) -> Stage
-    ensures { result ≡ resumes_supplier (link, supplier) }
-{
-    Stage::Resume(ResumeStage::Enter {
-        call: ResumeCall {
-            dev: supplier,
-            flags: 4,
-            held: false,
-            purpose: Purpose::Link(link),
-        },
-    })
 }
 
 /// [A2]

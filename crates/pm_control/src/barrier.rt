@@ -5,9 +5,9 @@ ghost use Rattle.pm_model.specs.ControlTable.{barrier_ends, barrier_idles, barri
 ghost use Rattle.pm_model.specs.Row.{move_of};
 ghost use Rattle.pm_device.specs.Parts.{IsFor};
 
-use crate::{gives, goes_on, returning};
+use crate::{gives, goes_on};
 use pm_base::{DevId, Why};
-use pm_device::Parts;
+use pm_device::{Parts, returning};
 use pm_model::{Await, ControlStage, Event, Helper, Move, Plan, Purpose};
 
 /// Once no resume is pending.

@@ -1,13 +1,12 @@
 //! `enable` and `disable` (`runtime_pm.rst`, sections 4 and 5).
 
-ghost use Rattle.std.specs.Prelude.{◌≡◌, ◌<◌, ◌&&◌, length, not};
+ghost use Rattle.std.specs.Prelude.{◌≡◌, ◌<◌, length};
 ghost use Rattle.pm_model.specs.ControlTable.{disable_ends, disable_starts, disabling, enabling};
-ghost use Rattle.pm_model.specs.Derived.{asks_resume, is_disabled};
 ghost use Rattle.pm_model.specs.Row.{move_of};
 
-use crate::{goes_on, takes, to_resume};
+use crate::{goes_on, takes};
 use pm_base::{DevId, EINVAL, Why};
-use pm_device::{Parts, calls, ret};
+use pm_device::{Parts, calls, ret, to_resume};
 use pm_model::{Await, ControlStage, Event, Helper, Move};
 
 /// `enable`.
@@ -38,21 +37,13 @@ pub fn disabling(parts: &Parts, dev: DevId) -> Move
     ret(Helper::Disable, dev, 0)
 }
 
-// A pending resume is carried out first.
-fn resumes_first(parts: &Parts, dev: DevId) -> bool
-    requires { dev.0 < length parts.now.shape.parents }
-    ensures { result ≡ (not (is_disabled parts.now.views dev) && asks_resume parts.now.views dev) }
-{
-    !parts.is_disabled(dev) && parts.asks_resume(dev)
-}
-
 /// [X1]
 #[tactic(auto, unfolding(pm_model::specs::ControlTable::disable_starts))]
 pub fn disable_starts(parts: &Parts, dev: DevId) -> Move
     requires { dev.0 < length parts.now.shape.parents }
     ensures { result ≡ move_of (disable_starts parts.now.views dev) }
 {
-    if resumes_first(parts, dev) {
+    if parts.resumes_first(dev) {
         let then = calls(to_resume(dev, 0), Await::DisableResume { dev });
         return takes(dev, Why::Control, then);
     }

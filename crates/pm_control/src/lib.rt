@@ -9,7 +9,6 @@ ghost use Rattle.pm_model.specs.declared.event.Helper.TheVariants as helper;
 ghost use Rattle.pm_model.specs.declared.stage.Move.TheVariants as move;
 ghost use Rattle.pm_model.specs.declared.stage.Stage.TheVariants as the_stage;
 ghost use Rattle.pm_model.specs.ControlTable.{control_row, control_starts, goes_on};
-ghost use Rattle.pm_model.specs.HelperTable.{returning, to_resume};
 ghost use Rattle.pm_model.specs.IsPlan.{is_command};
 ghost use Rattle.pm_model.specs.Row.{move_of, timed};
 ghost use Rattle.pm_model.specs.World.{due};
@@ -23,38 +22,14 @@ mod setting;
 mod topology;
 
 use pm_base::{DevId, Why};
-use pm_device::{Parts, goes, ret};
-use pm_model::{
-    Command, ControlStage, Event, Helper, HelperStage, Move, Plan, Purpose, ResumeCall,
-    ResumeStage, Stage, Then, Word,
-};
+use pm_device::{Parts, added, goes, removed, ret};
+use pm_model::{Command, ControlStage, Event, Helper, Move, Plan, Stage, Then, Word};
 
 // A stage of a control function takes the place.
 fn goes_on(stage: ControlStage) -> Then
     ensures { result ≡ goes_on stage }
 {
     goes(Stage::Control(stage))
-}
-
-// The return line comes next.
-fn returning(helper: Helper, dev: DevId, code: i32) -> Then
-    ensures { result ≡ returning helper dev code }
-{
-    goes(Stage::Helper(HelperStage::Ret { helper, dev, code }))
-}
-
-// The first stage of a resume for the device itself.
-fn to_resume(dev: DevId, flags: u8) -> Stage
-    ensures { result ≡ to_resume dev flags }
-{
-    Stage::Resume(ResumeStage::Enter {
-        call: ResumeCall {
-            dev,
-            flags,
-            held: false,
-            purpose: Purpose::Plain,
-        },
-    })
 }
 
 // A count is taken for this reason.
@@ -76,24 +51,6 @@ fn writes_status(dev: DevId, word: Word, then: Then) -> Move
     ensures { result ≡ move.Write (event.State dev word) then }
 {
     Move::Write(Event::State { dev, word }, then)
-}
-
-// The supplier that `link_add` names.
-fn added(plan: &Plan, command: Command) -> DevId
-    requires command { is_command (length plan.now.devices) command ≡ true }
-    requires helper { command.helper ≡ helper.LinkAdd }
-    ensures { result ≡ record { 0 = nat_abs command.number } }
-{
-    DevId(command.number.unsigned_abs() as u32)
-}
-
-// The supplier that `link_del` names.
-fn removed(plan: &Plan, command: Command) -> DevId
-    requires command { is_command (length plan.now.devices) command ≡ true }
-    requires helper { command.helper ≡ helper.LinkDel }
-    ensures { result ≡ record { 0 = nat_abs command.number } }
-{
-    DevId(command.number.unsigned_abs() as u32)
 }
 
 // The milliseconds of `schedule_suspend`.

@@ -7,9 +7,9 @@ ghost use Rattle.pm_model.specs.ControlTable.{allowing, forbidding, schedules, s
 ghost use Rattle.pm_model.specs.Row.{move_of};
 ghost use Rattle.pm_device.specs.Parts.{IsFor};
 
-use crate::{gives, returning, takes, to_resume};
+use crate::{gives, takes};
 use pm_base::{DevId, Why};
-use pm_device::{Parts, calls, prevented, ret};
+use pm_device::{Parts, calls, prevented, ret, returning, to_resume};
 use pm_model::{Await, Event, Helper, IdleStage, Move, Plan, Stage, TimerAct};
 
 /// `forbid`.

@@ -1,7 +1,6 @@
 -- The counters before any line.
-use Rattle.std.proofs.Common.{ℕ, zero, suc, ◌≡◌, ◌+◌, ◌<◌, ◌≤◌, Bool, true, false, ◌&&◌, List, [], ◌∷◌, Option, Some, None, IfSome, All, length, map, not, replicate, slice_get, slice_index_or, nat_eq, nat_lt, cond, ap, refl, sym, ◌∙◌, subst, arith}
-use Rattle.std.specs.List.{count_by, sum_by, zip}
-use Rattle.std.specs.Option.{option_map_or}
+use Rattle.std.proofs.Common.{ℕ, zero, suc, ◌≡◌, ◌+◌, ◌<◌, ◌≤◌, Bool, true, false, ◌&&◌, List, [], ◌∷◌, Option, Some, None, IfSome, All, length, map, not, replicate, slice_index_or, nat_eq, cond, ap, refl, sym, ◌∙◌, subst, arith}
+use Rattle.std.specs.List.{zip}
 use Rattle.std.proofs.lemmas.Bool.{and_parts}
 use Rattle.std.proofs.lemmas.Grind.{common_steps}
 use Rattle.std.proofs.lemmas.List.{length-map, length-replicate, get_or-replicate}
@@ -21,7 +20,7 @@ use Rattle.pm_model.specs.IsPlan.{each_at, is_device, is_plan}
 use Rattle.pm_model.specs.Views.{Views, fresh_device, fresh_pending}
 use Rattle.pm_model.specs.World.{start_views}
 use Rattle.pm_domain.specs.Domains.{fresh_on}
-use Rattle.pm_device.specs.Children.{children_of, child_count_at, counts, is_child, parent_at}
+use Rattle.pm_device.specs.Children.{children_of, is_child, parent_at}
 use Rattle.pm_device.specs.Parts.{IsInTime, IsKept, is_quiet}
 use Rattle.pm_device.proofs.PlanLemmas.{devices_law, row_parent_earlier}
 

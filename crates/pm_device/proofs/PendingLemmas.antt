@@ -1,5 +1,5 @@
 -- Two changes of what is pending for one device, made as one.
-use Rattle.std.proofs.Common.{◌≡◌, ◌<◌, Bool, List, length, slice_set, slice_index_or, ap, refl, ◌∙◌}
+use Rattle.std.proofs.Common.{◌≡◌, ◌<◌, Bool, length, slice_set, slice_index_or, ap, ◌∙◌}
 use Rattle.std.proofs.lemmas.List.{get_or-set_same, set-set}
 use Rattle.pm_base.specs.declared.DevId.{DevId}
 use Rattle.pm_base.specs.declared.Pending.{Pending}

@@ -1,6 +1,6 @@
 -- The counters of all devices, links and domains: what they are made for, and the views that they keep (runtime_pm.rst,
 -- section 3; device_link.rst).
-use Rattle.std.specs.Prelude.{◌≡◌, ◌<◌, ◌≤◌, ◌^◌, ℕ, Bool, ◌&&◌, List, Option, All, IfSome, ℤ, length, map, nat_eq, pos, neg_ℤ, ◌≤ℤ◌}
+use Rattle.std.specs.Prelude.{◌≡◌, ◌<◌, ◌≤◌, ◌^◌, ℕ, Bool, ◌&&◌, List, Option, All, IfSome, length, map, nat_eq, pos, neg_ℤ, ◌≤ℤ◌}
 use Rattle.pm_base.specs.declared.DevId.{DevId}
 use Rattle.pm_base.specs.declared.Armed.{Armed}
 use Rattle.pm_base.specs.declared.Pending.{Pending}

@@ -1,17 +1,19 @@
 //! The tests of the call table, each by its name there (`runtime_pm.rst`, sections 2, 4 and 9).
 
 ghost use Rattle.std.specs.Prelude.{◌≡◌, ◌+◌, ◌<◌, ◌&&◌, ◌||◌, ◌^◌, ℕ, IfSome, int_lt, length, not, option_map, pos};
-ghost use Rattle.pm_base.specs.declared.codes.TheConstants.{ASYNC, NOWAIT};
+ghost use Rattle.pm_base.specs.declared.codes.TheConstants.{ASYNC, AUTO, NOWAIT};
 ghost use Rattle.pm_link.specs.Links.{with_supplier};
 ghost use Rattle.pm_model.specs.ControlTable.{may_not_force};
 ghost use Rattle.pm_model.specs.Derived.{asks_resume, awaits_parent, begun, callback_code, expiry, first_free, first_held, has, has_children, has_error, has_link, is_active, is_ahead, is_disabled, is_in_use, is_resuming, is_suspended, is_suspending, minds_parent, next_supplier, prevented, refusal};
+ghost use Rattle.pm_model.specs.Events.{is_try_again};
+ghost use Rattle.pm_model.specs.IdleTable.{is_above_idle};
 ghost use Rattle.pm_model.specs.SuspendTable.{autosuspend_at, may_not_wait, tells_parent};
 ghost use Rattle.pm_model.specs.Views.{device};
 ghost use Rattle.pm_device.specs.Parts.{IsFor};
 
 use crate::Parts;
 use crate::rows::{code_of, has_parent, parent_of};
-use pm_base::{ASYNC, Cb, DevId, EACCES, EAGAIN, EBUSY, EINVAL, NOWAIT, Req, Status};
+use pm_base::{ASYNC, AUTO, Cb, DevId, EACCES, EAGAIN, EBUSY, EINVAL, NOWAIT, Req, Status};
 use pm_model::Plan;
 
 /// Whether a flag is among the flags.
@@ -34,6 +36,20 @@ pub fn prevented(use_auto: bool, delay: i64) -> bool
     ensures { result ≡ prevented use_auto delay }
 {
     use_auto && delay < 0
+}
+
+/// Whether a request is for more than an idle: to suspend or to resume.
+pub fn is_above_idle(req: Req) -> bool
+    ensures { result ≡ is_above_idle req }
+{
+    !matches!(req, Req::Nothing | Req::Idle)
+}
+
+/// Whether a suspend callback that answers this code leaves its device active without an error.
+pub fn is_try_again(code: i32) -> bool
+    ensures { result ≡ is_try_again code }
+{
+    code == EAGAIN || code == EBUSY
 }
 
 impl Parts {
@@ -99,6 +115,14 @@ impl Parts {
         ensures { result ≡ asks_resume self.now.views dev }
     {
         matches!(self.pending(dev).request, Req::Resume)
+    }
+
+    /// Whether a device that is to be disabled carries out a pending resume first.
+    pub fn resumes_first(&self, dev: DevId) -> bool
+        requires { dev.0 < length self.now.shape.parents }
+        ensures { result ≡ (not (is_disabled self.now.views dev) && asks_resume self.now.views dev) }
+    {
+        !self.is_disabled(dev) && self.asks_resume(dev)
     }
 
     /// Whether a device has children that are Active or Suspending and that it doesn't ignore.
@@ -209,6 +233,15 @@ impl Parts {
             Some(moment) => time < moment,
             None => false,
         }
+    }
+
+    /// Whether a suspend is an autosuspend that isn't due yet at this moment, in milliseconds of the
+    /// run.
+    pub fn is_early(&self, dev: DevId, flags: u8, time: u64) -> bool
+        requires { dev.0 < length self.now.shape.parents }
+        ensures { result ≡ (has flags AUTO && not (is_suspending self.now.views dev) && is_ahead (expiry self.now.views dev) time) }
+    {
+        has(flags, AUTO) && !self.is_suspending(dev) && self.is_ahead(dev, time)
     }
 
     /// When an autosuspend is armed for: at the expiry, or where a timer is armed for an earlier

@@ -16,8 +16,8 @@ mod moves;
 mod readers;
 mod rows;
 
-pub use guards::{has, may_not_wait, prevented};
-pub use moves::{back, calls, goes, ret, returns};
+pub use guards::{has, is_above_idle, is_try_again, may_not_wait, prevented};
+pub use moves::{back, calls, goes, ret, returning, returns, supplier_call, to_resume};
 use pm_base::{DevId, NoMemory, Status};
 use pm_domain::Domains;
 use pm_link::Links;
@@ -25,8 +25,8 @@ use pm_model::{Device, Plan};
 use pm_request::Requests;
 use pm_timer::Timers;
 pub use rows::{
-    code_of, domain, has_domain, has_idle, has_parent, marks_busy, ms_of, no_callbacks, parent,
-    parent_of,
+    added, code_of, domain, has_domain, has_idle, has_parent, marks_busy, ms_of, no_callbacks,
+    parent, parent_of, removed,
 };
 use std::alloc::Global;
 use std::marker::Model;

@@ -8,14 +8,16 @@ ghost use Rattle.pm_model.specs.declared.stage.Move.TheVariants as move;
 ghost use Rattle.pm_model.specs.declared.stage.ResumeStage.TheVariants as resume;
 ghost use Rattle.pm_model.specs.declared.stage.Stage.TheVariants as the_stage;
 ghost use Rattle.pm_model.specs.Changes.{same};
+ghost use Rattle.pm_model.specs.HelperTable.{returning, to_resume};
+ghost use Rattle.pm_model.specs.ResumeTable.{resumes_supplier};
 ghost use Rattle.pm_model.specs.Row.{back, calls, goes, idles, move_of, resumes, suspends};
 ghost use Rattle.pm_device.specs.Parts.{IsFor};
 
 use crate::Parts;
 use pm_base::{Cb, DevId};
 use pm_model::{
-    Await, Event, Helper, IdleStage, Move, Purpose, ResumeCall, ResumeStage, Stage, Stages,
-    SuspendStage, Then,
+    Await, Event, Helper, HelperStage, IdleStage, Move, Purpose, ResumeCall, ResumeStage, Stage,
+    Stages, SuspendStage, Then,
 };
 
 /// The stage gives way to this one.
@@ -60,6 +62,41 @@ pub fn ret(helper: Helper, dev: DevId, code: i32) -> Move
     ensures { result ≡ move.Write (event.Ret helper dev code) (back code) }
 {
     Move::Write(Event::Ret { helper, dev, code }, back(code))
+}
+
+/// The return line of a helper comes next.
+pub fn returning(helper: Helper, dev: DevId, code: i32) -> Then
+    ensures { result ≡ returning helper dev code }
+{
+    goes(Stage::Helper(HelperStage::Ret { helper, dev, code }))
+}
+
+/// The first stage of a resume for the device itself.
+pub fn to_resume(dev: DevId, flags: u8) -> Stage
+    ensures { result ≡ to_resume dev flags }
+{
+    Stage::Resume(ResumeStage::Enter {
+        call: ResumeCall {
+            dev,
+            flags,
+            held: false,
+            purpose: Purpose::Plain,
+        },
+    })
+}
+
+/// The first stage of a resume of a supplier, for the link of this number.
+pub fn supplier_call(link: u32, supplier: DevId) -> Stage
+    ensures { result ≡ resumes_supplier (link, supplier) }
+{
+    Stage::Resume(ResumeStage::Enter {
+        call: ResumeCall {
+            dev: supplier,
+            flags: 4,
+            held: false,
+            purpose: Purpose::Link(link),
+        },
+    })
 }
 
 impl Parts {

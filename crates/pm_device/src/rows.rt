@@ -1,10 +1,12 @@
-//! What a plan says of its devices.
+//! What a plan says of its devices, and which of them a topology helper names as the supplier.
 
-ghost use Rattle.std.specs.Prelude.{◌≡◌, ◌<◌, IfSome, Some, length, pos, slice_get, unwrap_or};
+ghost use Rattle.std.specs.Prelude.{◌≡◌, ◌<◌, IfSome, Some, length, nat_abs, pos, slice_get, true, unwrap_or};
+ghost use Rattle.pm_model.specs.declared.event.Helper.TheVariants as helper;
+ghost use Rattle.pm_model.specs.IsPlan.{is_command};
 ghost use Rattle.pm_model.specs.PlanRows.{codes_of, domain, has_domain, has_idle, has_parent, marks_busy, ms_of, no_callbacks, parent, parent_of};
 
 use pm_base::{Cb, DevId, DomId};
-use pm_model::{Codes, DeviceRow, Plan};
+use pm_model::{Codes, Command, DeviceRow, Plan};
 
 // The row of a device.
 fn row(plan: &Plan, dev: DevId) -> &DeviceRow
@@ -128,4 +130,22 @@ pub fn code_of(plan: &Plan, cb: Cb, dev: DevId, n: u32) -> i32
         Cb::Suspend => code_at(&row.suspend, n as usize),
         Cb::Resume => code_at(&row.resume, n as usize),
     }
+}
+
+/// The supplier that `link_add` names.
+pub fn added(plan: &Plan, command: Command) -> DevId
+    requires command { is_command (length plan.now.devices) command ≡ true }
+    requires helper { command.helper ≡ helper.LinkAdd }
+    ensures { result ≡ record { 0 = nat_abs command.number } }
+{
+    DevId(command.number.unsigned_abs() as u32)
+}
+
+/// The supplier that `link_del` names.
+pub fn removed(plan: &Plan, command: Command) -> DevId
+    requires command { is_command (length plan.now.devices) command ≡ true }
+    requires helper { command.helper ≡ helper.LinkDel }
+    ensures { result ≡ record { 0 = nat_abs command.number } }
+{
+    DevId(command.number.unsigned_abs() as u32)
 }

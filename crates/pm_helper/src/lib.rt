@@ -11,7 +11,7 @@ ghost use Rattle.pm_model.specs.declared.event.WorkAct.TheVariants.{Run};
 ghost use Rattle.pm_model.specs.declared.stage.Move.TheVariants as move;
 ghost use Rattle.pm_model.specs.declared.stage.Stage.TheVariants as the_stage;
 ghost use Rattle.pm_model.specs.Changes.{same};
-ghost use Rattle.pm_model.specs.HelperTable.{begins, carries_out, flags_of, gets_if, helper_row, helper_starts, put_suspends, puts, returning, timer_fires, to_idle, to_resume, to_suspend};
+ghost use Rattle.pm_model.specs.HelperTable.{begins, carries_out, flags_of, gets_if, helper_row, helper_starts, put_suspends, puts, timer_fires, to_idle, to_suspend};
 ghost use Rattle.pm_model.specs.Row.{move_of, ret, timed};
 ghost use Rattle.pm_model.specs.Views.{pending_of, timer};
 ghost use Rattle.pm_model.specs.World.{due};
@@ -19,10 +19,10 @@ ghost use Rattle.pm_device.specs.Parts.{IsFor};
 ghost use Rattle.pm_helper.specs.HelperMove.{CanTell, ReadsWithin};
 
 use pm_base::{DevId, EINVAL, Req, Why};
-use pm_device::{Parts, back, calls, goes, ret};
+use pm_device::{Parts, back, calls, goes, ret, returning, to_resume};
 use pm_model::{
-    Await, Command, ControlStage, Event, Helper, HelperStage, IdleStage, Move, Plan, Purpose,
-    ResumeCall, ResumeStage, Stage, SuspendStage, Then, TimerAct, WorkAct,
+    Await, Command, ControlStage, Event, Helper, HelperStage, IdleStage, Move, Plan, Stage,
+    SuspendStage, Then, TimerAct, WorkAct,
 };
 
 // The flags of a helper.
@@ -53,27 +53,6 @@ fn to_suspend(dev: DevId, flags: u8) -> Stage
     ensures { result ≡ to_suspend dev flags }
 {
     Stage::Suspend(SuspendStage::Enter { dev, flags })
-}
-
-// The first stage of a resume for the device itself.
-fn to_resume(dev: DevId, flags: u8) -> Stage
-    ensures { result ≡ to_resume dev flags }
-{
-    Stage::Resume(ResumeStage::Enter {
-        call: ResumeCall {
-            dev,
-            flags,
-            held: false,
-            purpose: Purpose::Plain,
-        },
-    })
-}
-
-// The return line comes next.
-fn returning(helper: Helper, dev: DevId, code: i32) -> Then
-    ensures { result ≡ returning helper dev code }
-{
-    goes(Stage::Helper(HelperStage::Ret { helper, dev, code }))
 }
 
 // Where a command goes on after its call line, written at this moment.

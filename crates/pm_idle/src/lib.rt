@@ -8,7 +8,7 @@ ghost use Rattle.pm_model.specs.declared.event.Event.TheVariants as event;
 ghost use Rattle.pm_model.specs.declared.stage.Move.TheVariants as move;
 ghost use Rattle.pm_model.specs.declared.stage.Stage.TheVariants as the_stage;
 ghost use Rattle.pm_model.specs.Derived.{begun};
-ghost use Rattle.pm_model.specs.IdleTable.{given, idle_ends, idle_row, idle_verdict, is_above_idle, then_suspends};
+ghost use Rattle.pm_model.specs.IdleTable.{given, idle_ends, idle_row, idle_verdict, then_suspends};
 ghost use Rattle.pm_model.specs.PlanRows.{ms_of};
 ghost use Rattle.pm_model.specs.Row.{back, move_of, timed};
 ghost use Rattle.pm_model.specs.World.{due};
@@ -16,15 +16,8 @@ ghost use Rattle.pm_device.specs.Parts.{IsFor};
 ghost use Rattle.pm_idle.specs.IdleMove.{CanTell, device_of};
 
 use pm_base::{ASYNC, AUTO, Cb, DevId, EAGAIN, EINPROGRESS, Req};
-use pm_device::{Parts, back, goes, has, has_idle, ms_of, returns};
+use pm_device::{Parts, back, goes, has, has_idle, is_above_idle, ms_of, returns};
 use pm_model::{Event, IdleStage, Move, Plan, Stage, SuspendStage, Then, WorkAct};
-
-// Whether a request is for more than an idle: to suspend or to resume.
-fn is_above_idle(req: Req) -> bool
-    ensures { result ≡ is_above_idle req }
-{
-    !matches!(req, Req::Nothing | Req::Idle)
-}
 
 // An idle that answers 0 goes on to suspend by the autosuspend rule.
 fn then_suspends(dev: DevId, flags: u8) -> Then

@@ -15,7 +15,7 @@ ghost use Rattle.pm_model.specs.declared.stage.Stage.TheVariants as the_stage;
 ghost use Rattle.pm_model.specs.Changes.{same};
 ghost use Rattle.pm_model.specs.Derived.{begun, first_of, has, is_moving, is_resuming, is_suspending, minds_parent};
 ghost use Rattle.pm_model.specs.PlanRows.{has_parent, ms_of, parent_of};
-ghost use Rattle.pm_model.specs.ResumeTable.{goes_on, leaves, resume_begins, resume_domain, resume_ends, resume_links, resume_row, resume_unwinds, resume_verdict, resumes_supplier, returns_from};
+ghost use Rattle.pm_model.specs.ResumeTable.{goes_on, leaves, resume_begins, resume_domain, resume_ends, resume_links, resume_row, resume_unwinds, resume_verdict, returns_from};
 ghost use Rattle.pm_model.specs.Row.{calls, move_of, timed, waits};
 ghost use Rattle.pm_model.specs.SuspendTable.{may_not_wait};
 ghost use Rattle.pm_model.specs.World.{due};
@@ -25,7 +25,7 @@ ghost use Rattle.pm_resume.specs.ResumeMove.{CanTell, device_of};
 use pm_base::{ASYNC, Cb, DevId, EACCES, EBUSY, EINPROGRESS, EINVAL, NOWAIT, Req, Why};
 use pm_device::{
     Parts, back, calls, goes, has, has_domain, has_parent, may_not_wait, ms_of, no_callbacks,
-    parent_of,
+    parent_of, supplier_call,
 };
 use pm_model::{
     Await, Event, IdleStage, Move, Plan, Purpose, ResumeCall, ResumeStage, Stage, Then, Word,
@@ -215,20 +215,6 @@ fn begins(call: ResumeCall, time: u64) -> Move
         },
         goes_on(ResumeStage::Running { call, since: time }),
     )
-}
-
-// A resume of a supplier for a link.
-fn supplier_call(link: u32, supplier: DevId) -> Stage
-    ensures { result ≡ resumes_supplier (link, supplier) }
-{
-    Stage::Resume(ResumeStage::Enter {
-        call: ResumeCall {
-            dev: supplier,
-            flags: 4,
-            held: false,
-            purpose: Purpose::Link(link),
-        },
-    })
 }
 
 // R2

@@ -1,5 +1,5 @@
 -- When an autosuspend may begin, once a suspend callback has ended.
-use Rattle.std.proofs.Common.{ℕ, ◌≡◌, ◌<◌, Bool, true, false, Option, ℤ, pos, length, if◌then◌else◌, ap, refl, sym, ◌∙◌, subst}
+use Rattle.std.proofs.Common.{ℕ, ◌≡◌, ◌<◌, Bool, true, false, ℤ, pos, length, if◌then◌else◌, ap, refl, sym, ◌∙◌, subst}
 use Rattle.std.specs.Ordering.{int_eq}
 use Rattle.std.proofs.lemmas.List.{get_or-set_same, length-set}
 use Rattle.pm_base.specs.declared.Cb.TheVariants as cb

@@ -1,9 +1,8 @@
 //! The lines of suspend (`runtime_pm.rst`, sections 2, 4 and 9).
 #![tactic(auto)]
 
-ghost use Rattle.std.specs.Prelude.{◌≡◌, ◌+◌, ◌<◌, ◌&&◌, ◌∷◌, ◌^◌, [], length, not};
+ghost use Rattle.std.specs.Prelude.{◌≡◌, ◌+◌, ◌<◌, ◌∷◌, ◌^◌, [], length};
 ghost use Rattle.pm_base.specs.declared.Cb.TheVariants as cb;
-ghost use Rattle.pm_base.specs.declared.codes.TheConstants.{AUTO};
 ghost use Rattle.pm_model.specs.declared.event.Event.TheVariants as event;
 ghost use Rattle.pm_model.specs.declared.plan.Plan.{Plan as APlan};
 ghost use Rattle.pm_model.specs.declared.stage.Await.TheVariants as await;
@@ -11,8 +10,8 @@ ghost use Rattle.pm_model.specs.declared.stage.Move.TheVariants as move;
 ghost use Rattle.pm_model.specs.declared.stage.Purpose.TheVariants.{Plain};
 ghost use Rattle.pm_model.specs.declared.stage.Stage.TheVariants as the_stage;
 ghost use Rattle.pm_model.specs.declared.stage.SuspendStage.TheVariants as suspend;
-ghost use Rattle.pm_model.specs.Derived.{begun, expiry, has, is_ahead, is_suspending};
-ghost use Rattle.pm_model.specs.Events.{by_event, is_try_again};
+ghost use Rattle.pm_model.specs.Derived.{begun, expiry, is_ahead};
+ghost use Rattle.pm_model.specs.Events.{by_event};
 ghost use Rattle.pm_model.specs.PlanRows.{ms_of};
 ghost use Rattle.pm_model.specs.Row.{move_of, timed};
 ghost use Rattle.pm_model.specs.SuspendTable.{goes_on, suspend_domain, suspend_ended, suspend_ends, suspend_links, suspend_parent, suspend_request, suspend_row, suspend_verdict};
@@ -21,10 +20,10 @@ ghost use Rattle.pm_model.specs.World.{due};
 ghost use Rattle.pm_device.specs.Parts.{IsFor};
 ghost use Rattle.pm_suspend.specs.SuspendMove.{CanTell, device_of, expiry_of, last_mark};
 
-use pm_base::{ASYNC, AUTO, Cb, DevId, EAGAIN, EBUSY, EINPROGRESS, Req, Why};
+use pm_base::{ASYNC, AUTO, Cb, DevId, EAGAIN, EINPROGRESS, Req, Why};
 use pm_device::{
-    Parts, calls, goes, has, has_domain, marks_busy, may_not_wait, ms_of, no_callbacks, parent_of,
-    returns,
+    Parts, calls, goes, has, has_domain, is_try_again, marks_busy, may_not_wait, ms_of,
+    no_callbacks, parent_of, returns,
 };
 use pm_model::{
     Await, Event, IdleStage, Move, Plan, Purpose, Stage, SuspendStage, Then, TimerAct, Word,
@@ -49,14 +48,6 @@ fn suspend_request(flags: u8) -> Req
     }
 }
 
-// An autosuspend isn't due yet.
-fn is_early(parts: &Parts, dev: DevId, flags: u8, time: u64) -> bool
-    requires { dev.0 < length parts.now.shape.parents }
-    ensures { result ≡ (has flags AUTO && not (is_suspending parts.now.views dev) && is_ahead (expiry parts.now.views dev) time) }
-{
-    has(flags, AUTO) && !parts.is_suspending(dev) && parts.is_ahead(dev, time)
-}
-
 // S1
 #[tactic(auto, unfolding(pm_model::specs::SuspendTable::suspend_verdict))]
 fn verdict(plan: &Plan, parts: &Parts, dev: DevId, flags: u8, time: u64) -> Move
@@ -71,7 +62,7 @@ fn verdict(plan: &Plan, parts: &Parts, dev: DevId, flags: u8, time: u64) -> Move
     if parts.is_resuming(dev) && !has(flags, ASYNC) {
         return returns(Cb::Suspend, dev, EAGAIN);
     }
-    if is_early(parts, dev, flags, time) {
+    if parts.is_early(dev, flags, time) {
         let act = TimerAct::Arm {
             at: parts.autosuspend_at(dev),
             auto_on: true,
@@ -127,13 +118,6 @@ fn verdict(plan: &Plan, parts: &Parts, dev: DevId, flags: u8, time: u64) -> Move
             since: time,
         }),
     )
-}
-
-// Whether a suspend callback that answers this code leaves its device active without an error.
-fn is_try_again(code: i32) -> bool
-    ensures { result ≡ is_try_again code }
-{
-    code == EAGAIN || code == EBUSY
 }
 
 // When the device was last marked busy, once a callback of it has ended at this moment.

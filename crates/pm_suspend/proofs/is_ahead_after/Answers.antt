@@ -1,4 +1,4 @@
-use Rattle.std.proofs.Common.{◌≡◌, ap, sym, ◌∙◌}
+use Rattle.std.proofs.Common.{ap, sym, ◌∙◌}
 use Rattle.pm_model.specs.Derived.{is_ahead}
 use Rattle.pm_model.specs.Views.{device}
 use Rattle.pm_suspend.specs.SuspendMove.{expiry_of}

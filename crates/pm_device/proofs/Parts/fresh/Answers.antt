@@ -1,8 +1,6 @@
-use Rattle.std.proofs.Common.{◌≡◌, None, List, ap, false, length, map, not, replicate, sym, ◌∙◌}
-use Rattle.pm_base.specs.declared.Pending.{Pending}
+use Rattle.std.proofs.Common.{None, ap, false, length, map, replicate, sym, ◌∙◌}
 use Rattle.pm_model.specs.declared.rows.DeviceRow.{DeviceRow}
-use Rattle.pm_model.specs.declared.views.Device.{Device}
-use Rattle.pm_model.specs.Views.{Views, fresh_device, fresh_pending}
+use Rattle.pm_model.specs.Views.{fresh_device, fresh_pending}
 use Rattle.pm_device.proofs.FreshLemmas.{fresh_views, kept_as_fresh}
 use Rattle.pm_device.proofs.Parts.fresh.Goals as goal
 

@@ -1,0 +1,172 @@
+//! Which of many actors may move first: from which moment on each may move, with the least of these
+//! moments and the first place that is due at hand.
+#![tactic(auto)]
+
+ghost use Rattle.std.specs.Prelude.{◌≡◌, ◌<◌, ◌≤◌, ◌^◌, ℕ, Some, None, true, length, replicate, slice_set, IfNone, IfOk, IfSome, SomeIndex};
+ghost use Rattle.pm_moments.specs.Moments.{IsNoLater, NoneWithin, is_within, moment_of};
+
+mod tree;
+
+use pm_base::NoMemory;
+use std::alloc::Global;
+use std::marker::Model;
+use tree::{first_under, leaves_below, levels_for, nothing, put, top};
+
+/// From which moment on the actor at each place may move, in milliseconds of the run, or `None`
+/// where it waits for none. Contracts see the list of these moments by place.
+#[derive(Debug, Drop)]
+pub struct Moments {
+    places: usize,
+    // The leaves of the tree are a power of two, so that they stand in the order of the places.
+    leaves: usize,
+    levels: u32,
+    nodes: Vec<Option<u64>>,
+}
+
+impl Model for Moments {
+    ghost use Rattle.std.specs.Prelude.{List, Option, ℕ};
+    ghost use Rattle.pm_moments.specs.Tree.{IsTree, shown};
+
+    ghost Value = { List (Option ℕ) };
+
+    ghost view = { λ m. shown m.places m.leaves m.nodes.items };
+
+    ghost invariant = { λ m. IsTree m.places m.leaves m.levels m.nodes.items };
+}
+
+impl Moments {
+    /// No moment at any of so many places, fewer than 2^32. All memory is taken here. Fails where it
+    /// runs out.
+    pub fn new(alloc: Global, places: usize) -> Result<Moments, NoMemory>
+        requires { places < 2 ^ 32 }
+        ensures { IfOk result (λ moments. moments ≡ replicate places None) }
+    {
+        let levels = levels_for(places);
+        let leaves = leaves_below(levels);
+        Ok(Moments {
+            places,
+            leaves,
+            levels,
+            nodes: nothing(alloc, 2 * leaves)?,
+        })
+    }
+
+    /// Sets the moment of a place, or takes it away. It takes a number of steps that is logarithmic
+    /// in the number of places.
+    pub fn set(&mut self, place: usize, moment: Option<u64>)
+        requires { place < length self.old }
+        ensures { self.new ≡ slice_set self.old place moment }
+    {
+        put(&mut self.nodes, self.leaves, place, moment);
+    }
+
+    /// The moment of a place, if it has one.
+    pub fn get(&self, place: usize) -> Option<u64>
+        requires { place < length self.now }
+        ensures { result ≡ moment_of self.now place }
+    {
+        self.nodes[self.leaves + place]
+    }
+
+    /// The least moment of all. `None` comes exactly where no place has one. It looks at one entry.
+    pub fn least(&self) -> Option<u64>
+        ensures held { IfSome result (λ at. SomeIndex self.now (λ i. moment_of self.now i ≡ Some at)) }
+        ensures least { IfSome result (λ at. (i other : ℕ) → moment_of self.now i ≡ Some other → at ≤ other) }
+        ensures missing { IfNone result ((i : ℕ) → moment_of self.now i ≡ None) }
+    {
+        top(&self.nodes)
+    }
+
+    /// The first place at or after `from` whose moment is at most the bound, in as many steps as `set`
+    /// takes.
+    pub fn first_within(&self, from: usize, bound: u64) -> Option<usize>
+        requires { from ≤ length self.now }
+        ensures found { IfSome result (λ i. (from ≤ i) × (i < length self.now) × (is_within bound (moment_of self.now i) ≡ true)) }
+        ensures first { IfSome result (λ i. NoneWithin self.now bound from i) }
+        ensures missing { IfNone result (NoneWithin self.now bound from (length self.now)) }
+    {
+        let leaf = first_under(&self.nodes, 1, self.levels, self.leaves + from, bound)?;
+        Some(leaf - self.leaves)
+    }
+
+    /// The least moment, and of several places that have it the least. `None` comes exactly where no
+    /// place has one.
+    pub fn first(&self) -> Option<(u64, usize)>
+        ensures held { IfSome result (λ first. (first.1 < length self.now) × (moment_of self.now first.1 ≡ Some first.0)) }
+        ensures least { IfSome result (λ first. (place at : ℕ) → moment_of self.now place ≡ Some at → IsNoLater first (at, place)) }
+        ensures missing { IfNone result ((place : ℕ) → moment_of self.now place ≡ None) }
+    {
+        let at = self.least()?;
+        let place = self.first_within(0, at)?;
+        Some((at, place))
+    }
+}
+
+#[cfg(test)]
+mod tests {
+    use super::*;
+    use std::test::Fail;
+
+    #[test]
+    fn the_least_moment_comes_first_and_then_the_least_place(rt: HostRuntime) -> Result<(), Fail> {
+        let mut moments = Moments::new(rt.alloc(), 5)?;
+        assert!(rt; moments.places == 5);
+        assert_eq!(rt; moments.least(), None);
+        assert_eq!(rt; moments.first(), None);
+        moments.set(3, Some(7));
+        moments.set(4, Some(7));
+        moments.set(1, Some(9));
+        assert_eq!(rt; moments.get(4), Some(7));
+        assert_eq!(rt; moments.get(0), None);
+        assert_eq!(rt; moments.least(), Some(7));
+        assert_eq!(rt; moments.first(), Some((7, 3)));
+        moments.set(3, Some(12));
+        assert_eq!(rt; moments.first(), Some((7, 4)));
+        moments.set(4, None);
+        assert_eq!(rt; moments.first(), Some((9, 1)));
+        Ok(())
+    }
+
+    #[test]
+    fn the_first_place_that_is_due_at_or_after_another(rt: HostRuntime) -> Result<(), Fail> {
+        let mut moments = Moments::new(rt.alloc(), 6)?;
+        assert!(rt; moments.places == 6);
+        moments.set(1, Some(4));
+        moments.set(2, Some(0));
+        moments.set(5, Some(4));
+        for (from, bound, want) in [
+            (0, 3, Some(2)),
+            (0, 4, Some(1)),
+            (1, 4, Some(1)),
+            (2, 4, Some(2)),
+            (3, 4, Some(5)),
+            (3, 3, None),
+            (5, u64::MAX, Some(5)),
+            (6, u64::MAX, None),
+        ] {
+            assert!(rt; from <= 6);
+            assert_eq!(rt;
+                moments.first_within(from, bound),
+                want,
+                "from {from}, bound {bound}"
+            );
+        }
+        Ok(())
+    }
+
+    #[test]
+    fn no_place_and_one_place(rt: HostRuntime) -> Result<(), Fail> {
+        let none = Moments::new(rt.alloc(), 0)?;
+        assert!(rt; none.places == 0);
+        assert_eq!(rt; none.first(), None);
+        assert_eq!(rt; none.first_within(0, u64::MAX), None);
+        let mut one = Moments::new(rt.alloc(), 1)?;
+        assert!(rt; one.places == 1);
+        one.set(0, Some(0));
+        assert_eq!(rt; one.first(), Some((0, 0)));
+        assert_eq!(rt; one.first_within(1, 0), None);
+        one.set(0, None);
+        assert_eq!(rt; one.first(), None);
+        Ok(())
+    }
+}
