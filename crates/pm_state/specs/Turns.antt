@@ -1,5 +1,5 @@
 -- What an actor does at a moment (this project's own).
-use Rattle.std.specs.Prelude.{◌≡◌, ◌+◌, ℕ, Bool, true, Option, Some, None, is_some, not}
+use Rattle.std.specs.Prelude.{◌≡◌, ◌+◌, ◌<◌, ℕ, Bool, true, Option, Some, None, is_some, length, not}
 use Rattle.pm_base.specs.declared.ActorId.{ActorId}
 use Rattle.pm_base.specs.declared.Cb.TheVariants as cb
 use Rattle.pm_model.specs.declared.event.Event.{Event}
@@ -13,7 +13,9 @@ use Rattle.pm_model.specs.declared.stage.Stage.TheVariants as stage
 use Rattle.pm_model.specs.declared.stage.SuspendStage.TheVariants as suspend
 use Rattle.pm_model.specs.PlanRows.{ms_of}
 use Rattle.pm_model.specs.Views.{Views}
-use Rattle.pm_model.specs.World.{World, move, stage_at}
+use Rattle.pm_model.specs.World.{World, move, place, stage_at}
+use Rattle.pm_model.specs.declared.stage.Then.{Then}
+use Rattle.pm_place.specs.Place.{is_level}
 use Rattle.pm_state.specs.declared.acting.Turn.{Turn}
 use Rattle.pm_state.specs.declared.acting.Turn.TheVariants as turn
 use Rattle.pm_state.specs.Tests.{fits, tells}
@@ -65,3 +67,12 @@ is_running plan w actor = runs_at plan (stage_at plan w actor)
 abbrev pub HasPassed : Plan → World → ActorId → Turn → Type 0
 HasPassed plan w actor (turn.Writes s e next) = (tells plan w.views s ≡ true) × (fits plan w actor s e ≡ true)
 HasPassed plan w actor _ = Unit {0}
+
+-- the stage ends or at most one takes its place, and the actor's place is open
+pub record EndsLevel (w : World) (actor : ActorId) (next : Then) : Type 0 where
+  pub level : is_level next ≡ true
+  pub open_place : 0 < length (place w actor)
+
+abbrev pub TurnEndsLevel : World → ActorId → Turn → Type 0
+TurnEndsLevel w actor (turn.Writes s e next) = EndsLevel w actor next
+TurnEndsLevel w actor _ = Unit {0}

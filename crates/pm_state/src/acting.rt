@@ -1,16 +1,20 @@
 //! What an actor does at a moment.
 
-ghost use Rattle.std.specs.Prelude.{◌≡◌, ◌≢◌, ◌<◌, ◌^◌, true};
+ghost use Rattle.std.specs.Prelude.{◌≡◌, ◌≢◌, ◌<◌, ◌&&◌, ◌^◌, is_some, not, true};
 ghost use Rattle.pm_device.specs.Parts.{IsFor};
-ghost use Rattle.pm_model.specs.World.{move};
+ghost use Rattle.pm_model.specs.World.{move, place};
+ghost use Rattle.pm_model.specs.Lawful.{is_empty_place};
+ghost use Rattle.pm_place.specs.Place.{is_level};
+ghost use Rattle.pm_model.specs.declared.plan.Plan.{Plan as APlan};
 ghost use Rattle.pm_state.specs.Standing.{IsActor, IsOf};
 ghost use Rattle.pm_state.specs.Tests.{tells};
-ghost use Rattle.pm_state.specs.Turns.{HasPassed, by_move, by_running, ending_of, is_running, running_due, turn_of};
+ghost use Rattle.pm_state.specs.Turns.{HasPassed, TurnEndsLevel, by_move, by_running, ending_of, is_running, running_due, turn_of};
 
 use crate::state::State;
 use crate::tests_of_stages::tells;
 use pm_base::{ActorId, Cb, DevId};
 use pm_device::{Parts, ms_of};
+use pm_place::is_level;
 use pm_model::{Event, IdleStage, Move, Plan, ResumeStage, Stage, SuspendStage, Then};
 
 /// What an actor does at a moment, in milliseconds of the run.
@@ -63,6 +67,18 @@ fn running_due(plan: &Plan, parts: &Parts, stage: Stage) -> Option<u64>
     }
 }
 
+// Whether a callback runs at a stage.
+fn runs(stage: Stage) -> bool
+    ensures { (plan : APlan) → result ≡ is_some (running_due plan stage) }
+{
+    match stage {
+        Stage::Idle(stage) => matches!(stage, IdleStage::Running { .. }),
+        Stage::Suspend(stage) => matches!(stage, SuspendStage::Running { .. }),
+        Stage::Resume(stage) => matches!(stage, ResumeStage::Running { .. }),
+        _ => false,
+    }
+}
+
 impl State {
     // What an actor does at the stage at which it stands.
     fn acts(&self, plan: &Plan, actor: ActorId, stage: Stage, time: u64) -> Turn
@@ -106,6 +122,35 @@ impl State {
         }
     }
 
+    // Whether what comes after a line takes no more room on the actor's stack than its top.
+    fn ends_level(&self, plan: &Plan, actor: ActorId, then: &Then) -> bool
+        requires is_of { IsOf plan.now self.now }
+        requires in_range { IsActor plan.now actor }
+        ensures { result ≡ (not (is_empty_place (place self.now.world actor)) && is_level then.now) }
+    {
+        !self.place(plan, actor).is_empty() && is_level(then)
+    }
+
+    // Where the actor's stack would have to grow, the end of a callback is stuck.
+    #[tactic(auto, using(crate::proofs::Told::first_of_two, crate::proofs::Told::second_of_two, crate::proofs::Fitting::is_open))]
+    fn level(&self, plan: &Plan, actor: ActorId, turn: Turn) -> Turn
+        requires is_of { IsOf plan.now self.now }
+        requires in_range { IsActor plan.now actor }
+        ensures same { result ≢ Turn.Stuck → result ≡ turn }
+        ensures level { TurnEndsLevel self.now.world actor result }
+    {
+        match turn {
+            Turn::Writes { stage, event, then } => {
+                if self.ends_level(plan, actor, &then) {
+                    Turn::Writes { stage, event, then }
+                } else {
+                    Turn::Stuck
+                }
+            }
+            other => other,
+        }
+    }
+
     /// What an actor whose callback runs does at a moment, once the callback is over. It takes no
     /// memory.
     pub fn ending(&self, plan: &Plan, actor: ActorId, time: u64) -> Turn
@@ -114,10 +159,23 @@ impl State {
         requires in_time { time < 2 ^ 63 }
         ensures turn { result ≢ Turn.Stuck → result ≡ ending_of plan.now self.now.world actor time }
         ensures passed { HasPassed plan.now self.now.world actor result }
+        ensures level { TurnEndsLevel self.now.world actor result }
     {
         match self.stage_at(plan, actor) {
-            Some(stage) => self.acts(plan, actor, stage, time),
+            Some(stage) => self.level(plan, actor, self.acts(plan, actor, stage, time)),
             None => Turn::Resting,
+        }
+    }
+
+    /// Whether a callback that the actor began runs.
+    pub fn is_running(&self, plan: &Plan, actor: ActorId) -> bool
+        requires is_of { IsOf plan.now self.now }
+        requires in_range { IsActor plan.now actor }
+        ensures { result ≡ is_running plan.now self.now.world actor }
+    {
+        match self.stage_at(plan, actor) {
+            Some(stage) => runs(stage),
+            None => false,
         }
     }
 }

@@ -3,6 +3,7 @@
 #![tactic(auto)]
 
 mod acting;
+mod devices;
 mod going;
 mod moves;
 mod state;
@@ -10,4 +11,5 @@ mod tests_of_events;
 mod tests_of_stages;
 
 pub use acting::Turn;
+pub use devices::device_of;
 pub use state::State;

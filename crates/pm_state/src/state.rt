@@ -89,7 +89,7 @@ impl State {
     }
 
     // The open stages of an actor.
-    fn place(&self, plan: &Plan, actor: ActorId) -> &Place
+    pub(crate) fn place(&self, plan: &Plan, actor: ActorId) -> &Place
         requires is_of { IsOf plan.now self.now }
         requires in_range { IsActor plan.now actor }
         ensures { result.now ≡ place self.now.world actor }

@@ -1,14 +1,11 @@
 //! Whether the line of a stage can be told. No law over whole runs says so as yet, so it is tested.
 
 ghost use Rattle.std.specs.Prelude.{◌≡◌, ◌+◌, ◌<◌, length};
-ghost use Rattle.pm_control.specs.ControlMove as controls;
 ghost use Rattle.pm_device.specs.Parts.{IsFor};
-ghost use Rattle.pm_idle.specs.IdleMove as idles;
 ghost use Rattle.pm_model.specs.IsPlan.{is_command, is_operand, least_ms};
-ghost use Rattle.pm_resume.specs.ResumeMove as resumes;
 ghost use Rattle.pm_state.specs.Tests.{has_begun, is_in, is_moment, tells, tells_control, tells_helper, tells_idle, tells_resume, tells_suspend};
-ghost use Rattle.pm_suspend.specs.SuspendMove as suspends;
 
+use crate::devices::{control_device, idle_device, resume_device, suspend_device};
 use pm_base::{Cb, DevId, MAX_MS};
 use pm_device::{Parts, has_parent, ms_of};
 use pm_linetext::{operand_of, takes_device};
@@ -38,72 +35,6 @@ fn has_begun(plan: &Plan, parts: &Parts, cb: Cb, dev: DevId, since: u64) -> bool
     ensures { result ≡ has_begun plan.now parts.now.views cb dev since }
 {
     parts.begun(dev, cb) > 0 && has_later(since, u64::from(ms_of(plan, cb, dev)))
-}
-
-fn idle_device(stage: IdleStage) -> DevId
-    ensures { result ≡ idles.device_of stage }
-{
-    match stage {
-        IdleStage::Enter { dev, .. }
-        | IdleStage::Verdict { dev, .. }
-        | IdleStage::Running { dev, .. }
-        | IdleStage::Done { dev, .. }
-        | IdleStage::Queued { dev, .. }
-        | IdleStage::Given { dev, .. } => dev,
-    }
-}
-
-fn suspend_device(stage: SuspendStage) -> DevId
-    ensures { result ≡ suspends.device_of stage }
-{
-    match stage {
-        SuspendStage::Enter { dev, .. }
-        | SuspendStage::Verdict { dev, .. }
-        | SuspendStage::Waiting { dev, .. }
-        | SuspendStage::Running { dev, .. }
-        | SuspendStage::Domain { dev, .. }
-        | SuspendStage::Links { dev, .. }
-        | SuspendStage::Deferred { dev, .. }
-        | SuspendStage::Parent { dev, .. }
-        | SuspendStage::Done { dev, .. } => dev,
-    }
-}
-
-fn resume_device(stage: ResumeStage) -> DevId
-    ensures { result ≡ resumes.device_of stage }
-{
-    match stage {
-        ResumeStage::Enter { call }
-        | ResumeStage::Verdict { call, .. }
-        | ResumeStage::Waiting { call, .. }
-        | ResumeStage::Links { call }
-        | ResumeStage::Supplied { call, .. }
-        | ResumeStage::Callback { call }
-        | ResumeStage::Running { call, .. }
-        | ResumeStage::Resumed { call }
-        | ResumeStage::Idle { call }
-        | ResumeStage::Done { call, .. }
-        | ResumeStage::Parent { call, .. }
-        | ResumeStage::Domain { call, .. }
-        | ResumeStage::Unwind { call, .. } => call.dev,
-    }
-}
-
-fn control_device(stage: ControlStage) -> DevId
-    ensures { result ≡ controls.device_of stage }
-{
-    match stage {
-        ControlStage::Start { command } => command.dev,
-        ControlStage::DisableGiven { dev }
-        | ControlStage::Disable { dev }
-        | ControlStage::Disabled { dev }
-        | ControlStage::BarrierResume { dev }
-        | ControlStage::BarrierIdle { dev, .. }
-        | ControlStage::BarrierWait { dev, .. }
-        | ControlStage::ActiveLinks { dev }
-        | ControlStage::ActiveUnwind { dev, .. }
-        | ControlStage::SuppliersIdle { dev, .. } => dev,
-    }
 }
 
 fn tells_idle(plan: &Plan, parts: &Parts, stage: IdleStage) -> bool
