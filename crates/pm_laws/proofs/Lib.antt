@@ -16,3 +16,4 @@ pub mod Asides
 pub mod Shares
 pub mod Switches
 pub mod Said
+pub mod Held

@@ -1,13 +1,14 @@
 //! Laws that hold after every lawful list of lines, whatever the order of the actors.
 #![tactic(auto)]
 
-ghost use Rattle.std.specs.Prelude.{◌≡◌, ◌+◌, ◌<◌, ℕ, List, Some, true, false, length, slice_get};
+ghost use Rattle.std.specs.Prelude.{◌≡◌, ◌+◌, ◌<◌, ◌≤◌, ℕ, List, Some, true, false, length, slice_get};
 ghost use Rattle.pm_base.specs.declared.DevId.{DevId};
 ghost use Rattle.pm_model.specs.declared.event.Line.{Line};
 ghost use Rattle.pm_model.specs.declared.plan.Plan.{Plan};
 ghost use Rattle.pm_model.specs.declared.rows.LinkRow.{LinkRow};
 ghost use Rattle.pm_model.specs.Counted.{gets, puts, freed, usage, is_caller, share, status_of, error_of, is_allowed, idle_runs, is_held_pair, is_switched_on};
 ghost use Rattle.pm_model.specs.Derived.{is_moving};
+ghost use Rattle.pm_model.specs.Events.{held_from};
 ghost use Rattle.pm_model.specs.Lawful.{IsLawful};
 ghost use Rattle.pm_model.specs.PlanRows.{no_callbacks};
 ghost use Rattle.pm_model.specs.Views.{device, is_held, is_on};
@@ -81,4 +82,10 @@ pub fn usage_is_counted()
 pub fn share_is_counted()
     ensures given_back { (plan : Plan) (h : List Line) (d : DevId) → IsLawful plan h → d.0 < length plan.devices → (device (world plan h).views d).share + puts is_caller h d ≡ gets is_caller h d }
     ensures left { (plan : Plan) (h : List Line) (d : DevId) → IsLawful plan h → d.0 < length plan.devices → (device (world plan h).views d).share ≡ share h d }
+{}
+
+/// The counts that the held links of a consumer took on a supplier are among its usage; so a forced suspend, which
+/// gives them back, finds them there (`device_link.rst`).
+pub fn held_counts_are_taken()
+    ensures { (plan : Plan) (h : List Line) (d : DevId) (s : ℕ) → IsLawful plan h → held_from plan (world plan h).views.held d s ≤ (device (world plan h).views (record { 0 = s })).usage }
 {}
