@@ -4,6 +4,7 @@
 
 mod acting;
 mod devices;
+mod finished;
 mod going;
 mod moves;
 mod state;
