@@ -1,5 +1,5 @@
 -- What a book shows, and what its step answers (this project's own).
-use Rattle.std.specs.Prelude.{◌≡◌, ◌+◌, ◌<◌, ◌≤◌, ◌×◌, ◌^◌, ℕ, Bool, true, false, List, [], ◌∷◌, length, max, min, nat_le, not, if◌then◌else◌}
+use Rattle.std.specs.Prelude.{◌≡◌, ◌+◌, ◌<◌, ◌≤◌, ◌^◌, ℕ, Bool, true, false, List, [], ◌∷◌, Some, length, max, min, nat_le, not, if◌then◌else◌}
 use Rattle.pm_base.specs.declared.ActorId.{ActorId}
 use Rattle.pm_model.specs.declared.event.Event.{Event}
 use Rattle.pm_model.specs.declared.event.Event.TheVariants as event
@@ -45,6 +45,11 @@ moment_from h now = max (last_time h) (min now (2 ^ 62))
 -- a list that has all the lines that its plan allows
 abbrev pub is_full : Pages → Bool
 is_full p = nat_le p.plan.lines (length p.lines)
+
+-- a callback that begins is one of so many devices
+abbrev pub BeginsWithin : ℕ → Event → Type 0
+BeginsWithin n (event.Begin d k) = d.0 < n
+BeginsWithin n _ = Unit {0}
 
 -- the answer to a line that was written: of a callback's begin, which callback of its kind on the device it is
 abbrev pub written : Views → Event → Step

@@ -11,6 +11,7 @@ ghost use Rattle.pm_book.specs.Pages.{is_full, world_of};
 use crate::lines::Lines;
 use pm_base::{ActorId, NoMemory};
 use pm_device::Parts;
+use pm_laws::sizes;
 use pm_model::{Line, Plan};
 use pm_state::State;
 use pm_turns::Turns;
@@ -41,9 +42,9 @@ impl Model for Book {
 
 // The state before any line, with the turns.
 fn start_of(alloc: Global, plan: &Plan) -> Result<(State, Turns), NoMemory>
-    ensures is_of { IfOk result (λ start. IsOf plan.now start.0) }
-    ensures start { IfOk result (λ start. start.0.world ≡ start plan.now) }
-    ensures seats { IfOk result (λ start. AreOf plan.now start.1) }
+    ensures is_of { IfOk result (λ pair. IsOf plan.now pair.0) }
+    ensures start { IfOk result (λ pair. pair.0.world ≡ start plan.now) }
+    ensures seats { IfOk result (λ pair. AreOf plan.now pair.1) }
 {
     let state = State::fresh(alloc, plan)?;
     let turns = Turns::fresh(alloc, plan, &state)?;
@@ -110,6 +111,7 @@ impl Book {
     pub fn finished(&self) -> bool
         ensures { result ≡ is_finished self.now.plan (world_of self.now) }
     {
+        sizes();
         self.state.is_finished(&self.plan)
     }
 

@@ -20,9 +20,9 @@ pub record AreOf (plan : Plan) (s : Seats) : Type 0 where
   pub devices : s.devices ≡ length plan.devices
 
 -- a seat for each actor, a list of waiters for each device, and the search begins among callers and work items
-pub record AreKept (callers devices moments waiters seat now : ℕ) : Type 0 where
+pub record AreKept (callers devices moments waiters seat time : ℕ) : Type 0 where
   pub few : callers + 2 * devices < 2 ^ 32
   pub each : moments ≡ callers + 2 * devices
   pub for_each : waiters ≡ devices
   pub begins : seat ≤ callers + devices
-  pub in_time : now < 2 ^ 63
+  pub in_time : time < 2 ^ 63

@@ -26,8 +26,8 @@ impl Turns {
     pub fn next(&self) -> Option<(ActorId, u64)>
         ensures { IfSome result (λ turn. IsSeated self.now turn.0) }
     {
-        if let Some(actor) = self.turn_at(self.now) {
-            return Some((actor, self.now));
+        if let Some(actor) = self.turn_at(self.time) {
+            return Some((actor, self.time));
         }
         let later = self.moments.least()?;
         let actor = self.turn_at(later)?;

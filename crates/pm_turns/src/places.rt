@@ -49,7 +49,8 @@ impl Turns {
         ensures { result ≤ self.now.callers + self.now.devices }
     {
         match actor {
-            ActorId::Caller(_) | ActorId::Work(_) => self.place(actor) + 1,
+            ActorId::Caller(caller) => caller as usize + 1,
+            ActorId::Work(device) => self.callers + device as usize + 1,
             ActorId::Timer(_) => 0,
         }
     }

@@ -135,7 +135,7 @@ impl Turns {
         requires in_time { line.now.time < 2 ^ 63 }
         ensures { self.new ≡ self.old }
     {
-        self.now = line.time;
+        self.time = line.time;
         self.seat = self.seat_after(line.actor);
         if let Some(dev) = waits_at(stage) {
             self.leave(dev, line.actor);

@@ -24,7 +24,7 @@ pub struct Turns {
     // The seat at which the search for the next actor begins.
     pub(crate) seat: usize,
     // When the last line was written, in milliseconds of the run.
-    pub(crate) now: u64,
+    pub(crate) time: u64,
 }
 
 impl Model for Turns {
@@ -35,7 +35,7 @@ impl Model for Turns {
 
     ghost view = { λ t. record { callers = t.callers; devices = t.devices } };
 
-    ghost invariant = { λ t. AreKept t.callers t.devices (length t.moments) (length t.waiters.items) t.seat t.now };
+    ghost invariant = { λ t. AreKept t.callers t.devices (length t.moments) (length t.waiters.items) t.seat t.time };
 }
 
 // Nobody waits for any device.
@@ -79,7 +79,7 @@ impl Turns {
             moments: Moments::new(alloc, callers + 2 * devices)?,
             waiters: no_waiters(alloc, devices)?,
             seat: 0,
-            now: 0,
+            time: 0,
         };
         turns.refresh_callers(plan, state);
         Ok(turns)
@@ -103,7 +103,7 @@ impl Turns {
         requires in_range { IsActor plan.now actor }
         ensures { self.new ≡ self.old }
     {
-        let moment = wakes(plan, state, actor, self.now);
+        let moment = wakes(plan, state, actor, self.time);
         let place = self.place(actor);
         if self.moments.get(place) != moment {
             self.moments.set(place, moment);
