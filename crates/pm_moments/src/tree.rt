@@ -1,7 +1,7 @@
 //! A tree of moments, kept up to date in a logarithmic number of steps, and what is asked of it.
 
 ghost use Rattle.std.specs.Prelude.{◌≡◌, ◌+◌, ◌*◌, ◌<◌, ◌≤◌, ◌^◌, ℕ, true, false, drop, length, replicate, slice_set, IfNone, IfOk, IfSome, None};
-ghost use Rattle.pm_moments.specs.Moments.{NoneWithin, is_within, moment_of};
+ghost use Rattle.pm_moments.specs.Moments.{is_within, moment_of};
 ghost use Rattle.pm_moments.specs.Tree.{AreKept, earlier, first_leaf};
 
 use std::alloc::{AllocError, Global};

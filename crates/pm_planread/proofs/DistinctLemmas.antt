@@ -1,14 +1,10 @@
 -- Lists without repeats.
-use Rattle.std.proofs.Common.{◌≡◌, ℕ, zero, suc, ◌+◌, ◌<◌, ◌≤◌, Bool, true, false, not, ◌&&◌, List, [], ◌∷◌, length, get_or, Option, Some, None, nat_lt, if◌then◌else◌, position, refl, sym, ap, ◌∙◌, arith}
-use Rattle.std.proofs.lemmas.Bool.{and_from, false_from_ne_true, true≢false}
+use Rattle.std.proofs.Common.{◌≡◌, ℕ, suc, ◌<◌, ◌≤◌, Bool, true, false, List, [], ◌∷◌, length, get_or, Some, None, nat_lt, if◌then◌else◌, position, refl, arith}
 use Rattle.std.proofs.lemmas.Bool.Decides.{nat_tests}
 use Rattle.std.proofs.lemmas.List.Sums.{fails_before_first}
 use Rattle.std.specs.List.{list_any, position_or_len}
 use Rattle.pm_model.specs.IsPlan.{are_distinct}
-use Rattle.pm_plantree.specs.Places.{first_fault}
-use Rattle.pm_plantree.specs.declared.place.Place.{Place}
-use Rattle.pm_planread.proofs.FaultLemmas.{none_at}
-use Rattle.pm_planread.specs.Names.{is_earlier}
+use Rattle.pm_planrows.specs.Names.{is_earlier}
 
 none_passes : {A : Type 0} (p : A → Bool) (xs : List A) → ((j : ℕ) (d : A) → j < length xs → p (get_or xs j d) ≡ false) → list_any p xs ≡ false
 none_passes p [] fails = refl

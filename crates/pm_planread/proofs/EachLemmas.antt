@@ -1,5 +1,5 @@
 -- The lists of a plan that isn't refused.
-use Rattle.std.proofs.Common.{◌≡◌, ℕ, suc, ◌+◌, ◌<◌, ◌≤◌, Bool, true, false, not, ◌&&◌, ◌||◌, List, [], ◌∷◌, length, map, Option, Some, None, is_some, nat_le, nat_lt, le-leb, refl, sym, ap, ◌∙◌, arith}
+use Rattle.std.proofs.Common.{◌≡◌, ℕ, suc, ◌≤◌, Bool, true, false, not, ◌&&◌, ◌||◌, List, [], ◌∷◌, length, map, Option, Some, None, is_some, nat_le, nat_lt, le-leb, refl, sym, ◌∙◌, arith}
 use Rattle.std.specs.List.{filter_map, list_all}
 use Rattle.std.specs.Option.{option_map_or}
 use Rattle.std.proofs.lemmas.Bool.{and_from, and_parts}
@@ -15,14 +15,14 @@ use Rattle.pm_plantree.specs.declared.raw.RawDomain.{RawDomain}
 use Rattle.pm_plantree.specs.declared.raw.RawDevice.{RawDevice}
 use Rattle.pm_plantree.specs.declared.raw.RawLink.{RawLink}
 use Rattle.pm_plantree.specs.declared.raw.RawCaller.{RawCaller}
-use Rattle.pm_planread.proofs.FaultLemmas.{each_all, each_both, each_map, each_of, right}
+use Rattle.pm_planrows.proofs.FaultLemmas.{each_all, each_both, each_map, each_of, right}
 use Rattle.pm_planread.proofs.LinkLemmas.{link_ok}
 use Rattle.pm_planread.proofs.RowLemmas.{device_ok, domain_ok, false_not, not_false, not_true}
-use Rattle.pm_planread.specs.Names.{bad_name, first_bad_name, is_name_in, is_unknown, link_unknown}
-use Rattle.pm_planread.specs.Orders.{device_later, domain_later, idle_consumer, idle_in_domain, link_later}
-use Rattle.pm_planread.specs.Rows.{device_row, domain_row, link_row}
+use Rattle.pm_planrows.specs.Names.{bad_name, first_bad_name, is_name_in, is_unknown, link_unknown}
+use Rattle.pm_planrows.specs.Orders.{device_later, domain_later, idle_consumer, idle_in_domain, link_later}
+use Rattle.pm_planrows.specs.Rows.{device_row, domain_row, link_row}
 use Rattle.pm_planread.specs.Scripts.{are_commands, caller_row, commands_in}
-use Rattle.pm_planread.specs.TooMany.{has_many_codes, has_many_commands}
+use Rattle.pm_planrows.specs.TooMany.{has_many_codes, has_many_commands}
 
 named_each : (section : Section) (names : List (List ℕ)) → first_bad_name section names ≡ None → each_at (λ i name. is_name_in section name) 0 names ≡ true
 named_each section names none =

@@ -1,7 +1,6 @@
 -- A plan that isn't refused for too many items has few, and no list of codes or commands that is too long.
-use Rattle.std.proofs.Common.{◌≡◌, ◌≢◌, ℕ, ◌+◌, ◌<◌, ◌≤◌, Bool, true, false, not, List, [], ◌∷◌, length, get_or, Option, Some, None, refl, sym, ap, ◌∙◌, nat_lt, nat_le, arith}
+use Rattle.std.proofs.Common.{◌≡◌, ℕ, ◌+◌, ◌<◌, ◌≤◌, Bool, true, false, not, List, [], ◌∷◌, length, Option, None, refl, arith}
 use Rattle.std.proofs.lemmas.Bool.Decides.{nat_tests}
-use Rattle.std.specs.Option.{option_or}
 use Rattle.pm_base.specs.declared.limits.TheConstants.{MAX_CALLERS, MAX_CODES, MAX_COMMANDS, MAX_DEVICES, MAX_DOMAINS, MAX_LINKS}
 use Rattle.pm_model.specs.IsPlan.{each_at}
 use Rattle.pm_plantree.specs.Places.{first_fault}
@@ -11,9 +10,9 @@ use Rattle.pm_plantree.specs.declared.place.Section.TheVariants.{Domain, Device,
 use Rattle.pm_plantree.specs.declared.raw.RawDevice.{RawDevice}
 use Rattle.pm_plantree.specs.declared.raw.RawCaller.{RawCaller}
 use Rattle.pm_plantree.specs.declared.raw.RawPlan.{RawPlan}
-use Rattle.pm_planread.proofs.FaultLemmas.{each_of, neither, none_at}
-use Rattle.pm_planread.specs.Few.{AreFew}
-use Rattle.pm_planread.specs.TooMany.{caller_too_many, device_too_many, has_many_codes, has_many_commands, item_too_many, past_limit, too_many_fault}
+use Rattle.pm_planrows.proofs.FaultLemmas.{each_of, neither}
+use Rattle.pm_planrows.specs.Few.{AreFew}
+use Rattle.pm_planrows.specs.TooMany.{caller_too_many, device_too_many, has_many_codes, has_many_commands, item_too_many, past_limit, too_many_fault}
 
 within_limit : (section : Section) (limit count : ℕ) → past_limit section limit count ≡ None → count ≤ limit
 within_limit section limit count none = grind (arith, nat_tests)

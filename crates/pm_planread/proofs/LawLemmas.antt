@@ -1,31 +1,30 @@
 -- The rows of a plan that isn't refused are those of a plan.
-use Rattle.std.proofs.Common.{◌≡◌, ℕ, ◌≤◌, Bool, true, ◌&&◌, None, Ok, List, length, map, nat_le, le-leb, refl, sym, ap, ◌∙◌, arith}
+use Rattle.std.proofs.Common.{◌≡◌, ℕ, ◌≤◌, true, None, Ok, List, length, map, nat_le, le-leb, refl, sym, ap, ◌∙◌, arith}
 use Rattle.std.specs.List.{list_all}
 use Rattle.std.proofs.lemmas.Bool.{and_from}
 use Rattle.std.proofs.lemmas.List.{length-map}
-use Rattle.std.specs.Str.{bytes_eq}
 use Rattle.pm_base.specs.declared.limits.TheConstants.{MAX_LINES, MAX_DOMAINS, MAX_DEVICES, MAX_LINKS, MAX_CALLERS}
-use Rattle.pm_model.specs.IsPlan.{are_distinct, is_plan}
+use Rattle.pm_model.specs.IsPlan.{is_plan}
 use Rattle.pm_model.specs.declared.rows.DomainRow.{DomainRow}
 use Rattle.pm_model.specs.declared.rows.DeviceRow.{DeviceRow}
 use Rattle.pm_model.specs.declared.rows.LinkRow.{LinkRow}
 use Rattle.pm_model.specs.declared.rows.CallerRow.{CallerRow}
 use Rattle.pm_plantree.specs.Places.{first_fault}
-use Rattle.pm_plantree.specs.declared.place.Section.TheVariants.{Domain, Device, Link, Caller}
+use Rattle.pm_plantree.specs.declared.place.Section.TheVariants.{Domain, Device, Caller}
 use Rattle.pm_plantree.specs.declared.raw.RawCaller.{RawCaller}
 use Rattle.pm_plantree.specs.declared.raw.RawPlan.{RawPlan}
 use Rattle.pm_planread.proofs.EachLemmas.{callers_each, devices_each, domains_each, links_each}
-use Rattle.pm_planread.proofs.FaultLemmas.{neither}
-use Rattle.pm_planread.proofs.FewLemmas.{Short, short_of}
+use Rattle.pm_planrows.proofs.FaultLemmas.{neither}
+use Rattle.pm_planread.proofs.FewLemmas.{short_of}
 use Rattle.pm_planread.proofs.LinkLemmas.{distinct_links, distinct_names}
 use Rattle.pm_planread.proofs.RangeLemmas.{at_least, at_most}
 use Rattle.pm_planread.proofs.RowLemmas.{names_of_callers, names_of_domains, names_of_rows}
 use Rattle.pm_planread.specs.Named.{AreNamed, AreOrdered}
-use Rattle.pm_planread.specs.Names.{caller_names, device_names, device_unknown, domain_names, domain_unknown, first_bad_name, first_repeat, link_unknown, name_fault, repeat_fault, repeated_link, unknown_fault}
-use Rattle.pm_planread.specs.Numbers.{code_fault, number_fault}
-use Rattle.pm_planread.specs.Orders.{device_later, domain_fault, domain_later, idle_consumer, idle_in_domain, later_fault, link_fault, link_later}
-use Rattle.pm_planread.specs.PlanOf.{Contents, contents_in, counted_plan}
-use Rattle.pm_planread.specs.Rows.{device_row, device_rows, domain_row, domain_rows, link_row, link_rows, natural_within}
+use Rattle.pm_planrows.specs.Names.{caller_names, device_names, device_unknown, domain_names, domain_unknown, first_bad_name, first_repeat, link_unknown, name_fault, repeat_fault, repeated_link, unknown_fault}
+use Rattle.pm_planrows.specs.Numbers.{code_fault, number_fault}
+use Rattle.pm_planrows.specs.Orders.{device_later, domain_fault, domain_later, idle_consumer, idle_in_domain, later_fault, link_fault, link_later}
+use Rattle.pm_planread.specs.PlanOf.{contents_in, counted_plan}
+use Rattle.pm_planrows.specs.Rows.{device_row, device_rows, domain_row, domain_rows, link_row, link_rows, natural_within}
 use Rattle.pm_planread.specs.Scripts.{are_commands, caller_row, caller_rows, script_fault}
 
 -- the parts of the refusals

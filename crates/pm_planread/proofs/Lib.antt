@@ -1,6 +1,4 @@
-pub mod FaultLemmas
-pub mod PositionLemmas
-pub mod NameLemmas
+pub mod MessageLemmas
 pub mod FewLemmas
 pub mod DistinctLemmas
 pub mod RangeLemmas

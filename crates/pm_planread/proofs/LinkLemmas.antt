@@ -1,5 +1,5 @@
 -- The links of a plan that isn't refused.
-use Rattle.std.proofs.Common.{◌≡◌, ◌≢◌, ℕ, ◌+◌, ◌<◌, ◌≤◌, Bool, true, false, not, ◌&&◌, ◌||◌, List, [], ◌∷◌, length, map, get_or, Option, Some, None, is_none, nat_eq, nat_le, nat_lt, position, slice_get, unwrap_or, refl, sym, ap, ◌∙◌, arith}
+use Rattle.std.proofs.Common.{◌≡◌, ℕ, Bool, true, false, ◌&&◌, ◌||◌, List, [], ◌∷◌, length, map, get_or, Option, Some, None, is_none, nat_eq, nat_le, nat_lt, position, unwrap_or, refl, sym, ap, ◌∙◌, arith}
 use Rattle.std.specs.List.{list_any}
 use Rattle.std.specs.Option.{option_map_or}
 use Rattle.std.specs.Str.{bytes_eq}
@@ -15,11 +15,11 @@ use Rattle.pm_plantree.specs.declared.place.Section.{Section}
 use Rattle.pm_plantree.specs.declared.place.Section.TheVariants.{Link}
 use Rattle.pm_plantree.specs.declared.raw.RawLink.{RawLink}
 use Rattle.pm_planread.proofs.DistinctLemmas.{distinct_by_place, none_before}
-use Rattle.pm_planread.proofs.FaultLemmas.{none_at, right}
-use Rattle.pm_planread.proofs.PositionLemmas.{place_below}
+use Rattle.pm_planrows.proofs.FaultLemmas.{none_at, right}
+use Rattle.pm_planrows.proofs.PositionLemmas.{place_below}
 use Rattle.pm_planread.proofs.RowLemmas.{false_not}
-use Rattle.pm_planread.specs.Names.{first_repeat, is_earlier, is_same_link, is_unknown, link_unknown, repeated_link, repeated_name}
-use Rattle.pm_planread.specs.Rows.{link_row}
+use Rattle.pm_planrows.specs.Names.{first_repeat, is_earlier, is_same_link, is_unknown, link_unknown, repeated_link, repeated_name}
+use Rattle.pm_planrows.specs.Rows.{link_row}
 
 either_parts : (a b : Bool) → (a || b) ≡ false → (a ≡ false) × (b ≡ false)
 either_parts false b neither = (refl, neither)

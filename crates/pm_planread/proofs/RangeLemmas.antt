@@ -1,12 +1,12 @@
 -- Numbers and codes that are in their ranges by the way they are made.
-use Rattle.std.proofs.Common.{◌≡◌, ℕ, suc, ◌≤◌, Bool, true, false, ◌&&◌, not, List, [], ◌∷◌, ℤ, pos, negsuc, length, filter, nat_lt, nat_le, le-leb, refl, sym, ap, ◌∙◌, arith}
+use Rattle.std.proofs.Common.{◌≡◌, ℕ, suc, ◌≤◌, Bool, true, false, List, [], ◌∷◌, ℤ, pos, negsuc, length, filter, nat_lt, nat_le, le-leb, refl, arith}
 use Rattle.std.proofs.lemmas.Bool.{and_from}
 use Rattle.std.proofs.lemmas.Bool.Decides.{nat_tests}
 use Rattle.std.specs.List.{list_all}
-use Rattle.pm_base.specs.declared.limits.TheConstants.{MAX_CODES, MAX_MS}
+use Rattle.pm_base.specs.declared.limits.TheConstants.{MAX_CODES}
 use Rattle.pm_model.specs.IsPlan.{are_codes, is_code}
-use Rattle.pm_planread.specs.Rows.{codes_of, is_within, natural_within}
-use Rattle.pm_planread.specs.TooMany.{are_many_codes}
+use Rattle.pm_planrows.specs.Rows.{codes_of, natural_within}
+use Rattle.pm_planrows.specs.TooMany.{are_many_codes}
 
 pub at_most : (low high : ℕ) (n : ℤ) → low ≤ high → nat_le (natural_within low high n) high ≡ true
 at_most low high (pos n) ordered = grind (arith, nat_tests)

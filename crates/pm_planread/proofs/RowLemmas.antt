@@ -1,8 +1,7 @@
 -- The rows of a plan that isn't refused, one by one.
-use Rattle.std.proofs.Common.{◌≡◌, ℕ, ◌+◌, ◌<◌, ◌≤◌, Bool, true, false, not, ◌&&◌, ◌||◌, ℤ, List, [], ◌∷◌, length, map, Option, Some, None, is_some, is_none, nat_le, nat_lt, option_and_then, option_map, refl, sym, ap, ◌∙◌, arith}
-use Rattle.std.proofs.lemmas.Bool.{and_from, and_parts}
+use Rattle.std.proofs.Common.{◌≡◌, ℕ, Bool, true, false, not, ◌&&◌, ◌||◌, ℤ, List, [], ◌∷◌, length, map, Option, Some, None, is_some, nat_le, nat_lt, option_and_then, option_map, refl, ap, arith}
+use Rattle.std.proofs.lemmas.Bool.{and_from}
 use Rattle.std.proofs.lemmas.Bool.Decides.{nat_tests}
-use Rattle.std.proofs.lemmas.List.{length-map}
 use Rattle.std.specs.Option.{option_map_or}
 use Rattle.pm_base.specs.declared.DevId.{DevId}
 use Rattle.pm_base.specs.declared.DomId.{DomId}
@@ -13,12 +12,12 @@ use Rattle.pm_plantree.specs.declared.raw.RawDomain.{RawDomain}
 use Rattle.pm_plantree.specs.declared.raw.RawDevice.{RawDevice}
 use Rattle.pm_plantree.specs.declared.raw.RawCaller.{RawCaller}
 use Rattle.pm_plantree.specs.declared.raw.RawPlan.{RawPlan}
-use Rattle.pm_planread.proofs.PositionLemmas.{place_below}
+use Rattle.pm_planrows.proofs.PositionLemmas.{place_below}
 use Rattle.pm_planread.proofs.RangeLemmas.{at_most, codes_are}
-use Rattle.pm_planread.specs.Names.{caller_names, device_names, domain_names}
+use Rattle.pm_planrows.specs.Names.{caller_names, device_names, domain_names}
 use Rattle.pm_planread.specs.Scripts.{caller_row, caller_rows}
-use Rattle.pm_planread.specs.Rows.{codes_of, device_of, device_row, device_rows, domain_of, domain_row, domain_rows, ms_of}
-use Rattle.pm_planread.specs.TooMany.{are_many_codes, has_many_codes}
+use Rattle.pm_planrows.specs.Rows.{codes_of, device_of, device_row, device_rows, domain_of, domain_row, domain_rows, ms_of}
+use Rattle.pm_planrows.specs.TooMany.{are_many_codes, has_many_codes}
 
 names_of_list : (domains devices : List (List ℕ)) (rows : List RawDevice) → map (λ row. row.name) (map (device_row domains devices) rows) ≡ map (λ row. row.name) rows
 unfolding device_row

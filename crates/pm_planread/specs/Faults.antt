@@ -1,15 +1,9 @@
--- Faults of a plan's items, and the first of several refusals (this project's own).
-use Rattle.std.specs.Prelude.{ℕ, Bool, Option, Some, None, Result, Ok, Err, if◌then◌else◌}
-use Rattle.pm_plantree.specs.Places.{place}
+-- The first of several refusals (this project's own).
+use Rattle.std.specs.Prelude.{Option, Some, None, Result, Err}
 use Rattle.pm_plantree.specs.declared.place.Place.{Place}
-use Rattle.pm_plantree.specs.declared.place.Section.{Section}
 use Rattle.pm_planread.specs.declared.refusal.PlanFault.{PlanFault}
 use Rattle.pm_planread.specs.declared.refusal.PlanFault.TheVariants.{Refused}
 use Rattle.pm_planread.specs.declared.refusal.PlanWhy.{PlanWhy}
-
--- the item, where something is wrong with it
-abbrev pub fault_if : Section → ℕ → Bool → Option Place
-fault_if section i wrong = if wrong then Some (place section i 0) else None
 
 abbrev pub refused : PlanWhy → Place → PlanFault
 refused why at = Refused why at.section at.item at.part

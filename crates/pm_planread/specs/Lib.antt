@@ -1,10 +1,6 @@
+pub mod WhyWords
+pub mod Messages
 pub mod Faults
-pub mod Few
-pub mod TooMany
-pub mod Names
-pub mod Rows
-pub mod Orders
-pub mod Numbers
 pub mod Scripts
 pub mod Named
 pub mod PlanOf

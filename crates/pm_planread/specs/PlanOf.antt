@@ -16,14 +16,14 @@ use Rattle.pm_plantree.specs.Tree.{document}
 use Rattle.pm_plantree.specs.declared.place.Section.TheVariants.{Top}
 use Rattle.pm_plantree.specs.declared.raw.RawPlan.{RawPlan}
 use Rattle.pm_planread.specs.Faults.{refused, unless}
-use Rattle.pm_planread.specs.Names.{device_names, name_fault, repeat_fault, unknown_fault}
-use Rattle.pm_planread.specs.Numbers.{code_fault, number_fault}
-use Rattle.pm_planread.specs.Orders.{domain_fault, later_fault, link_fault}
-use Rattle.pm_planread.specs.Rows.{device_rows, domain_rows, link_rows, natural_within}
+use Rattle.pm_planrows.specs.Names.{device_names, name_fault, repeat_fault, unknown_fault}
+use Rattle.pm_planrows.specs.Numbers.{code_fault, number_fault}
+use Rattle.pm_planrows.specs.Orders.{domain_fault, later_fault, link_fault}
+use Rattle.pm_planrows.specs.Rows.{device_rows, domain_rows, link_rows, natural_within}
 use Rattle.pm_planread.specs.Scripts.{caller_rows, script_fault}
-use Rattle.pm_planread.specs.TooMany.{too_many_fault}
+use Rattle.pm_planrows.specs.TooMany.{too_many_fault}
 use Rattle.pm_planread.specs.declared.refusal.PlanFault.{PlanFault}
-use Rattle.pm_planread.specs.declared.refusal.PlanFault.TheVariants.{Refused, NoMemory}
+use Rattle.pm_planread.specs.declared.refusal.PlanFault.TheVariants.{NoMemory}
 use Rattle.pm_planread.specs.declared.refusal.PlanWhy.TheVariants as why
 
 -- what stands in a plan

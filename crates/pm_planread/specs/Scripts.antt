@@ -1,6 +1,6 @@
 -- The refusal `script`: a command that isn't one over the plan's devices (this project's own). The part is its place in the
 -- script.
-use Rattle.std.specs.Prelude.{ℕ, Bool, List, Option, Ok, is_err, map, option_map}
+use Rattle.std.specs.Prelude.{ℕ, Bool, List, Option, is_err, map, option_map}
 use Rattle.std.specs.List.{filter_map, list_all}
 use Rattle.std.specs.Result.{result_ok}
 use Rattle.pm_model.specs.IsPlan.{is_command}
@@ -11,7 +11,7 @@ use Rattle.pm_plantree.specs.declared.place.Place.{Place}
 use Rattle.pm_plantree.specs.declared.place.Section.TheVariants.{Caller}
 use Rattle.pm_plantree.specs.declared.raw.RawCaller.{RawCaller}
 use Rattle.pm_plantree.specs.declared.raw.RawPlan.{RawPlan}
-use Rattle.pm_planread.specs.Names.{device_names}
+use Rattle.pm_planrows.specs.Names.{device_names}
 use Rattle.pm_script.specs.Command.{command_of}
 
 abbrev pub is_no_command : List (List ℕ) → List ℕ → Bool

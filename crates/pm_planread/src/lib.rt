@@ -1,23 +1,19 @@
 //! Reads plans (this project's own).
 //!
 //! A plan's text is read in layers. `pm_plantree` reads its tree, looks at its keys and kinds and
-//! takes out its rows, which name what they speak of. Here the rows are counted, their names are
-//! looked at and indexed, the names become places, and the scripts are read last, over the devices.
-//! Each layer refuses before the next is looked at.
+//! takes out its rows, which name what they speak of. `pm_planrows` counts the rows, looks at their
+//! names and makes places of them. Here each layer refuses before the next is looked at, and the
+//! scripts are read last, over the devices.
 #![tactic(auto)]
 
-mod codes;
-mod many;
-mod name_faults;
-mod names;
-mod orders;
+mod messages;
 mod read;
 mod refusal;
-mod rows;
 mod scripts;
 #[cfg(test)]
 mod tests;
 
+pub use messages::{Message, refusal_message};
 pub use pm_plantree::Section;
 pub use read::read_plan;
 pub use refusal::{PlanFault, PlanWhy};

@@ -2,22 +2,21 @@
 
 ghost use Rattle.std.specs.Prelude.{◌≡◌, Ok, IfErr, IfOk};
 ghost use Rattle.toml.specs.View.{table_view};
-ghost use Rattle.pm_planread.specs.Few.{AreFew};
+ghost use Rattle.pm_planrows.specs.Few.{AreFew};
 ghost use Rattle.pm_planread.specs.Named.{AreNamed, AreOrdered};
-ghost use Rattle.pm_planread.specs.Names.{AreNamesOf};
-ghost use Rattle.pm_planread.specs.Rows.{device_rows, domain_rows, link_rows, natural_within};
+ghost use Rattle.pm_planrows.specs.Names.{AreNamesOf};
+ghost use Rattle.pm_planrows.specs.Rows.{device_rows, domain_rows, link_rows, natural_within};
 ghost use Rattle.pm_planread.specs.PlanOf.{IsFaultOf, contents_of, counted_plan, named_plan, ordered_plan, plan_of, tree_plan};
 
-use crate::codes::{code_fault, number_fault};
-use crate::many::too_many_fault;
-use crate::name_faults::{name_fault, repeat_fault, unknown_fault};
-use crate::names::{Names, names_of};
-use crate::orders::{domain_fault, later_fault, link_fault};
 use crate::refusal::{PlanFault, PlanWhy, refuse, refused};
-use crate::rows::{device_rows, domain_rows, link_rows, natural_within};
 use crate::scripts::{caller_rows, script_fault};
 use pm_base::{MAX_LINES, PLAN_BYTES};
 use pm_model::{DeviceList, DomainList, LinkList, Plan};
+use pm_planrows::names::{Names, names_of};
+use pm_planrows::{
+    code_fault, device_rows, domain_fault, domain_rows, later_fault, link_fault, link_rows,
+    name_fault, natural_within, number_fault, repeat_fault, too_many_fault, unknown_fault,
+};
 use pm_plantree::{Place, RawPlan, Section, document, key_fault, kind_fault, raw_plan};
 use std::alloc::Global;
 use toml::Table;

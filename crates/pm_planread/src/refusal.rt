@@ -2,12 +2,12 @@
 
 ghost use Rattle.std.specs.Prelude.{◌≡◌, Ok, OnOk};
 ghost use Rattle.pm_planread.specs.Faults.{refused, unless};
+ghost use Rattle.pm_planread.specs.WhyWords.{why_word};
 ghost use Rattle.pm_planread.specs.declared.refusal.PlanFault.TheVariants.{NoMemory};
 
 use pm_base::NoMemory;
 use pm_plantree::{Place, Section};
 use std::alloc::AllocError;
-use std::fmt;
 
 /// Why a plan is refused, in the order in which the whole plan is looked at (this project's own).
 #[derive(Clone, Copy, Debug, PartialEq, Eq)]
@@ -44,7 +44,9 @@ pub enum PlanWhy {
 
 impl PlanWhy {
     /// Its word in messages.
-    pub fn word(self) -> &'static str {
+    pub fn word(self) -> &'static str
+        ensures { result.now ≡ why_word self }
+    {
         match self {
             PlanWhy::TooLong => "too_long",
             PlanWhy::NotToml => "not_toml",
@@ -64,12 +66,6 @@ impl PlanWhy {
     }
 }
 
-impl fmt::Display for PlanWhy {
-    fn fmt<W: fmt::Write>(&self, f: &mut fmt::Formatter<W>) -> fmt::Result {
-        f.write_str(self.word())
-    }
-}
-
 /// Why a plan isn't read (this project's own).
 #[derive(Clone, Copy, Debug, PartialEq, Eq)]
 pub enum PlanFault {
@@ -83,22 +79,6 @@ pub enum PlanFault {
     /// Memory ran out.
     NoMemory,
 }
-
-impl fmt::Display for PlanFault {
-    fn fmt<W: fmt::Write>(&self, f: &mut fmt::Formatter<W>) -> fmt::Result {
-        match self {
-            PlanFault::Refused {
-                why,
-                section,
-                item,
-                part,
-            } => write!(f, "plan: {why} {section} {item} {part}"),
-            PlanFault::NoMemory => f.write_str("memory"),
-        }
-    }
-}
-
-impl std::error::Error for PlanFault {}
 
 impl From<NoMemory> for PlanFault {
     ghost from_gives = { λ _ fault. fault ≡ NoMemory };

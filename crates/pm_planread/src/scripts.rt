@@ -7,9 +7,9 @@ ghost use Rattle.pm_model.specs.IsPlan.{is_command};
 ghost use Rattle.pm_plantree.specs.Places.{first_fault, first_place};
 ghost use Rattle.pm_planread.specs.Scripts.{are_commands, bad_command, caller_row, commands_in, is_no_command, script_fault};
 
-use crate::names::copied;
 use pm_base::NoMemory;
 use pm_model::{CallerList, CallerRow, Command, DeviceList, Items, Name, NamedList};
+use pm_planrows::names::copied;
 use pm_plantree::{Place, RawCaller, Section};
 use pm_script::read_command_of;
 use std::alloc::Global;

@@ -7,11 +7,11 @@ use std::alloc::Global;
 use std::process::Abort;
 use std::test::Fail;
 
-// What is said of a text: `ok`, or the message of its refusal.
-fn answer(alloc: Global, text: &[u8]) -> Result<String, Fail> {
+// What is said of a text: `ok`, or the message of its fault.
+fn answer(alloc: Global, text: &[u8]) -> Result<Vec<u8>, Fail> {
     match read_plan(alloc, text) {
-        Ok(_plan) => Ok(String::from_str(alloc, "ok")?),
-        Err(fault) => Ok(format!(in alloc; "{fault}")?),
+        Ok(_plan) => Ok(Vec::from_slice(alloc, b"ok")?),
+        Err(fault) => Ok(Vec::from_slice(alloc, fault.message().as_slice())?),
     }
 }
 
@@ -19,7 +19,7 @@ fn answer(alloc: Global, text: &[u8]) -> Result<String, Fail> {
 fn plan(alloc: Global, text: &str) -> Result<Plan, Fail> {
     match read_plan(alloc, text.as_bytes()) {
         Ok(plan) => Ok(plan),
-        Err(fault) => Err(format!(in alloc; "{fault}")?.into()),
+        Err(fault) => Err(format!(in alloc; "{fault:?}")?.into()),
     }
 }
 
@@ -29,90 +29,114 @@ const DEVICES: &str = "[[device]]\nname = \"a\"\n[[device]]\nname = \"b\"\n";
 fn answered(rt: &(impl Abort + AllocGlobal), cases: &[(&str, &str)]) -> Result<(), Fail> {
     for (text, wanted) in cases {
         let said = answer(rt.alloc(), text.as_bytes())?;
-        assert_eq!(rt; said.as_str(), *wanted, "{text:?}");
+        assert_eq!(rt; said.as_slice(), wanted.as_bytes(), "{text:?}");
     }
     Ok(())
 }
 
-static REFUSALS: [(&str, &str); 33] = [
-    ("[[device", "plan: not_toml top 0 0"),
-    ("lines = 9223372036854775808", "plan: not_toml top 0 0"),
-    ("x = 1", "plan: key top 0 0"),
-    ("lines = \"5\"\ntrade = 1", "plan: key top 1 0"),
-    ("[[device]]\nbusy = true\nnime = 1", "plan: key device 0 1"),
-    ("[[device]]\nbusy = true", "plan: key device 0 1"),
+static REFUSALS: [(&str, &str); 39] = [
+    ("[[device", "plan: not_toml top 0 0\n"),
+    ("lines = 9223372036854775808", "plan: not_toml top 0 0\n"),
+    ("x = 1\nlines =", "plan: not_toml top 0 0\n"),
+    ("x = 1", "plan: key top 0 0\n"),
+    ("lines = \"5\"\ntrade = 1", "plan: key top 1 0\n"),
+    (
+        "[[device]]\nbusy = true\nnime = 1",
+        "plan: key device 0 1\n",
+    ),
+    ("[[device]]\nbusy = true", "plan: key device 0 1\n"),
     (
         "device = [1, {name = \"a\", x = 1}]",
-        "plan: key device 1 1",
+        "plan: key device 1 1\n",
     ),
-    ("[[link]]\nsupplier = \"a\"", "plan: key link 0 1"),
-    ("lines = \"5\"", "plan: kind top 0 0"),
-    ("[device]\nname = \"a\"", "plan: kind top 0 0"),
-    ("device = [{name = \"\"}, 1]", "plan: kind device 1 0"),
+    ("[[link]]\nsupplier = \"a\"", "plan: key link 0 1\n"),
+    ("lines = \"5\"", "plan: kind top 0 0\n"),
+    ("[device]\nname = \"a\"", "plan: kind top 0 0\n"),
+    ("device = [{name = \"\"}, 1]", "plan: kind device 1 0\n"),
     (
         "[[device]]\nname = \"a\"\nidle = [0, 1.5]",
-        "plan: kind device 0 0",
+        "plan: kind device 0 0\n",
     ),
     (
         "[[caller]]\nname = \"c.d\"\nscript = [1]",
-        "plan: kind caller 0 1",
+        "plan: kind caller 0 1\n",
     ),
-    ("[[device]]\nname = \"\"", "plan: name device 0 0"),
+    ("[[device]]\nname = \"\"", "plan: name device 0 0\n"),
     (
         "[[caller]]\nname = \"c.d\"\n[[domain]]\nname = \"m n\"",
-        "plan: name domain 0 0",
+        "plan: name domain 0 0\n",
     ),
-    ("[[caller]]\nname = \"c.d\"", "plan: name caller 0 0"),
+    (
+        "[[device]]\nname = \"a\"\n[[device]]\nname = \"a\"\n[[caller]]\nname = \"c.d\"",
+        "plan: name caller 0 0\n",
+    ),
+    ("[[caller]]\nname = \"c.d\"", "plan: name caller 0 0\n"),
     (
         "[[device]]\nname = \"a\"\nparent = \"z\"\n[[device]]\nname = \"a\"",
-        "plan: repeat device 1 0",
+        "plan: repeat device 1 0\n",
     ),
     (
         "[[link]]\nconsumer = \"z\"\nsupplier = \"z\"\n[[link]]\nconsumer = \"z\"\nsupplier = \"z\"",
-        "plan: repeat link 1 0",
+        "plan: repeat link 1 0\n",
     ),
     (
         "[[device]]\nname = \"a\"\ndomain = \"m\"",
-        "plan: unknown device 0 0",
+        "plan: unknown device 0 0\n",
     ),
     (
         "[[domain]]\nname = \"m\"\nparent = \"m\"\n[[domain]]\nname = \"n\"\nparent = \"o\"",
-        "plan: unknown domain 1 0",
+        "plan: unknown domain 1 0\n",
     ),
     (
         "[[device]]\nname = \"k\"\nparent = \"p\"\n[[device]]\nname = \"p\"",
-        "plan: later device 0 0",
+        "plan: later device 0 0\n",
     ),
     (
         "lines = 0\n[[domain]]\nname = \"m\"\nparent = \"m\"",
-        "plan: later domain 0 0",
+        "plan: later domain 0 0\n",
     ),
     (
         "[[domain]]\nname = \"m\"\n[[device]]\nname = \"a\"\ndomain = \"m\"\nno_callbacks = true",
-        "plan: no_callbacks_with_domain device 0 0",
+        "plan: no_callbacks_with_domain device 0 0\n",
     ),
-    ("lines = 0", "plan: number top 0 0"),
-    ("lines = 200001\ntrace = 3", "plan: number top 0 0"),
-    ("lines = 200000\ntrace = 3", "plan: number top 1 0"),
+    (
+        "lines = 0\n[[domain]]\nname = \"m\"\n[[device]]\nname = \"a\"\n[[device]]\nname = \"k\"\ndomain = \"m\"\nno_callbacks = true\n[[link]]\nconsumer = \"k\"\nsupplier = \"a\"",
+        "plan: no_callbacks_with_domain device 1 0\n",
+    ),
+    (
+        "lines = 0\n[[device]]\nname = \"a\"\n[[device]]\nname = \"k\"\nno_callbacks = true\n[[link]]\nconsumer = \"k\"\nsupplier = \"a\"",
+        "plan: no_callbacks_with_link link 0 0\n",
+    ),
+    ("lines = 0", "plan: number top 0 0\n"),
+    ("lines = 200001\ntrace = 3", "plan: number top 0 0\n"),
+    ("lines = 200000\ntrace = 3", "plan: number top 1 0\n"),
     (
         "[[device]]\nname = \"a\"\nresume_ms = 1000001\nidle = [1]",
-        "plan: number device 0 0",
+        "plan: number device 0 0\n",
     ),
     (
         "[[device]]\nname = \"a\"\nresume = [0, -13]",
-        "plan: code device 0 1",
+        "plan: code device 0 1\n",
     ),
     (
         "[[device]]\nname = \"a\"\nsuspend = [0, 0, 1]\nresume = [-4096]",
-        "plan: code device 0 2",
+        "plan: code device 0 2\n",
     ),
     (
         "[[caller]]\nname = \"c\"\nscript = [\"delay 1\", \"get a\"]",
-        "plan: script caller 0 1",
+        "plan: script caller 0 1\n",
     ),
     (
         "[[caller]]\nname = \"c\"\n[[caller]]\nname = \"d\"\nscript = [\"\"]",
-        "plan: script caller 1 0",
+        "plan: script caller 1 0\n",
+    ),
+    (
+        "[[device]]\nname = \"a\"\nidle = [0, 1]\n[[caller]]\nname = \"c\"\nscript = [\"\"]",
+        "plan: code device 0 1\n",
+    ),
+    (
+        "[[caller]]\nname = \"c\"\nscript = [\"delay 1\", \"get\", \"\"]\n[[caller]]\nname = \"d\"\nscript = [\"\"]",
+        "plan: script caller 0 1\n",
     ),
     ("", "ok"),
     ("device = []\nlines = 200000", "ok"),
@@ -122,8 +146,8 @@ static REFUSALS: [(&str, &str); 33] = [
 fn refusals_have_their_places(rt: HostRuntime) -> Result<(), Fail> {
     answered(&rt, &REFUSALS)?;
     assert_eq!(rt;
-        answer(rt.alloc(), b"\xff")?.as_str(),
-        "plan: not_toml top 0 0"
+        answer(rt.alloc(), b"\xff")?.as_slice(),
+        b"plan: not_toml top 0 0\n".as_slice()
     );
     Ok(())
 }
@@ -131,23 +155,23 @@ fn refusals_have_their_places(rt: HostRuntime) -> Result<(), Fail> {
 static LINKS: [(&str, &str); 7] = [
     (
         "[[link]]\nconsumer = \"a\"\nsupplier = \"b\"",
-        "plan: later link 0 0",
+        "plan: later link 0 0\n",
     ),
     (
         "[[link]]\nconsumer = \"b\"\nsupplier = \"b\"",
-        "plan: later link 0 0",
+        "plan: later link 0 0\n",
     ),
     (
         "[[link]]\nconsumer = \"b\"\nsupplier = \"c\"",
-        "plan: unknown link 0 0",
+        "plan: unknown link 0 0\n",
     ),
     (
         "[[link]]\nconsumer = \"k\"\nsupplier = \"a\"",
-        "plan: no_callbacks_with_link link 0 0",
+        "plan: no_callbacks_with_link link 0 0\n",
     ),
     (
         "[[link]]\nconsumer = \"b\"\nsupplier = \"a\"\n[[link]]\nconsumer = \"k\"\nsupplier = \"a\"\nlater = true",
-        "plan: no_callbacks_with_link link 1 0",
+        "plan: no_callbacks_with_link link 1 0\n",
     ),
     (
         "[[link]]\nconsumer = \"k\"\nsupplier = \"a\"\npm_runtime = false",
@@ -166,8 +190,8 @@ fn links_are_looked_at_last(rt: HostRuntime) -> Result<(), Fail> {
             "{DEVICES}[[device]]\nname = \"k\"\nno_callbacks = true\n{links}"
         )?;
         assert_eq!(rt;
-            answer(rt.alloc(), text.as_bytes())?.as_str(),
-            *wanted,
+            answer(rt.alloc(), text.as_bytes())?.as_slice(),
+            wanted.as_bytes(),
             "{links:?}"
         );
     }
@@ -187,17 +211,17 @@ fn tables(alloc: Global, section: &str, count: u32) -> Result<String, Fail> {
 fn limits_are_kept(rt: HostRuntime) -> Result<(), Fail> {
     let cases = [
         ("domain", 128, "ok"),
-        ("domain", 129, "plan: too_many domain 128 0"),
+        ("domain", 129, "plan: too_many domain 128 0\n"),
         ("device", 1024, "ok"),
-        ("device", 1026, "plan: too_many device 1024 0"),
+        ("device", 1026, "plan: too_many device 1024 0\n"),
         ("caller", 16, "ok"),
-        ("caller", 17, "plan: too_many caller 16 0"),
+        ("caller", 17, "plan: too_many caller 16 0\n"),
     ];
     for (section, count, wanted) in cases {
         let text = tables(rt.alloc(), section, count)?;
         assert_eq!(rt;
-            answer(rt.alloc(), text.as_bytes())?.as_str(),
-            wanted,
+            answer(rt.alloc(), text.as_bytes())?.as_slice(),
+            wanted.as_bytes(),
             "{section} {count}"
         );
     }
@@ -207,15 +231,49 @@ fn limits_are_kept(rt: HostRuntime) -> Result<(), Fail> {
     }
     codes.push_str("]\n")?;
     assert_eq!(rt;
-        answer(rt.alloc(), codes.as_bytes())?.as_str(),
-        "plan: too_many device 0 64"
-    );
-    let long = vec![in rt.alloc(); b' '; 1_048_577]?;
-    assert_eq!(rt;
-        answer(rt.alloc(), long.as_slice())?.as_str(),
-        "plan: too_long top 0 0"
+        answer(rt.alloc(), codes.as_bytes())?.as_slice(),
+        b"plan: too_many device 0 64\n".as_slice()
     );
     Ok(())
+}
+
+// A text of so many bytes, which are all the same, is answered so.
+static LENGTHS: [(usize, u8, &str); 4] = [
+    (1_048_576, b' ', "ok"),
+    (1_048_577, b' ', "plan: too_long top 0 0\n"),
+    (1_048_576, b'[', "plan: not_toml top 0 0\n"),
+    (1_048_577, b'[', "plan: too_long top 0 0\n"),
+];
+
+#[test]
+fn length_is_looked_at_first(rt: HostRuntime) -> Result<(), Fail> {
+    for (len, byte, wanted) in &LENGTHS {
+        let text = vec![in rt.alloc(); *byte; *len]?;
+        assert_eq!(rt;
+            answer(rt.alloc(), text.as_slice())?.as_slice(),
+            wanted.as_bytes(),
+            "{len}"
+        );
+    }
+    Ok(())
+}
+
+#[test]
+fn faults_have_messages(rt: HostRuntime) {
+    let longest = refusal_message(
+        PlanWhy::NoCallbacksWithDomain,
+        Section::Device,
+        4_294_967_295,
+        4_294_967_295,
+    );
+    assert_eq!(rt;
+        longest.as_slice(),
+        b"plan: no_callbacks_with_domain device 4294967295 4294967295\n".as_slice()
+    );
+    assert_eq!(rt;
+        PlanFault::NoMemory.message().as_slice(),
+        b"memory\n".as_slice()
+    );
 }
 
 #[test]

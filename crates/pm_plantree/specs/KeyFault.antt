@@ -1,6 +1,6 @@
 -- The refusal `key`: a key that its table doesn't have, or a required one that is missing (this project's own). The place is
 -- that of the key among its table's keys in byte order, and for a missing one the number of the keys.
-use Rattle.std.specs.Prelude.{ℕ, Bool, true, false, ◌||◌, List, Option, Some, None, codes, is_none, length, option_map, if◌then◌else◌}
+use Rattle.std.specs.Prelude.{ℕ, Bool, false, ◌||◌, List, Option, Some, None, codes, is_none, length, option_map, if◌then◌else◌}
 use Rattle.std.specs.Option.{option_or}
 use Rattle.toml.specs.Data.{Data, Members, as_table, get_member}
 use Rattle.pm_plantree.specs.Keys.{kind_of, section_key}

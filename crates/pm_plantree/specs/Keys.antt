@@ -1,15 +1,15 @@
 -- The keys of a plan's tables and the kinds of their values (this project's own).
-use Rattle.std.specs.Prelude.{ℕ, Bool, true, false, ◌||◌, List, Option, Some, None, codes, is_some, if◌then◌else◌}
+use Rattle.std.specs.Prelude.{ℕ, Bool, false, ◌||◌, List, Option, Some, None, codes, is_some, if◌then◌else◌}
 use Rattle.std.specs.List.{list_all}
 use Rattle.std.specs.Str.{bytes_eq}
-use Rattle.toml.specs.Data.{Data, string, integer, boolean, array, as_array, as_bool, as_integer, as_str}
+use Rattle.toml.specs.Data.{Data, array, as_array, as_bool, as_integer, as_str}
 use Rattle.pm_plantree.specs.Tree.{items_list}
 use Rattle.pm_plantree.specs.declared.keys.Kind.{Kind}
 use Rattle.pm_plantree.specs.declared.keys.Kind.TheVariants.{Text, Number, Switch, Numbers, Texts, Tables}
 use Rattle.pm_plantree.specs.declared.place.Section.{Section}
 use Rattle.pm_plantree.specs.declared.place.Section.TheVariants.{Top, Domain, Device, Link, Caller}
 
--- the key under which a plan has the tables of a section
+-- the word of a section in messages; but for the top's, it is the key under which a plan has the tables of the section
 abbrev pub section_key : Section → List ℕ
 section_key Top = codes "top"
 section_key Domain = codes "domain"

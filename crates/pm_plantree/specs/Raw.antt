@@ -1,7 +1,7 @@
 -- What the tree of a plan says, row by row, with names for what the plan will have as places (this project's own). Where no
 -- value of the right kind stands under a key, the default stands for it.
 use Rattle.std.specs.Prelude.{ℕ, Bool, true, false, List, [], Option, ℤ, pos, codes, option_and_then, option_map, unwrap_or}
-use Rattle.toml.specs.Data.{Data, Items, Members, as_array, as_bool, as_integer, as_str, as_table, get_member}
+use Rattle.toml.specs.Data.{Data, Members, as_array, as_bool, as_integer, as_str, as_table, get_member}
 use Rattle.std.specs.List.{filter_map}
 use Rattle.std.specs.Str.{bytes_eq}
 use Rattle.pm_base.specs.declared.limits.TheConstants.{DEFAULT_LINES}

@@ -4,8 +4,6 @@ ghost use Rattle.std.specs.Prelude.{◌≡◌};
 ghost use Rattle.pm_plantree.specs.Keys.{section_key};
 ghost use Rattle.pm_plantree.specs.Places.{capped, place};
 
-use std::fmt;
-
 /// A part of a plan's text (this project's own).
 #[derive(Clone, Copy, Debug, PartialEq, Eq)]
 pub enum Section {
@@ -30,12 +28,6 @@ impl Section {
             Section::Link => "link",
             Section::Caller => "caller",
         }
-    }
-}
-
-impl fmt::Display for Section {
-    fn fmt<W: fmt::Write>(&self, f: &mut fmt::Formatter<W>) -> fmt::Result {
-        f.write_str(self.word())
     }
 }
 

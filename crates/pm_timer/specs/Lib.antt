@@ -1,2 +1,1 @@
 pub mod Timers
-pub mod Tournament

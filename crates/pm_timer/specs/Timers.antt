@@ -1,7 +1,8 @@
 -- The timers of all devices, as a list with one entry per device (runtime_pm.rst, section 3, suspend_timer).
-use Rattle.std.specs.Prelude.{◌≡◌, ◌<◌, ◌≤◌, ◌⊎◌, ℕ, List, Option, None, length, option_map, slice_index_or}
+use Rattle.std.specs.Prelude.{◌≡◌, ◌<◌, ◌≤◌, ◌⊎◌, ◌^◌, ℕ, List, Option, None, length, option_map, slice_index_or}
 use Rattle.pm_base.specs.declared.Armed.{Armed}
 use Rattle.pm_base.specs.declared.DevId.{DevId}
+use Rattle.pm_moments.specs.Moments.{moment_of}
 
 -- the timer of a device, if it is armed
 abbrev pub timer_of : List (Option Armed) → DevId → Option Armed
@@ -16,11 +17,8 @@ deadline_of timers d = option_map (λ armed. armed.deadline) (timer_of timers d)
 abbrev pub IsNoLater : ℕ × DevId → ℕ × DevId → Type 0
 IsNoLater a b = (a.0 < b.0) ⊎ ((a.0 ≡ b.0) × (a.1.0 ≤ b.1.0))
 
--- a device's entry in the tournament
-abbrev pub due_of : ℕ → Option Armed → Option (ℕ × DevId)
-due_of d timer = option_map (λ armed. (armed.deadline, record { 0 = d })) timer
-
--- the tournament's players are the timers, each with its deadline and its device
-pub record IsOrderOf (timers : List (Option Armed)) (players : List (Option (ℕ × DevId))) : Type 0 where
-  pub len : length players ≡ length timers
-  pub each : (d : ℕ) → d < length timers → slice_index_or players d None ≡ due_of d (slice_index_or timers d None)
+-- these are the deadlines of the timers, of fewer devices than 2^32
+pub record AreDeadlinesOf (timers : List (Option Armed)) (deadlines : List (Option ℕ)) : Type 0 where
+  pub few : length timers < 2 ^ 32
+  pub len : length deadlines ≡ length timers
+  pub each : (d : ℕ) → d < length timers → moment_of deadlines d ≡ option_map (λ armed. armed.deadline) (slice_index_or timers d None)

@@ -5,31 +5,29 @@ ghost use Rattle.std.specs.Prelude.{◌≡◌, ◌<◌, ◌^◌, ℕ, Some, None
 ghost use Rattle.pm_base.specs.declared.DevId.{DevId as Dev};
 ghost use Rattle.pm_timer.specs.Timers.{IsNoLater, deadline_of, timer_of};
 
-mod tournament;
-
 use pm_base::{Armed, DevId, NoMemory};
+use pm_moments::Moments;
 use std::alloc::Global;
 use std::marker::Model;
-use tournament::Tournament;
 
 /// The timer of each device, which contracts see as the list of them in the plan's order.
 #[derive(Debug, Drop)]
 pub struct Timers {
     timers: Vec<Option<Armed>>,
-    // The deadline and the device of each armed timer, so that the first of them is at hand.
-    order: Tournament,
+    // The deadline of each device's timer, so that the first of them is at hand.
+    deadlines: Moments,
 }
 
 impl Model for Timers {
     ghost use Rattle.std.specs.Prelude.{List, Option};
     ghost use Rattle.pm_base.specs.declared.Armed.{Armed};
-    ghost use Rattle.pm_timer.specs.Timers.{IsOrderOf};
+    ghost use Rattle.pm_timer.specs.Timers.{AreDeadlinesOf};
 
     ghost Value = { List (Option Armed) };
 
     ghost view = { λ t. t.timers.items };
 
-    ghost invariant = { λ t. IsOrderOf t.timers.items t.order };
+    ghost invariant = { λ t. AreDeadlinesOf t.timers.items t.deadlines };
 }
 
 impl Timers {
@@ -40,7 +38,7 @@ impl Timers {
     {
         Ok(Timers {
             timers: vec![in alloc; None; devices]?,
-            order: Tournament::new(alloc, devices)?,
+            deadlines: Moments::new(alloc, devices)?,
         })
     }
 
@@ -55,7 +53,7 @@ impl Timers {
             deadline: at,
             auto_on,
         });
-        self.order.enter(dev.0 as usize, Some((at, dev)));
+        self.deadlines.set(dev.0 as usize, Some(at));
     }
 
     /// Disarms the timer of the device, in as many steps.
@@ -64,7 +62,7 @@ impl Timers {
         ensures { self.new ≡ slice_set self.old dev.0 None }
     {
         self.timers[dev.0 as usize] = None;
-        self.order.enter(dev.0 as usize, None);
+        self.deadlines.set(dev.0 as usize, None);
     }
 
     /// The timer of the device, if it is armed.
@@ -76,13 +74,14 @@ impl Timers {
     }
 
     /// The armed timer with the least deadline, and of several the one of the least device: its
-    /// deadline and its device. It looks at one entry.
+    /// deadline and its device. It takes as many steps as `arm`.
     pub fn earliest(&self) -> Option<(u64, DevId)>
         ensures armed { IfSome result (λ first. deadline_of self.now first.1 ≡ Some first.0) }
         ensures least { IfSome result (λ first. (d : Dev) (at : ℕ) → deadline_of self.now d ≡ Some at → IsNoLater first (at, d)) }
         ensures missing { IfNone result ((d : Dev) → deadline_of self.now d ≡ None) }
     {
-        self.order.first()
+        let (deadline, device) = self.deadlines.first()?;
+        Some((deadline, DevId(device as u32)))
     }
 }
 

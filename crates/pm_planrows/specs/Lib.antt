@@ -1,0 +1,7 @@
+pub mod Faults
+pub mod Few
+pub mod TooMany
+pub mod Names
+pub mod Rows
+pub mod Orders
+pub mod Numbers
