@@ -2,7 +2,7 @@
 
 ghost use Rattle.std.specs.Prelude.{◌≡◌, ◌≢◌, ◌<◌, ◌∷◌, ◌^◌, length, false, true, IfOk, OnErr, OnOk};
 ghost use Rattle.pm_state.specs.Standing.{IsActor};
-ghost use Rattle.pm_state.specs.Turns.{EndsLevel, is_running};
+ghost use Rattle.pm_state.specs.Turns.{EndsLevel, fails, is_running};
 ghost use Rattle.pm_book.specs.Pages.{Adds, BeginsWithin, MayWrite, end_answer, has_written, moment_from, step_answer, world_of, written};
 
 use crate::book::Book;
@@ -94,6 +94,7 @@ impl Book {
         ensures answer { IfOk result (λ s. s ≢ Step.Stuck → s ≡ step_answer self.old actor now) }
         ensures writes { IfOk result (λ s. has_written s ≡ true → Adds self.old self.new actor (moment_from self.old.lines now)) }
         ensures stays { IfOk result (λ s. has_written s ≡ false → self.new ≡ self.old) }
+        ensures stuck { IfOk result (λ s. s ≡ Step.Stuck → fails self.old.plan (world_of self.old) actor (moment_from self.old.lines now) ≡ true) }
         ensures err { OnErr result (self.new ≡ self.old) }
     {
         if self.is_full() {

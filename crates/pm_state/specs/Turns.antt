@@ -1,5 +1,5 @@
 -- What an actor does at a moment (this project's own).
-use Rattle.std.specs.Prelude.{◌≡◌, ◌+◌, ◌<◌, ℕ, Bool, true, Option, Some, None, is_some, length, not}
+use Rattle.std.specs.Prelude.{◌≡◌, ◌+◌, ◌<◌, ◌||◌, ℕ, Bool, true, Option, Some, None, is_some, length, not}
 use Rattle.pm_base.specs.declared.ActorId.{ActorId}
 use Rattle.pm_base.specs.declared.Cb.TheVariants as cb
 use Rattle.pm_model.specs.declared.event.Event.{Event}
@@ -76,3 +76,16 @@ pub record EndsLevel (w : World) (actor : ActorId) (next : Then) : Type 0 where
 abbrev pub TurnEndsLevel : World → ActorId → Turn → Type 0
 TurnEndsLevel w actor (turn.Writes s e next) = EndsLevel w actor next
 TurnEndsLevel w actor _ = Unit {0}
+
+-- a line that would be written fails the tests
+abbrev pub fails_move : Plan → World → ActorId → Stage → Option Move → Bool
+fails_move plan w actor s (Some (Write e next)) = not (fits plan w actor s e)
+fails_move plan w actor s _ = not true
+
+abbrev pub fails_stage : Plan → World → ActorId → ℕ → Option Stage → Bool
+fails_stage plan w actor t (Some s) = not (tells plan w.views s) || fails_move plan w actor s (move plan w.views s t)
+fails_stage plan w actor t None = not true
+
+-- what an actor would do at t fails the tests
+abbrev pub fails : Plan → World → ActorId → ℕ → Bool
+fails plan w actor t = fails_stage plan w actor t (stage_at plan w actor)

@@ -1,6 +1,6 @@
 //! What an actor does at a moment.
 
-ghost use Rattle.std.specs.Prelude.{◌≡◌, ◌≢◌, ◌<◌, ◌&&◌, ◌^◌, is_some, not, true};
+ghost use Rattle.std.specs.Prelude.{◌≡◌, ◌≢◌, ◌<◌, ◌&&◌, ◌^◌, is_some, not, true, Some};
 ghost use Rattle.pm_device.specs.Parts.{IsFor};
 ghost use Rattle.pm_model.specs.World.{move, place};
 ghost use Rattle.pm_model.specs.Lawful.{is_empty_place};
@@ -8,7 +8,7 @@ ghost use Rattle.pm_place.specs.Place.{is_level};
 ghost use Rattle.pm_model.specs.declared.plan.Plan.{Plan as APlan};
 ghost use Rattle.pm_state.specs.Standing.{IsActor, IsOf};
 ghost use Rattle.pm_state.specs.Tests.{tells};
-ghost use Rattle.pm_state.specs.Turns.{HasPassed, TurnEndsLevel, by_move, by_running, ending_of, is_running, running_due, turn_of};
+ghost use Rattle.pm_state.specs.Turns.{HasPassed, TurnEndsLevel, by_move, by_running, ending_of, fails, fails_stage, is_running, running_due, turn_of};
 
 use crate::state::State;
 use crate::tests_of_stages::tells;
@@ -87,6 +87,7 @@ impl State {
         requires in_time { time < 2 ^ 63 }
         ensures turn { result ≢ Turn.Stuck → result ≡ by_move stage (move plan.now self.now.world.views stage time) }
         ensures passed { HasPassed plan.now self.now.world actor result }
+        ensures stuck { result ≡ Turn.Stuck → fails_stage plan.now self.now.world actor time (Some stage) ≡ true }
     {
         match self.next(plan, stage, time) {
             Some(Move::Write(event, then)) => {
@@ -102,13 +103,15 @@ impl State {
         }
     }
 
-    /// What an actor does at a moment. It takes no memory.
+    /// What an actor does at a moment; it is stuck only where its line fails the tests. It takes no
+    /// memory.
     pub fn turn(&self, plan: &Plan, actor: ActorId, time: u64) -> Turn
         requires is_of { IsOf plan.now self.now }
         requires in_range { IsActor plan.now actor }
         requires in_time { time < 2 ^ 63 }
         ensures turn { result ≢ Turn.Stuck → result ≡ turn_of plan.now self.now.world actor time }
         ensures passed { HasPassed plan.now self.now.world actor result }
+        ensures stuck { result ≡ Turn.Stuck → fails plan.now self.now.world actor time ≡ true }
     {
         let Some(stage) = self.stage_at(plan, actor) else {
             return Turn::Resting;
