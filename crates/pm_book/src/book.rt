@@ -1,0 +1,128 @@
+//! The book, and what it shows.
+
+ghost use Rattle.std.specs.Prelude.{◌≡◌, ◌<◌, [], reverse, true, IfErr, IfOk, IfSome};
+ghost use Rattle.std.specs.List.{list_all};
+ghost use Rattle.pm_model.specs.LineOf.{is_line_of};
+ghost use Rattle.pm_model.specs.Lawful.{IsFinished, IsLawful, is_finished};
+ghost use Rattle.pm_state.specs.Standing.{IsActor, IsOf, counters};
+ghost use Rattle.pm_state.specs.Turns.{is_running};
+ghost use Rattle.pm_model.specs.World.{start};
+ghost use Rattle.pm_turns.specs.Seats.{AreOf};
+ghost use Rattle.pm_book.specs.Pages.{is_full, world_of};
+
+use crate::lines::Lines;
+use pm_base::{ActorId, NoMemory};
+use pm_device::Parts;
+use pm_laws::sizes;
+use pm_model::{Line, Plan};
+use pm_state::State;
+use pm_turns::Turns;
+use std::alloc::Global;
+use std::marker::Model;
+
+/// A plan and the lines of a run of it, with the counters, the open stages and the turns after them.
+/// Contracts see the plan and the lines, the newest first. In each value of the type the list is
+/// lawful.
+#[derive(Drop)]
+pub struct Book {
+    pub(crate) plan: Plan,
+    pub(crate) lines: Lines,
+    pub(crate) state: State,
+    pub(crate) turns: Turns,
+}
+
+impl Model for Book {
+    ghost use Rattle.std.specs.Prelude.{reverse};
+    ghost use Rattle.pm_book.specs.Pages.{IsKept, Pages};
+
+    ghost Value = { Pages };
+
+    ghost view = { λ b. record { plan = b.plan; lines = reverse b.lines.lines } };
+
+    ghost invariant = { λ b. IsKept b.plan b.state b.turns (reverse b.lines.lines) };
+}
+
+// The state before any line, with the turns.
+fn start_of(alloc: Global, plan: &Plan) -> Result<(State, Turns), NoMemory>
+    ensures is_of { IfOk result (λ pair. IsOf plan.now pair.0) }
+    ensures start { IfOk result (λ pair. pair.0.world ≡ start plan.now) }
+    ensures seats { IfOk result (λ pair. AreOf plan.now pair.1) }
+{
+    let state = State::fresh(alloc, plan)?;
+    let turns = Turns::fresh(alloc, plan, &state)?;
+    Ok((state, turns))
+}
+
+impl Book {
+    /// The book of a plan with no lines. All memory but that of lines, stages and waiters is taken here;
+    /// where it runs out, the plan is handed back.
+    pub fn start(alloc: Global, plan: Plan) -> Result<Book, (Plan, NoMemory)>
+        ensures ok { IfOk result (λ book. book ≡ record { plan = plan; lines = [] }) }
+        ensures err { IfErr result (λ back. back.0 ≡ plan) }
+    {
+        match start_of(alloc, &plan) {
+            Ok((state, turns)) => Ok(Book {
+                plan,
+                lines: Lines::none(alloc),
+                state,
+                turns,
+            }),
+            Err(error) => Err((plan, error)),
+        }
+    }
+
+    /// The plan.
+    pub fn plan(&self) -> &Plan
+        ensures { result.now ≡ self.now.plan }
+    {
+        &self.plan
+    }
+
+    /// The lines, in order: a lawful list.
+    pub fn lines(&self) -> &[Line]
+        ensures lines { reverse result.now ≡ self.now.lines }
+        ensures lawful { IsLawful self.now.plan self.now.lines }
+        ensures of_plan { list_all (is_line_of self.now.plan) self.now.lines ≡ true }
+    {
+        self.lines.as_slice()
+    }
+
+    /// The counters after the lines.
+    pub fn parts(&self) -> &Parts
+        ensures { result.now.views ≡ (world_of self.now).views }
+    {
+        self.state.parts()
+    }
+
+    /// Whether the list has all the lines that the plan allows.
+    pub fn is_full(&self) -> bool
+        ensures { result ≡ is_full self.now }
+    {
+        self.lines.as_slice().len() >= self.plan.lines as usize
+    }
+
+    /// Whether a callback that the actor began runs.
+    pub fn running(&self, actor: ActorId) -> bool
+        requires { IsActor self.now.plan actor }
+        ensures { result ≡ is_running self.now.plan (world_of self.now) actor }
+    {
+        self.state.is_running(&self.plan, actor)
+    }
+
+    /// Whether the run is finished: each script has ended, each place is empty, no device is queued and
+    /// no timer is armed. It looks at all actors.
+    pub fn finished(&self) -> bool
+        ensures { result ≡ is_finished self.now.plan (world_of self.now) }
+    {
+        sizes();
+        self.state.is_finished(&self.plan)
+    }
+
+    /// Who writes the next line on one thread, and when. It takes no memory, and a number of steps that
+    /// is logarithmic in the number of actors.
+    pub fn next_turn(&self) -> Option<(ActorId, u64)>
+        ensures { IfSome result (λ turn. IsActor self.now.plan turn.0) }
+    {
+        self.turns.next()
+    }
+}

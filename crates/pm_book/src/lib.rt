@@ -1,0 +1,10 @@
+//! The lines of a run of a plan, and how the run goes on (this project's own).
+#![tactic(auto)]
+
+mod book;
+mod lines;
+mod steps;
+mod writing;
+
+pub use book::Book;
+pub use steps::{EndStep, Step};

@@ -1,0 +1,142 @@
+//! How a run goes on.
+
+ghost use Rattle.std.specs.Prelude.{◌≡◌, ◌≢◌, ◌<◌, ◌∷◌, ◌^◌, length, false, true, IfOk, OnErr, OnOk};
+ghost use Rattle.pm_state.specs.Standing.{IsActor};
+ghost use Rattle.pm_state.specs.Turns.{EndsLevel, fails, is_running};
+ghost use Rattle.pm_book.specs.Pages.{Adds, BeginsWithin, MayWrite, end_answer, has_written, moment_from, step_answer, world_of, written};
+
+use crate::book::Book;
+use crate::steps::{EndStep, Step};
+use pm_base::{ActorId, NoMemory};
+use pm_laws::held_counts_are_taken;
+use pm_model::{Event, Line, Stage, Then};
+use pm_state::Turn;
+
+impl Book {
+    // When the next line is written at the earliest, at this moment by the clock.
+    fn moment(&self, now: u64) -> u64
+        ensures moment { result ≡ moment_from self.now.lines now }
+        ensures in_time { result < 2 ^ 63 }
+    {
+        self.lines.last_time().max(now.min(1 << 62))
+    }
+
+    // The answer to a line with this event that is about to be written.
+    fn answer(&self, event: Event) -> Step
+        requires { BeginsWithin (length self.now.plan.devices) event }
+        ensures { result ≡ written (world_of self.now).views event }
+    {
+        match event {
+            Event::Begin { dev, cb } => {
+                let nth = u64::from(self.state.parts().begun(dev, cb)) + 1;
+                Step::Begun(dev, cb, nth)
+            }
+            _ => Step::Wrote,
+        }
+    }
+
+    // Writes a line that may come next.
+    fn write(&mut self, stage: Stage, line: Line, then: Then) -> Result<(), NoMemory>
+        requires in_range { IsActor self.old.plan line.actor }
+        requires may { MayWrite self.old stage line then }
+        ensures ok { OnOk result (self.new ≡ record self.old { lines = line ∷ self.old.lines }) }
+        ensures err { OnErr result (self.new ≡ self.old) }
+    {
+        held_counts_are_taken();
+        self.turns.reserve(line.event)?;
+        self.lines
+            .make_room(matches!(line.event, Event::Begin { .. }))?;
+        self.state.go(&self.plan, stage, &line, then)?;
+        self.lines.push(line);
+        self.turns.settle(&self.plan, &self.state, stage, &line);
+        Ok(())
+    }
+
+    // Writes the end line of a callback that may come next, at the place that is kept for it. Where
+    // none is kept, it answers false and changes nothing.
+    fn write_end(&mut self, stage: Stage, line: Line, then: Then) -> bool
+        requires in_range { IsActor self.old.plan line.actor }
+        requires may { MayWrite self.old stage line then }
+        requires level { EndsLevel (world_of self.old) line.actor then }
+        ensures written { result ≡ true → self.new ≡ record self.old { lines = line ∷ self.old.lines } }
+        ensures stays { result ≡ false → self.new ≡ self.old }
+    {
+        if self.lines.ends() == 0 {
+            return false;
+        }
+        held_counts_are_taken();
+        self.state.go_level(&self.plan, stage, &line, then);
+        self.lines.push_end(line);
+        self.turns.settle(&self.plan, &self.state, stage, &line);
+        true
+    }
+}
+
+impl Book {
+    // Writes the line that an actor's turn is.
+    fn write_turn(&mut self, line: Line, stage: Stage, then: Then) -> Result<Step, NoMemory>
+        requires in_range { IsActor self.old.plan line.actor }
+        requires may { MayWrite self.old stage line then }
+        ensures answer { IfOk result (λ s. s ≡ written (world_of self.old).views line.event) }
+        ensures ok { OnOk result (self.new ≡ record self.old { lines = line ∷ self.old.lines }) }
+        ensures err { OnErr result (self.new ≡ self.old) }
+    {
+        let answer = self.answer(line.event);
+        self.write(stage, line, then)?;
+        Ok(answer)
+    }
+
+    /// Lets an actor go on by one line at the moment of the last line, or at this later one by the
+    /// clock, in milliseconds of the run; a clock above 2^62 counts as 2^62. After `NoMemory` nothing is
+    /// changed.
+    pub fn step(&mut self, actor: ActorId, now: u64) -> Result<Step, NoMemory>
+        requires { IsActor self.old.plan actor }
+        ensures answer { IfOk result (λ s. s ≢ Step.Stuck → s ≡ step_answer self.old actor now) }
+        ensures writes { IfOk result (λ s. has_written s ≡ true → Adds self.old self.new actor (moment_from self.old.lines now)) }
+        ensures stays { IfOk result (λ s. has_written s ≡ false → self.new ≡ self.old) }
+        ensures stuck { IfOk result (λ s. s ≡ Step.Stuck → fails self.old.plan (world_of self.old) actor (moment_from self.old.lines now) ≡ true) }
+        ensures err { OnErr result (self.new ≡ self.old) }
+    {
+        if self.is_full() {
+            return Ok(Step::AtLimit);
+        }
+        let time = self.moment(now);
+        match self.state.turn(&self.plan, actor, time) {
+            Turn::Resting => Ok(Step::Resting),
+            Turn::Running(at) => Ok(Step::Running(at)),
+            Turn::Blocked(dev) => Ok(Step::Blocked(dev)),
+            Turn::Early(at) => Ok(Step::Early(at)),
+            Turn::Stuck => Ok(Step::Stuck),
+            Turn::Writes { stage, event, then } => {
+                let line = Line { time, actor, event };
+                self.write_turn(line, stage, then)
+            }
+        }
+    }
+
+    /// Lets a callback end that the actor began. It takes no memory.
+    pub fn end_callback(&mut self, actor: ActorId, now: u64) -> EndStep
+        requires in_range { IsActor self.old.plan actor }
+        requires running { is_running self.old.plan (world_of self.old) actor ≡ true }
+        ensures answer { result ≢ EndStep.Stuck → result ≡ end_answer self.old actor now }
+        ensures writes { result ≡ EndStep.Wrote → Adds self.old self.new actor (moment_from self.old.lines now) }
+        ensures stays { result ≢ EndStep.Wrote → self.new ≡ self.old }
+    {
+        if self.is_full() {
+            return EndStep::AtLimit;
+        }
+        let time = self.moment(now);
+        match self.state.ending(&self.plan, actor, time) {
+            Turn::Early(at) => EndStep::Early(at),
+            Turn::Writes { stage, event, then } => {
+                let line = Line { time, actor, event };
+                if self.write_end(stage, line, then) {
+                    EndStep::Wrote
+                } else {
+                    EndStep::Stuck
+                }
+            }
+            _ => EndStep::Stuck,
+        }
+    }
+}

@@ -1,0 +1,10 @@
+use Rattle.std.proofs.Common.{◌≡◌, reverse}
+use Rattle.pm_model.specs.Handing.{after_code}
+use Rattle.pm_place.proofs.hand.Given as goal
+
+-- handing the code on from here gives what handing the first one from the whole stack gives
+abbrev pub invariant-loop-stage : goal.invariant-loop-stage
+invariant-loop-stage l = after_code (reverse l.stages.items) l.code ≡ after_code (reverse l.initial.stages.items) l.initial.code
+
+abbrev pub decreases-loop-stage : goal.decreases-loop-stage
+decreases-loop-stage l = l.stages.len

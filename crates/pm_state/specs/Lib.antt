@@ -1,0 +1,4 @@
+pub mod Devices
+pub mod Standing
+pub mod Tests
+pub mod Turns

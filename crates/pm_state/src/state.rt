@@ -1,0 +1,144 @@
+//! The state of a run, and at which stage each actor stands.
+
+ghost use Rattle.std.specs.Prelude.{◌≡◌, ◌<◌, [], map, length, slice_get, IfOk, option_map};
+ghost use Rattle.std.specs.Option.{option_and_then};
+ghost use Rattle.pm_model.specs.World.{next_command, place, ready, stage_at, start};
+ghost use Rattle.pm_state.specs.Standing.{IsActor, IsOf, counters};
+
+use pm_base::{ActorId, DevId, NoMemory};
+use pm_device::Parts;
+use pm_model::{Command, HelperStage, Plan, Stage};
+use pm_place::Place;
+use std::alloc::{AllocError, Global};
+use std::marker::Model;
+
+/// Where a run of a plan stands, which contracts see as the views, the places of all actors and the
+/// number of commands that each caller has called.
+#[derive(Drop)]
+pub struct State {
+    pub(crate) parts: Parts,
+    pub(crate) callers: Vec<Place>,
+    pub(crate) works: Vec<Place>,
+    pub(crate) timers: Vec<Place>,
+    // How many commands each caller has called.
+    pub(crate) called: Vec<u32>,
+}
+
+impl Model for State {
+    ghost use Rattle.pm_state.specs.Standing.{Standing};
+
+    ghost Value = { Standing };
+
+    ghost view = { λ s. record {
+      shape = s.parts.shape;
+      world = record {
+        views = s.parts.views;
+        callers = s.callers.items;
+        works = s.works.items;
+        timers = s.timers.items;
+        called = s.called.items;
+      };
+    } };
+}
+
+// No stage is open at any place.
+fn empty_places<T>(alloc: Global, rows: &[T]) -> Result<Vec<Place>, AllocError>
+    ensures { IfOk result (λ v. v.items ≡ map (λ row. []) rows.now) }
+{
+    rows.iter().map(|_row| Place::empty(alloc)).collect(alloc)
+}
+
+// Nothing is called.
+fn none_called<T>(alloc: Global, rows: &[T]) -> Result<Vec<u32>, AllocError>
+    ensures { IfOk result (λ v. v.items ≡ map (λ row. 0) rows.now) }
+{
+    rows.iter().map(|_row| 0).collect(alloc)
+}
+
+// The next command of a caller's script.
+fn next_command_of(plan: &Plan, caller: u32, called: u32) -> Option<Command>
+    requires { caller < length plan.now.callers }
+    ensures { result ≡ option_and_then (λ row. slice_get row.script called) (slice_get plan.now.callers caller) }
+{
+    let row = &plan.callers.as_slice()[caller as usize];
+    row.script.as_slice().get(called as usize).copied()
+}
+
+impl State {
+    /// The state of a plan before any line.
+    pub fn fresh(alloc: Global, plan: &Plan) -> Result<State, NoMemory>
+        ensures is_of { IfOk result (IsOf plan.now) }
+        ensures start { IfOk result (λ s. s.world ≡ start plan.now) }
+    {
+        let callers = plan.callers.as_slice();
+        let devices = plan.devices.as_slice();
+        Ok(State {
+            parts: Parts::fresh(alloc, plan)?,
+            callers: empty_places(alloc, callers)?,
+            works: empty_places(alloc, devices)?,
+            timers: empty_places(alloc, devices)?,
+            called: none_called(alloc, callers)?,
+        })
+    }
+
+    /// The counters.
+    pub fn parts(&self) -> &Parts
+        ensures { result.now ≡ counters self.now }
+    {
+        &self.parts
+    }
+
+    // The open stages of an actor.
+    pub(crate) fn place(&self, plan: &Plan, actor: ActorId) -> &Place
+        requires is_of { IsOf plan.now self.now }
+        requires in_range { IsActor plan.now actor }
+        ensures { result.now ≡ place self.now.world actor }
+    {
+        match actor {
+            ActorId::Caller(caller) => &self.callers[caller as usize],
+            ActorId::Work(device) => &self.works[device as usize],
+            ActorId::Timer(device) => &self.timers[device as usize],
+        }
+    }
+
+    // What an actor with an empty place has to start.
+    fn ready(&self, plan: &Plan, actor: ActorId) -> Option<Stage>
+        requires is_of { IsOf plan.now self.now }
+        requires in_range { IsActor plan.now actor }
+        ensures { result ≡ ready plan.now self.now.world actor }
+    {
+        let start = match actor {
+            ActorId::Caller(caller) => {
+                let called = self.called[caller as usize];
+                let command = next_command_of(plan, caller, called)?;
+                HelperStage::Call { command }
+            }
+            ActorId::Work(device) => {
+                let dev = DevId(device);
+                if !self.parts.pending(dev).queued {
+                    return None;
+                }
+                HelperStage::Work { dev }
+            }
+            ActorId::Timer(device) => {
+                let dev = DevId(device);
+                let _ = self.parts.timer(dev)?;
+                HelperStage::Timer { dev }
+            }
+        };
+        Some(Stage::Helper(start))
+    }
+
+    /// The stage at which an actor stands; `None` comes exactly where its place is empty and it has
+    /// nothing to start.
+    pub fn stage_at(&self, plan: &Plan, actor: ActorId) -> Option<Stage>
+        requires is_of { IsOf plan.now self.now }
+        requires in_range { IsActor plan.now actor }
+        ensures { result ≡ stage_at plan.now self.now.world actor }
+    {
+        match self.place(plan, actor).top() {
+            Some(stage) => Some(stage),
+            None => self.ready(plan, actor),
+        }
+    }
+}
