@@ -3,7 +3,7 @@
 ghost use Rattle.std.specs.Prelude.{◌≡◌, ◌<◌, [], reverse, true, IfErr, IfOk, IfSome};
 ghost use Rattle.std.specs.List.{list_all};
 ghost use Rattle.pm_model.specs.LineOf.{is_line_of};
-ghost use Rattle.pm_model.specs.Lawful.{IsFinished, IsLawful, is_finished};
+ghost use Rattle.pm_model.specs.Lawful.{IsLawful, is_finished};
 ghost use Rattle.pm_state.specs.Standing.{IsActor, IsOf, counters};
 ghost use Rattle.pm_state.specs.Turns.{is_running};
 ghost use Rattle.pm_model.specs.World.{start};

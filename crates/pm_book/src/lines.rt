@@ -1,6 +1,6 @@
 //! The lines of a book, and the places that are kept for more.
 
-ghost use Rattle.std.specs.Prelude.{◌≡◌, ◌+◌, ◌-◌, ◌<◌, ◌≤◌, ◌++◌, ◌∷◌, [], length, reverse, OnErr, OnOk};
+ghost use Rattle.std.specs.Prelude.{◌≡◌, ◌+◌, ◌-◌, ◌<◌, ◌≤◌, ◌++◌, ◌∷◌, [], reverse, OnErr, OnOk};
 ghost use Rattle.pm_book.specs.Pages.{Sheet};
 ghost use Rattle.pm_model.specs.Lawful.{last_time};
 

@@ -1,5 +1,5 @@
 -- Where a run of a plan stands, and what one line makes of it (this project's own).
-use Rattle.std.specs.Prelude.{◌≡◌, ◌<◌, ℕ, drop, length}
+use Rattle.std.specs.Prelude.{◌≡◌, ◌<◌, drop, length}
 use Rattle.pm_base.specs.declared.ActorId.{ActorId}
 use Rattle.pm_base.specs.declared.ActorId.TheVariants.{Caller, Work, Timer}
 use Rattle.pm_base.specs.declared.DevId.{DevId}

@@ -2,7 +2,6 @@
 use Rattle.std.specs.Prelude.{◌≡◌, ◌+◌, ◌<◌, ◌||◌, ℕ, Bool, true, Option, Some, None, is_some, length, not}
 use Rattle.pm_base.specs.declared.ActorId.{ActorId}
 use Rattle.pm_base.specs.declared.Cb.TheVariants as cb
-use Rattle.pm_model.specs.declared.event.Event.{Event}
 use Rattle.pm_model.specs.declared.plan.Plan.{Plan}
 use Rattle.pm_model.specs.declared.stage.IdleStage.TheVariants as idle
 use Rattle.pm_model.specs.declared.stage.Move.{Move}

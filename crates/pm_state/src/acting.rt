@@ -8,7 +8,7 @@ ghost use Rattle.pm_place.specs.Place.{is_level};
 ghost use Rattle.pm_model.specs.declared.plan.Plan.{Plan as APlan};
 ghost use Rattle.pm_state.specs.Standing.{IsActor, IsOf};
 ghost use Rattle.pm_state.specs.Tests.{tells};
-ghost use Rattle.pm_state.specs.Turns.{HasPassed, TurnEndsLevel, by_move, by_running, ending_of, fails, fails_stage, is_running, running_due, turn_of};
+ghost use Rattle.pm_state.specs.Turns.{HasPassed, TurnEndsLevel, by_move, ending_of, fails, fails_stage, is_running, running_due, turn_of};
 
 use crate::state::State;
 use crate::tests_of_stages::tells;

@@ -1,6 +1,6 @@
 //! The state of a run, and at which stage each actor stands.
 
-ghost use Rattle.std.specs.Prelude.{◌≡◌, ◌<◌, [], map, length, slice_get, IfOk, option_map};
+ghost use Rattle.std.specs.Prelude.{◌≡◌, ◌<◌, [], map, length, slice_get, IfOk};
 ghost use Rattle.std.specs.Option.{option_and_then};
 ghost use Rattle.pm_model.specs.World.{next_command, place, ready, stage_at, start};
 ghost use Rattle.pm_state.specs.Standing.{IsActor, IsOf, counters};

@@ -1,6 +1,6 @@
 //! The next turn.
 
-ghost use Rattle.std.specs.Prelude.{◌≡◌, ◌+◌, ◌≤◌, length, IfSome};
+ghost use Rattle.std.specs.Prelude.{◌+◌, IfSome};
 ghost use Rattle.pm_turns.specs.Seats.{IsSeated};
 
 use crate::turns::Turns;

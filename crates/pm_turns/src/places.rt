@@ -1,7 +1,6 @@
 //! The row of seats.
 
-ghost use Rattle.std.specs.Prelude.{◌≡◌, ◌+◌, ◌*◌, ◌<◌, ◌≤◌, ◌^◌, length};
-ghost use Rattle.pm_model.specs.IsPlan.{is_plan};
+ghost use Rattle.std.specs.Prelude.{◌+◌, ◌*◌, ◌<◌, ◌≤◌, ◌^◌, length};
 ghost use Rattle.pm_turns.specs.Seats.{IsSeated};
 
 use crate::turns::Turns;

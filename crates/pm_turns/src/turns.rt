@@ -2,7 +2,7 @@
 
 ghost use Rattle.std.specs.Prelude.{◌≡◌, ◌+◌, ◌*◌, ◌<◌, ◌^◌, length, IfOk};
 ghost use Rattle.pm_state.specs.Standing.{IsActor, IsOf};
-ghost use Rattle.pm_turns.specs.Seats.{AreOf, IsSeated};
+ghost use Rattle.pm_turns.specs.Seats.{AreOf};
 
 use crate::places::few;
 use pm_base::{ActorId, NoMemory};
