@@ -1,5 +1,5 @@
 -- What a book shows, and what its step answers (this project's own).
-use Rattle.std.specs.Prelude.{◌≡◌, ◌+◌, ◌<◌, ◌≤◌, ◌^◌, ℕ, Bool, true, false, List, [], ◌∷◌, Some, length, max, min, nat_le, not, if◌then◌else◌}
+use Rattle.std.specs.Prelude.{◌≡◌, ◌+◌, ◌<◌, ◌≤◌, ◌^◌, ℕ, Bool, true, false, List, ◌∷◌, Some, length, max, min, nat_le, if◌then◌else◌}
 use Rattle.pm_base.specs.declared.ActorId.{ActorId}
 use Rattle.pm_model.specs.declared.event.Event.{Event}
 use Rattle.pm_model.specs.declared.event.Event.TheVariants as event
@@ -9,6 +9,8 @@ use Rattle.pm_model.specs.declared.stage.Stage.{Stage}
 use Rattle.pm_model.specs.declared.stage.Move.TheVariants.{Write}
 use Rattle.pm_model.specs.declared.stage.Then.{Then}
 use Rattle.pm_model.specs.Derived.{begun}
+use Rattle.std.specs.List.{list_all}
+use Rattle.pm_model.specs.LineOf.{is_line_of}
 use Rattle.pm_model.specs.Lawful.{IsLawful, Permits, last_time}
 use Rattle.pm_model.specs.Views.{Views}
 use Rattle.pm_model.specs.World.{World, move, stage_at, world}
@@ -103,9 +105,10 @@ pub record MayWrite (p : Pages) (s : Stage) (line : Line) (next : Then) : Type 0
   pub told : tells p.plan (world_of p).views s ≡ true
   pub fits : fits p.plan (world_of p) line.actor s line.event ≡ true
 
--- the list is lawful, and the state and the turns are those after it
+-- the list is lawful and all its lines are lines of the plan, and the state and the turns are those after it
 pub record IsKept (plan : Plan) (state : Standing) (seats : Seats) (h : List Line) : Type 0 where
   pub lawful : IsLawful plan h
+  pub lines_are : list_all (is_line_of plan) h ≡ true
   pub world_is : state.world ≡ world plan h
   pub is_of : IsOf plan state
   pub seats_are : AreOf plan seats

@@ -1,6 +1,8 @@
 //! The book, and what it shows.
 
-ghost use Rattle.std.specs.Prelude.{◌≡◌, ◌<◌, [], reverse, IfErr, IfOk, IfSome};
+ghost use Rattle.std.specs.Prelude.{◌≡◌, ◌<◌, [], reverse, true, IfErr, IfOk, IfSome};
+ghost use Rattle.std.specs.List.{list_all};
+ghost use Rattle.pm_model.specs.LineOf.{is_line_of};
 ghost use Rattle.pm_model.specs.Lawful.{IsFinished, IsLawful, is_finished};
 ghost use Rattle.pm_state.specs.Standing.{IsActor, IsOf, counters};
 ghost use Rattle.pm_state.specs.Turns.{is_running};
@@ -80,6 +82,7 @@ impl Book {
     pub fn lines(&self) -> &[Line]
         ensures lines { reverse result.now ≡ self.now.lines }
         ensures lawful { IsLawful self.now.plan self.now.lines }
+        ensures of_plan { list_all (is_line_of self.now.plan) self.now.lines ≡ true }
     {
         self.lines.as_slice()
     }

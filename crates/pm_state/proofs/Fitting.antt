@@ -15,6 +15,7 @@ use Rattle.pm_model.specs.declared.plan.Plan.{Plan}
 use Rattle.pm_model.specs.declared.stage.Stage.{Stage}
 use Rattle.pm_model.specs.Derived.{begun}
 use Rattle.pm_model.specs.Lawful.{is_empty_place}
+use Rattle.pm_model.specs.LineOf.{is_event_of}
 use Rattle.pm_model.specs.World.{World, with_place}
 use Rattle.pm_model.specs.Views.{Views, device}
 use Rattle.pm_apply.specs.Happening.{CanGive, CanHappen, CanTake, CanWrite}
@@ -74,13 +75,11 @@ can_happen plan v (event.Domain d is_up n) h frees = tt
 can_happen plan v (event.Work d act) h frees = tt
 can_happen plan v (event.Timer d act) h frees = tt
 
-middle : (a b c : Bool) → a && b && c ≡ true → b ≡ true
-middle a true c h = refl
-middle true false c h = h
-middle false false c h = h
-
 pub event_fits : (plan : Plan) (w : World) (actor : ActorId) (s : Stage) (e : Event) → fits plan w actor s e ≡ true → fits_event (length plan.devices) w.views e ≡ true
-event_fits plan w actor s e h = middle (fits_stage (length plan.devices) w.views s) _ (fits_call w actor e) h
+event_fits plan w actor s e h =
+    let n = length plan.devices in
+    second_of_two (fits_stage n w.views s) (fits_event n w.views e)
+    (first_of_two (fits_stage n w.views s && fits_event n w.views e) (fits_call w actor e) (first_of_two _ (is_event_of n e) h))
 
 -- a place that isn't empty is open
 pub is_open : (stages : List Stage) → not (is_empty_place stages) ≡ true → 0 < length stages

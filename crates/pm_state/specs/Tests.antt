@@ -25,6 +25,7 @@ use Rattle.pm_model.specs.declared.stage.SuspendStage.{SuspendStage}
 use Rattle.pm_model.specs.declared.stage.SuspendStage.TheVariants as suspend
 use Rattle.pm_model.specs.Derived.{begun}
 use Rattle.pm_model.specs.IsPlan.{is_command}
+use Rattle.pm_model.specs.LineOf.{is_event_of}
 use Rattle.pm_model.specs.PlanRows.{has_parent, ms_of}
 use Rattle.pm_model.specs.Views.{Views, device}
 use Rattle.pm_model.specs.World.{World}
@@ -114,6 +115,7 @@ abbrev pub fits_call : World → ActorId → Event → Bool
 fits_call w (Caller c) (event.Call command) = has_room (slice_index_or w.called c 0)
 fits_call w _ _ = true
 
--- the counters can take the line of a stage
+-- the counters can take the line of a stage, and its event is one of the plan's
 abbrev pub fits : Plan → World → ActorId → Stage → Event → Bool
-fits plan w actor s e = fits_stage (length plan.devices) w.views s && fits_event (length plan.devices) w.views e && fits_call w actor e
+fits plan w actor s e =
+    fits_stage (length plan.devices) w.views s && fits_event (length plan.devices) w.views e && fits_call w actor e && is_event_of (length plan.devices) e

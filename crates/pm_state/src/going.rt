@@ -10,6 +10,7 @@ ghost use Rattle.pm_state.specs.Turns.{EndsLevel};
 
 use crate::state::State;
 use crate::tests_of_events::{fits_event, fits_stage, has_room};
+use crate::tests_of_lines::is_event_of;
 use pm_apply::apply;
 use pm_base::{ActorId, NoMemory};
 use pm_model::{Event, Line, Plan, Stage, Then};
@@ -39,6 +40,7 @@ impl State {
         fits_stage(plan, &self.parts, stage)
             && fits_event(plan, &self.parts, event)
             && self.fits_call(plan, actor, event)
+            && is_event_of(plan.devices.len(), event)
     }
 
     // What comes after a line takes the place of the top of the actor's stages.

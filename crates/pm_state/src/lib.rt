@@ -9,6 +9,7 @@ mod going;
 mod moves;
 mod state;
 mod tests_of_events;
+mod tests_of_lines;
 mod tests_of_stages;
 
 pub use acting::Turn;
