@@ -17,9 +17,9 @@ use Rattle.pm_planread.specs.declared.refusal.PlanFault.TheVariants as plan
 use Rattle.pm_planread.specs.declared.refusal.PlanWhy.TheVariants.{TooLong}
 use Rattle.pm_planread.specs.PlanOf.{Contents, contents_of, plan_of}
 use Rattle.pm_plantree.specs.declared.place.Section.TheVariants.{Top}
-use Rattle.pm_serial.specs.declared.End.{End}
-use Rattle.pm_serial.specs.declared.End.TheVariants as end
-use Rattle.pm_serial.specs.Ending.{IsEnd}
+use Rattle.pm_serial.specs.declared.running.End.{End}
+use Rattle.pm_serial.specs.declared.running.End.TheVariants as end
+use Rattle.pm_serial.specs.Ends.{GoesOn, IsEnd}
 use Rattle.pm_top.specs.declared.ending.Fault.{Fault}
 use Rattle.pm_top.specs.declared.ending.Fault.TheVariants.{AtLimit, NoMemory, ReadFailed, Refused, Stuck, WriteFailed}
 use Rattle.pm_top.specs.declared.ending.TheConstants.{AT_LIMIT, REFUSED, WRITE_FAILED}
@@ -52,22 +52,25 @@ at_limit_is_cut p lawful ends = record {
   unfinished = ends.1;
 }
 
-pub end_is_at_end : (p : Pages) (ends : End) → IsLawful p.plan p.lines → IsEnd p ends → ends ≢ end.Stuck → IsAtEnd p.plan p.lines
-end_is_at_end p end.Finished lawful is other = inl is
-end_is_at_end p end.AtLimit lawful is other = inr (at_limit_is_cut p lawful is)
-end_is_at_end p end.Stuck lawful is other = absurd (other refl)
-
 -- what was taken of the text of a book's lines is so much of the text of a run
-pub ran : (Ends : Plan → List Line → Type 0) (Took : List ℕ → Type 0) (plan shown : Plan) (p : Pages) (lines : List Line)
-    → p.plan ≡ plan → shown ≡ p.plan → reverse lines ≡ p.lines → IsLawful p.plan p.lines → Ends p.plan p.lines → Took (text shown lines) → Ran plan Ends Took
-ran Ends Took plan shown p lines plan_is shown_is lines_are lawful ends took =
-    let in_order : lines ≡ reverse p.lines = sym (reverse-reverse lines) ∙ ap (λ h. reverse h) lines_are in
-    subst (λ q. Ran q Ends Took) plan_is (record {
+pub ran : (Ends : Plan → List Line → Type 0) (Took : List ℕ → Type 0) (plan : Plan) (p : Pages)
+    → p.plan ≡ plan → IsLawful p.plan p.lines → Ends p.plan p.lines → Took (text p.plan (reverse p.lines)) → Ran plan Ends Took
+ran Ends Took plan p plan_is lawful ends took =
+    subst (λ (q : Plan). Ran q Ends Took) plan_is (record {
       lines = p.lines;
       lawful = lawful;
       ends = ends;
-      took = subst Took (ap (λ q. text q lines) shown_is ∙ ap (text p.plan) in_order) took;
+      took = took;
     })
+
+-- the text of a book's lines, as they are shown
+pub shown_text : (p : Pages) (shown : Plan) (lines : List Line) → shown ≡ p.plan → reverse lines ≡ p.lines → text shown lines ≡ text p.plan (reverse p.lines)
+shown_text p shown lines shown_is lines_are =
+    ap (λ (q : Plan). text q lines) shown_is ∙ ap (text p.plan) (sym (reverse-reverse lines) ∙ ap (λ (h : List Line). reverse h) lines_are)
+
+-- the plan of a book that goes on
+pub same_plan : (old new : Pages) → GoesOn old new → new.plan ≡ old.plan
+same_plan old new goes_on = ap (λ (p : Pages). p.plan) goes_on.added
 
 pub ran_read : (told : Option (List ℕ)) (plan : Plan) (Ends : Plan → List Line → Type 0) (Took : List ℕ → Type 0) → IsPlanOf told plan → Ran plan Ends Took → RanRead told Ends Took
 ran_read told plan Ends Took reads ran = record { plan = plan; read = reads; run = ran }

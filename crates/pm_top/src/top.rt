@@ -1,12 +1,12 @@
 //! The commands, over files and sinks that are handed in.
 
-ghost use Rattle.std.specs.Prelude.{◌≡◌, ◌≢◌, ◌↔◌, ◌⊎◌, map, string_bytes, Contains, IfErr, IfOk, IfSome, IsErrAnd, IsErrOf, IsNone, IsOk, IsSome, IsTrue, OnOk};
+ghost use Rattle.std.specs.Prelude.{◌≡◌, ◌≢◌, ◌↔◌, ◌⊎◌, map, reverse, string_bytes, Contains, IfErr, IfOk, IfSome, IsErrAnd, IsErrOf, IsNone, IsOk, IsSome, IsTrue, OnErr, OnOk};
 ghost use Rattle.std.specs.Io.KnownBytes.{append_known};
 ghost use Rattle.pm_io.specs.Faults.{Rose};
 ghost use Rattle.pm_io.specs.Sink.{TookPrefix};
-ghost use Rattle.pm_model.specs.Lawful.{IsFinished};
+ghost use Rattle.pm_model.specs.Lawful.{IsFinished, IsLawful};
+ghost use Rattle.pm_model.specs.Text.{text};
 ghost use Rattle.pm_planread.specs.PlanOf.{plan_of};
-ghost use Rattle.pm_serial.specs.Ending.{IsEnd};
 ghost use Rattle.pm_top.specs.Ending.{AgreesWith, IsAtEnd, IsCut, IsLoadFault, IsPlanOf, IsRefused, IsRunFault, Ran, refused_statuses, run_statuses, serial_statuses, status_message, told_plan, TookCut, TookFinished, TookMessage, TookPart, TookRefusal};
 ghost use Rattle.pm_top.specs.Words.{serial_plan};
 
@@ -172,28 +172,50 @@ fn run_plan<O: Sink>(alloc: Global, plan: Plan, out: &mut O) -> Result<(), Fault
     ensures write { IsErrOf result Fault.WriteFailed
         → Rose (O.faults out.old) (O.faults out.new) }
 {
-    let (book, end) = run(alloc, plan)?;
-    let mut piece = Vec::with_capacity(alloc, TEXT_BYTES + 1)?;
-    write_text(alloc, out, &mut piece, book.plan(), book.lines())?;
-    match end {
-        End::Finished => Ok(()),
-        End::AtLimit => Err(Fault::AtLimit),
-        End::Stuck => unreachable!(),
+    let mut book = start(alloc, plan)?;
+    run_book(alloc, &mut book, out)
+}
+
+/// Runs a book to its end and writes its lines.
+fn run_book<O: Sink>(alloc: Global, book: &mut Book, out: &mut O) -> Result<(), Fault>
+    ensures text { OnOk result (Ran book.old.plan IsFinished
+        (λ bytes. O.taken out.new ≡ append_known (O.taken out.old) bytes)) }
+    ensures cut { IsErrOf result Fault.AtLimit → Ran book.old.plan IsCut
+        (λ bytes. O.taken out.new ≡ append_known (O.taken out.old) bytes) }
+    ensures prefix { IsErrOf result Fault.WriteFailed → Ran book.old.plan IsAtEnd
+        (λ bytes. TookPrefix (O.taken out.old) (O.taken out.new) bytes) }
+    ensures nothing { IfErr result (λ fault. fault ≢ Fault.AtLimit → fault ≢ Fault.WriteFailed
+        → O.taken out.new ≡ O.taken out.old) }
+    ensures fault { IfErr result IsRunFault }
+    ensures write { IsErrOf result Fault.WriteFailed
+        → Rose (O.faults out.old) (O.faults out.new) }
+{
+    match drain(book)? {
+        End::Finished => write_book(alloc, book, out),
+        End::AtLimit => {
+            write_book(alloc, book, out)?;
+            Err(Fault::AtLimit)
+        }
+        End::Stuck => Err(Fault::Stuck),
     }
 }
 
-/// Runs the plan on one thread to its end, and says which of the two that is.
-fn run(alloc: Global, plan: Plan) -> Result<(Book, End), Fault>
-    ensures plan { IfOk result (λ done. done.0.plan ≡ plan) }
-    ensures end { IfOk result (λ done. IsEnd done.0 done.1) }
-    ensures goes_on { IfOk result (λ done. done.1 ≢ End.Stuck) }
-    ensures fault { IfErr result (λ fault. (fault ≡ Fault.NoMemory) ⊎ (fault ≡ Fault.Stuck)) }
+/// Writes the lines of a book.
+fn write_book<O: Sink>(alloc: Global, book: &Book, out: &mut O) -> Result<(), Fault>
+    ensures lawful { IsLawful book.now.plan book.now.lines }
+    ensures text { OnOk result (O.taken out.new
+        ≡ append_known (O.taken out.old) (text book.now.plan (reverse book.now.lines))) }
+    ensures prefix { OnErr result (TookPrefix (O.taken out.old) (O.taken out.new)
+        (text book.now.plan (reverse book.now.lines))) }
+    ensures nothing { IsErrOf result Fault.NoMemory → O.taken out.new ≡ O.taken out.old }
+    ensures fault { IfErr result (λ fault. (fault ≡ Fault.WriteFailed) ⊎ (fault ≡ Fault.NoMemory)) }
+    ensures write { IsErrOf result Fault.WriteFailed
+        → Rose (O.faults out.old) (O.faults out.new) }
 {
-    let mut book = start(alloc, plan)?;
-    match drain(&mut book)? {
-        End::Stuck => Err(Fault::Stuck),
-        end => Ok((book, end)),
-    }
+    let lines = book.lines();
+    let mut piece = Vec::with_capacity(alloc, TEXT_BYTES + 1)?;
+    write_text(alloc, out, &mut piece, book.plan(), lines)?;
+    Ok(())
 }
 
 /// The book of the plan, with no lines.
