@@ -8,6 +8,8 @@ mod line_text;
 mod output;
 mod read_plan;
 #[cfg(test)]
+mod runs;
+#[cfg(test)]
 mod tests;
 mod top;
 mod words;
