@@ -142,4 +142,3 @@ control_has n (control.BarrierWait d c) h = tt
 control_has n (control.ActiveLinks d) h = tt
 control_has n (control.ActiveUnwind d c) h = tt
 control_has n (control.SuppliersIdle d last) h = tt
-

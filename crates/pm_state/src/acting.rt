@@ -14,8 +14,8 @@ use crate::state::State;
 use crate::tests_of_stages::tells;
 use pm_base::{ActorId, Cb, DevId};
 use pm_device::{Parts, ms_of};
-use pm_place::is_level;
 use pm_model::{Event, IdleStage, Move, Plan, ResumeStage, Stage, SuspendStage, Then};
+use pm_place::is_level;
 
 /// What an actor does at a moment, in milliseconds of the run.
 #[derive(Clone, Copy)]

@@ -1,28 +1,36 @@
 -- What the ending of a command says.
-use Rattle.std.proofs.Common.{◌≡◌, ℕ, ◌<◌, List, Option, None, Some, Ok, Err, IfSome, length, refl, ap, ◌∙◌, sym, lit<}
-use Rattle.std.specs.Prelude.{◌≢◌, Contains}
+use Rattle.std.proofs.Common.{◌≡◌, ℕ, ◌<◌, ◌≤◌, List, [], ◌∷◌, Option, None, Some, Ok, Err, IfErr, IfSome, length, reverse, inl, inr, refl, ap, ◌∙◌, subst, sym, lit<, true, arith}
+use Rattle.std.specs.Prelude.{◌≢◌, ◌⊎◌, Result, Contains, IsErr, IsOk, IsNone, nat_le}
 use Rattle.std.proofs.lemmas.Bool.{lt-ltb}
-use Rattle.std.specs.Io.KnownBytes.{append_known}
+use Rattle.std.proofs.lemmas.List.{reverse-reverse}
 use Rattle.pm_base.specs.declared.limits.TheConstants.{PLAN_BYTES}
+use Rattle.pm_book.specs.Pages.{Pages, is_full}
 use Rattle.pm_io.specs.declared.reading.FileFault.{FileFault}
 use Rattle.pm_io.specs.declared.reading.FileFault.TheVariants as file
 use Rattle.pm_io.specs.Faults.{Rose}
 use Rattle.pm_model.specs.declared.event.Line.{Line}
-use Rattle.pm_model.specs.Spelling.{lines_text}
+use Rattle.pm_model.specs.declared.plan.Plan.{Plan}
+use Rattle.pm_model.specs.Lawful.{IsLawful}
+use Rattle.pm_model.specs.Text.{text}
+use Rattle.pm_planread.specs.declared.refusal.PlanFault.{PlanFault}
+use Rattle.pm_planread.specs.declared.refusal.PlanFault.TheVariants as plan
+use Rattle.pm_planread.specs.declared.refusal.PlanWhy.TheVariants.{TooLong}
+use Rattle.pm_planread.specs.PlanOf.{Contents, contents_of, plan_of}
+use Rattle.pm_plantree.specs.declared.place.Section.TheVariants.{Top}
+use Rattle.pm_serial.specs.declared.End.{End}
+use Rattle.pm_serial.specs.declared.End.TheVariants as end
+use Rattle.pm_serial.specs.Ending.{IsEnd}
 use Rattle.pm_top.specs.declared.ending.Fault.{Fault}
-use Rattle.pm_top.specs.declared.ending.Fault.TheVariants.{NoMemory, ReadFailed, Refused, WriteFailed}
-use Rattle.pm_top.specs.declared.first_plan.FirstPlan.{FirstPlan}
-use Rattle.pm_top.specs.declared.first_plan.Refusal.TheVariants.{TooLong}
-use Rattle.pm_top.specs.Ending.{IsLoadFault, TookText, fault_status, file_fault, reading_text, refused_statuses, serial_statuses}
-use Rattle.pm_top.specs.FirstPlan.{first_plan_of, names_of, script_of}
-use Rattle.pm_top.specs.FirstRun.{first_run}
+use Rattle.pm_top.specs.declared.ending.Fault.TheVariants.{AtLimit, NoMemory, ReadFailed, Refused, Stuck, WriteFailed}
+use Rattle.pm_top.specs.declared.ending.TheConstants.{AT_LIMIT, REFUSED, WRITE_FAILED}
+use Rattle.pm_top.specs.Ending.{AgreesWith, IsAtEnd, IsCut, IsLoadFault, IsPlanOf, IsRunFault, Ran, RanRead, TookMessage, fault_message, fault_status, file_fault, refused_statuses, run_statuses, serial_statuses, status_message}
 
 -- a plan with too many bytes is refused for them
-too_long_refused : (bytes : List ℕ) → PLAN_BYTES < length bytes → first_plan_of bytes ≡ Err TooLong
-unfolding first_plan_of
+too_long_refused : (bytes : List ℕ) → PLAN_BYTES < length bytes → plan_of bytes ≡ Err (plan.Refused TooLong Top 0 0)
+unfolding plan_of
 too_long_refused bytes long = rw (lt-ltb PLAN_BYTES (length bytes) long)
 
-too_long_told : (told : Option (List ℕ)) → IfSome told (λ bytes. PLAN_BYTES < length bytes) → IfSome told (λ bytes. first_plan_of bytes ≡ Err TooLong)
+too_long_told : (told : Option (List ℕ)) → IfSome told (λ bytes. PLAN_BYTES < length bytes) → IfSome told (λ bytes. plan_of bytes ≡ Err (plan.Refused TooLong Top 0 0))
 too_long_told None long = tt
 too_long_told (Some bytes) long = too_long_refused bytes long
 
@@ -32,22 +40,138 @@ file_not_read told old new file.Failed failed long = failed refl
 file_not_read told old new file.TooLong failed long = too_long_told told (long refl)
 file_not_read told old new file.NoMemory failed long = tt
 
--- the text of the lines is that of the plan's bytes
-pub told_text : (told : Option (List ℕ)) (plan : FirstPlan) (lines : List Line) (old new : Option (List ℕ)) → IfSome told (λ bytes. first_plan_of bytes ≡ Ok plan)
-    → lines ≡ first_run (script_of plan) → new ≡ append_known old (lines_text (names_of plan) lines) → TookText told old new
-told_text None plan lines old new reads is took = tt
-told_text (Some bytes) plan lines old new reads is took =
-    took ∙ ap (λ run. append_known old (lines_text (names_of plan) run)) is ∙ ap (λ reading. append_known old (reading_text reading)) (sym reads)
+-- a lawful list has no more lines than its plan allows
+lawful_len : (plan : Plan) (h : List Line) → IsLawful plan h → length h ≤ plan.lines
+lawful_len plan [] lawful = omega arith
+lawful_len plan (line ∷ h) lawful = let more : length h < plan.lines = lawful.1 in omega arith
 
--- each fault has a status of `serial`, and each but a failed write one that a refused plan may have
+-- a run that has all lines and isn't finished is cut
+pub at_limit_is_cut : (p : Pages) → IsLawful p.plan p.lines → IsEnd p end.AtLimit → IsCut p.plan p.lines
+at_limit_is_cut p lawful ends = record {
+  full = let most : length p.lines ≤ p.plan.lines = lawful_len p.plan p.lines lawful in grind (arith, ends.0);
+  unfinished = ends.1;
+}
+
+pub end_is_at_end : (p : Pages) (ends : End) → IsLawful p.plan p.lines → IsEnd p ends → ends ≢ end.Stuck → IsAtEnd p.plan p.lines
+end_is_at_end p end.Finished lawful is other = inl is
+end_is_at_end p end.AtLimit lawful is other = inr (at_limit_is_cut p lawful is)
+end_is_at_end p end.Stuck lawful is other = absurd (other refl)
+
+-- what was taken of the text of a book's lines is so much of the text of a run
+pub ran : (Ends : Plan → List Line → Type 0) (Took : List ℕ → Type 0) (plan shown : Plan) (p : Pages) (lines : List Line)
+    → p.plan ≡ plan → shown ≡ p.plan → reverse lines ≡ p.lines → IsLawful p.plan p.lines → Ends p.plan p.lines → Took (text shown lines) → Ran plan Ends Took
+ran Ends Took plan shown p lines plan_is shown_is lines_are lawful ends took =
+    let in_order : lines ≡ reverse p.lines = sym (reverse-reverse lines) ∙ ap (λ h. reverse h) lines_are in
+    subst (λ q. Ran q Ends Took) plan_is (record {
+      lines = p.lines;
+      lawful = lawful;
+      ends = ends;
+      took = subst Took (ap (λ q. text q lines) shown_is ∙ ap (text p.plan) in_order) took;
+    })
+
+pub ran_read : (told : Option (List ℕ)) (plan : Plan) (Ends : Plan → List Line → Type 0) (Took : List ℕ → Type 0) → IsPlanOf told plan → Ran plan Ends Took → RanRead told Ends Took
+ran_read told plan Ends Took reads ran = record { plan = plan; read = reads; run = ran }
+
+-- the run of a plan that was read isn't refused
+not_refused : (read : Contents) (fault : Fault) → IsRunFault fault → AgreesWith (Ok read) (Err fault)
+not_refused read (Refused why section item part) is = is
+not_refused read ReadFailed is = tt
+not_refused read WriteFailed is = tt
+not_refused read AtLimit is = tt
+not_refused read NoMemory is = tt
+not_refused read Stuck is = tt
+
+run_agrees : (read : Contents) (ending : Result (Unit {0}) Fault) → IfErr ending IsRunFault → AgreesWith (Ok read) ending
+run_agrees read (Ok done) is = tt
+run_agrees read (Err fault) is = not_refused read fault is
+
+pub read_agrees : (told : Option (List ℕ)) (plan : Plan) (ending : Result (Unit {0}) Fault) → IsPlanOf told plan → IfErr ending IsRunFault → IfSome told (λ bytes. AgreesWith (plan_of bytes) ending)
+read_agrees None plan ending reads is = tt
+read_agrees (Some bytes) plan ending reads is = rw reads (run_agrees (contents_of plan) ending is)
+
+-- each fault has a status of `serial`
 pub status_is_known : (fault : Fault) → Contains serial_statuses (fault_status fault)
-status_is_known (Refused why) = (1, lit< tt, refl)
+status_is_known (Refused why section item part) = (1, lit< tt, refl)
 status_is_known ReadFailed = (2, lit< tt, refl)
 status_is_known WriteFailed = (3, lit< tt, refl)
-status_is_known NoMemory = (4, lit< tt, refl)
+status_is_known AtLimit = (4, lit< tt, refl)
+status_is_known NoMemory = (5, lit< tt, refl)
+status_is_known Stuck = (6, lit< tt, refl)
 
-pub status_is_early : (fault : Fault) → fault ≢ WriteFailed → Contains refused_statuses (fault_status fault)
-status_is_early (Refused why) other = (0, lit< tt, refl)
-status_is_early ReadFailed other = (1, lit< tt, refl)
-status_is_early WriteFailed other = absurd (other refl)
-status_is_early NoMemory other = (2, lit< tt, refl)
+-- a fault that comes while a plan is read, or that a refused plan allows, has a status that a refused plan may have
+pub load_status : (told : Option (List ℕ)) (old new : ℕ) (fault : Fault) → IsLoadFault told old new fault → Contains refused_statuses (fault_status fault)
+load_status told old new (Refused why section item part) is = (0, lit< tt, refl)
+load_status told old new ReadFailed is = (1, lit< tt, refl)
+load_status told old new WriteFailed is = absurd is
+load_status told old new AtLimit is = absurd is
+load_status told old new NoMemory is = (2, lit< tt, refl)
+load_status told old new Stuck is = absurd is
+
+refused_by : (cause : PlanFault) (fault : Fault) → AgreesWith (Err cause) (Err fault) → Contains refused_statuses (fault_status fault)
+refused_by cause (Refused why section item part) agrees = (0, lit< tt, refl)
+refused_by cause ReadFailed agrees = (1, lit< tt, refl)
+refused_by cause WriteFailed agrees = absurd agrees
+refused_by cause AtLimit agrees = absurd agrees
+refused_by cause NoMemory agrees = (2, lit< tt, refl)
+refused_by cause Stuck agrees = absurd agrees
+
+refused_reading : (reading : Result Contents PlanFault) (fault : Fault) → AgreesWith reading (Err fault) → IsErr reading → Contains refused_statuses (fault_status fault)
+refused_reading (Ok read) fault agrees refused = cc
+refused_reading (Err cause) fault agrees refused = refused_by cause fault agrees
+
+pub refused_status : (told : Option (List ℕ)) (fault : Fault) → IfSome told (λ bytes. AgreesWith (plan_of bytes) (Err fault))
+    → IfSome told (λ bytes. IsErr (plan_of bytes) → Contains refused_statuses (fault_status fault))
+refused_status None fault agrees = tt
+refused_status (Some bytes) fault agrees = refused_reading (plan_of bytes) fault agrees
+
+-- a fault of a plan that reads, where neither files nor output fail, has a status of a run
+run_by : (read : Contents) (fault : Fault) (Reads Writes : Type 0) → (fault ≡ ReadFailed → Reads) → (fault ≡ WriteFailed → Writes) → AgreesWith (Ok read) (Err fault) → ¬ Reads → ¬ Writes
+    → Contains run_statuses (fault_status fault)
+run_by read (Refused why section item part) Reads Writes reads writes agrees no_read no_write = absurd agrees
+run_by read ReadFailed Reads Writes reads writes agrees no_read no_write = absurd (no_read (reads refl))
+run_by read WriteFailed Reads Writes reads writes agrees no_read no_write = absurd (no_write (writes refl))
+run_by read AtLimit Reads Writes reads writes agrees no_read no_write = (1, lit< tt, refl)
+run_by read NoMemory Reads Writes reads writes agrees no_read no_write = (2, lit< tt, refl)
+run_by read Stuck Reads Writes reads writes agrees no_read no_write = (3, lit< tt, refl)
+
+run_reading : (reading : Result Contents PlanFault) (fault : Fault) (Reads Writes : Type 0) → (fault ≡ ReadFailed → Reads) → (fault ≡ WriteFailed → Writes) → AgreesWith reading (Err fault)
+    → IsOk reading → ¬ Reads → ¬ Writes → Contains run_statuses (fault_status fault)
+run_reading (Ok read) fault Reads Writes reads writes agrees ok no_read no_write = run_by read fault Reads Writes reads writes agrees no_read no_write
+run_reading (Err cause) fault Reads Writes reads writes agrees ok no_read no_write = cc
+
+pub run_status : (told : Option (List ℕ)) (fault : Fault) (Reads Writes : Type 0) → (fault ≡ ReadFailed → Reads) → (fault ≡ WriteFailed → Writes)
+    → IfSome told (λ bytes. AgreesWith (plan_of bytes) (Err fault)) → IfSome told (λ bytes. IsOk (plan_of bytes) → ¬ Reads → ¬ Writes → Contains run_statuses (fault_status fault))
+run_status None fault Reads Writes reads writes agrees = tt
+run_status (Some bytes) fault Reads Writes reads writes agrees = run_reading (plan_of bytes) fault Reads Writes reads writes agrees
+
+-- a status names its fault, but for a refusal
+pub write_status : (fault : Fault) → fault_status fault ≡ WRITE_FAILED → fault ≡ WriteFailed
+write_status (Refused why section item part) is = cc
+write_status ReadFailed is = cc
+write_status WriteFailed is = refl
+write_status AtLimit is = cc
+write_status NoMemory is = cc
+write_status Stuck is = cc
+
+pub limit_status : (fault : Fault) → fault_status fault ≡ AT_LIMIT → fault ≡ AtLimit
+limit_status (Refused why section item part) is = cc
+limit_status ReadFailed is = cc
+limit_status WriteFailed is = cc
+limit_status AtLimit is = refl
+limit_status NoMemory is = cc
+limit_status Stuck is = cc
+
+-- the message of a fault is that of its status, but for a refusal
+message_status : (fault : Fault) → fault_status fault ≢ REFUSED → fault_message fault ≡ status_message (fault_status fault)
+message_status (Refused why section item part) other = absurd (other refl)
+message_status ReadFailed other = refl
+message_status WriteFailed other = refl
+message_status AtLimit other = refl
+message_status NoMemory other = refl
+message_status Stuck other = refl
+
+pub told_message : (fault : Fault) (status : ℕ) (old new : Option (List ℕ)) (faults_old faults_new : ℕ) → status ≡ fault_status fault → status ≢ REFUSED
+    → TookMessage (fault_message fault) old new faults_old faults_new → TookMessage (status_message status) old new faults_old faults_new
+told_message fault status old new faults_old faults_new is other took =
+    let same : fault_message fault ≡ status_message status = message_status fault (λ refused. other (is ∙ refused)) ∙ ap status_message (sym is) in
+    subst (λ (message : List ℕ). TookMessage message old new faults_old faults_new) same took

@@ -1,5 +1,3 @@
 pub mod Ending
-pub mod FirstPlan
-pub mod FirstRun
-pub mod LineText
+pub mod Pieces
 pub mod Words

@@ -3,9 +3,9 @@
 ghost use Rattle.std.specs.Prelude.{◌≡◌};
 ghost use Rattle.pm_top.specs.Ending.{fault_message, fault_status, usage, TookMessage};
 
-use crate::first_plan::{PlanFault, Refusal};
-use pm_base::Failed;
+use pm_base::{Failed, NoMemory};
 use pm_io::{FileFault, Sink, write_whole};
+use pm_planread::{PlanFault, PlanWhy, Section, refusal_message};
 use std::alloc::AllocError;
 
 /// Everything was done.
@@ -23,8 +23,15 @@ pub const READ_FAILED: u8 = 4;
 /// Writing the output failed.
 pub const WRITE_FAILED: u8 = 5;
 
+/// The run has all the lines that the plan allows, and isn't finished. It was written.
+pub const AT_LIMIT: u8 = 6;
+
 /// Memory ran out, before anything was written.
 pub const NO_MEMORY: u8 = 7;
+
+/// A test of the run failed that no law over whole runs rules out as yet. Nothing was written. No known
+/// plan comes here.
+pub const STUCK: u8 = 8;
 
 /// How the program is called.
 const USAGE: &[u8] =
@@ -33,10 +40,23 @@ const USAGE: &[u8] =
 /// Why a command didn't do everything.
 #[derive(Clone, Copy, Debug, PartialEq, Eq)]
 pub enum Fault {
-    Refused(Refusal),
+    /// The plan is refused, at this item of the section and this part of the item.
+    Refused {
+        why: PlanWhy,
+        section: Section,
+        item: u32,
+        part: u32,
+    },
+    /// Reading the plan failed.
     ReadFailed,
+    /// Writing the output failed.
     WriteFailed,
+    /// The run has all the lines that the plan allows, and isn't finished.
+    AtLimit,
+    /// Memory ran out.
     NoMemory,
+    /// A test of the run failed that no law over whole runs rules out as yet.
+    Stuck,
 }
 
 impl From<AllocError> for Fault {
@@ -46,6 +66,17 @@ impl From<AllocError> for Fault {
     ghost from_gives = { λ _ fault. fault ≡ NoMemory };
 
     fn from(_error: AllocError) -> Fault {
+        Fault::NoMemory
+    }
+}
+
+impl From<NoMemory> for Fault {
+    ghost use Rattle.std.specs.Prelude.{◌≡◌};
+    ghost use Rattle.pm_top.specs.declared.ending.Fault.TheVariants.{NoMemory};
+
+    ghost from_gives = { λ _ fault. fault ≡ NoMemory };
+
+    fn from(_error: NoMemory) -> Fault {
         Fault::NoMemory
     }
 }
@@ -69,7 +100,17 @@ impl From<PlanFault> for Fault {
 
     fn from(fault: PlanFault) -> Fault {
         match fault {
-            PlanFault::Refused(why) => Fault::Refused(why),
+            PlanFault::Refused {
+                why,
+                section,
+                item,
+                part,
+            } => Fault::Refused {
+                why,
+                section,
+                item,
+                part,
+            },
             PlanFault::NoMemory => Fault::NoMemory,
         }
     }
@@ -84,7 +125,12 @@ impl From<FileFault> for Fault {
     fn from(fault: FileFault) -> Fault {
         match fault {
             FileFault::Failed => Fault::ReadFailed,
-            FileFault::TooLong => Fault::Refused(Refusal::TooLong),
+            FileFault::TooLong => Fault::Refused {
+                why: PlanWhy::TooLong,
+                section: Section::Top,
+                item: 0,
+                part: 0,
+            },
             FileFault::NoMemory => Fault::NoMemory,
         }
     }
@@ -96,24 +142,33 @@ impl Fault {
         ensures { result ≡ fault_status self }
     {
         match self {
-            Fault::Refused(_) => REFUSED,
+            Fault::Refused { .. } => REFUSED,
             Fault::ReadFailed => READ_FAILED,
             Fault::WriteFailed => WRITE_FAILED,
+            Fault::AtLimit => AT_LIMIT,
             Fault::NoMemory => NO_MEMORY,
+            Fault::Stuck => STUCK,
         }
     }
 
-    /// The line that tells of the fault. It takes no memory.
-    fn message(self) -> &'static [u8]
-        ensures { result.now ≡ fault_message self }
+    /// Writes the line that tells of the fault to `err`. It takes no memory, and a fault of `err` changes
+    /// nothing.
+    fn tell<E: Sink>(self, err: &mut E)
+        ensures { TookMessage (fault_message self) (E.taken err.old) (E.taken err.new)
+            (E.faults err.old) (E.faults err.new) }
     {
         match self {
-            Fault::Refused(Refusal::TooLong) => b"plan: too_long top 0 0\n",
-            Fault::Refused(Refusal::NotToml) => b"plan: not_toml top 0 0\n",
-            Fault::Refused(Refusal::NotYet) => b"plan: not_yet top 0 0\n",
-            Fault::ReadFailed => b"read\n",
-            Fault::WriteFailed => b"write\n",
-            Fault::NoMemory => b"memory\n",
+            Fault::Refused {
+                why,
+                section,
+                item,
+                part,
+            } => say(err, refusal_message(why, section, item, part).as_slice()),
+            Fault::ReadFailed => say(err, b"read\n"),
+            Fault::WriteFailed => say(err, b"write\n"),
+            Fault::AtLimit => say(err, b"limit\n"),
+            Fault::NoMemory => say(err, b"memory\n"),
+            Fault::Stuck => say(err, b"stuck\n"),
         }
     }
 
@@ -123,7 +178,7 @@ impl Fault {
         ensures message { TookMessage (fault_message self) (E.taken err.old) (E.taken err.new)
             (E.faults err.old) (E.faults err.new) }
     {
-        say(err, self.message());
+        self.tell(err);
         self.status()
     }
 }

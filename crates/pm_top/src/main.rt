@@ -2,11 +2,7 @@
 #![tactic(auto)]
 
 mod ending;
-mod first_plan;
-mod first_run;
-mod line_text;
 mod output;
-mod read_plan;
 #[cfg(test)]
 mod runs;
 #[cfg(test)]

@@ -1,21 +1,26 @@
 //! The commands, over files and sinks that are handed in.
 
-ghost use Rattle.std.specs.Prelude.{◌≡◌, ◌≢◌, ◌↔◌, ◌∷◌, [], map, string_bytes, Contains, IfErr, IfOk, IfSome, IsErrAnd, IsErrOf, IsNone, IsOk, IsSome, IsTrue, OnOk};
+ghost use Rattle.std.specs.Prelude.{◌≡◌, ◌≢◌, ◌↔◌, ◌⊎◌, map, string_bytes, Contains, IfErr, IfOk, IfSome, IsErrAnd, IsErrOf, IsNone, IsOk, IsSome, IsTrue, OnOk};
+ghost use Rattle.std.specs.Io.KnownBytes.{append_known};
 ghost use Rattle.pm_io.specs.Faults.{Rose};
-ghost use Rattle.pm_top.specs.Ending.{AgreesWith, IsLoadFault, IsRefused, refused_statuses, serial_statuses, status_message, told_plan, TookMessage, TookRefusal, TookText, TookTextPrefix};
-ghost use Rattle.pm_top.specs.FirstPlan.{first_plan_of, IsSmall};
+ghost use Rattle.pm_io.specs.Sink.{TookPrefix};
+ghost use Rattle.pm_model.specs.Lawful.{IsFinished};
+ghost use Rattle.pm_planread.specs.PlanOf.{plan_of};
+ghost use Rattle.pm_serial.specs.Ending.{IsEnd};
+ghost use Rattle.pm_top.specs.Ending.{AgreesWith, IsAtEnd, IsCut, IsLoadFault, IsPlanOf, IsRefused, IsRunFault, Ran, refused_statuses, run_statuses, serial_statuses, status_message, told_plan, TookCut, TookFinished, TookMessage, TookPart, TookRefusal};
 ghost use Rattle.pm_top.specs.Words.{serial_plan};
 
 use crate::ending::{
-    DONE, Fault, NO_MEMORY, READ_FAILED, REFUSED, WRITE_FAILED, WRONG_WORDS, refuse_words,
+    AT_LIMIT, DONE, Fault, READ_FAILED, REFUSED, WRITE_FAILED, WRONG_WORDS, refuse_words,
 };
-use crate::first_plan::FirstPlan;
-use crate::first_run::first_run;
-use crate::output::write_lines;
-use crate::read_plan::read_plan;
+use crate::output::write_text;
 use crate::words::serial_plan;
-use pm_base::{LINE_BYTES, PLAN_BYTES};
+use pm_base::{NoMemory, PLAN_BYTES, TEXT_BYTES};
+use pm_book::Book;
 use pm_io::{Files, Sink, read_all};
+use pm_model::Plan;
+use pm_planread::read_plan;
+use pm_serial::{End, drain};
 use std::alloc::Global;
 
 /// Runs the command that the words name: they are those after the program's name, and `serial PLAN`
@@ -39,20 +44,23 @@ pub fn top<F: Files, O: Sink, E: Sink>(
     ensures only_refused { result ≡ REFUSED
         → IfSome (told_plan (F.told files.old) (map string_bytes words.now)) IsRefused }
     ensures runs { IfSome (told_plan (F.told files.old) (map string_bytes words.now))
-        (λ bytes. IsOk (first_plan_of bytes)
+        (λ bytes. IsOk (plan_of bytes)
         → ¬ Rose (F.faults files.old) (F.faults files.new)
         → ¬ Rose (O.faults out.old) (O.faults out.new)
-        → Contains (DONE ∷ NO_MEMORY ∷ []) result) }
+        → Contains run_statuses result) }
     ensures missing { result ≢ WRONG_WORDS → IsTrue F.tells_all
         → IsNone (told_plan (F.told files.old) (map string_bytes words.now))
         → Contains refused_statuses result }
     ensures text { result ≡ DONE
-        → TookText (told_plan (F.told files.old) (map string_bytes words.now))
+        → TookFinished (told_plan (F.told files.old) (map string_bytes words.now))
+        (O.taken out.old) (O.taken out.new) }
+    ensures cut { result ≡ AT_LIMIT
+        → TookCut (told_plan (F.told files.old) (map string_bytes words.now))
         (O.taken out.old) (O.taken out.new) }
     ensures prefix { result ≡ WRITE_FAILED
-        → TookTextPrefix (told_plan (F.told files.old) (map string_bytes words.now))
+        → TookPart (told_plan (F.told files.old) (map string_bytes words.now))
         (O.taken out.old) (O.taken out.new) }
-    ensures nothing { result ≢ DONE → result ≢ WRITE_FAILED
+    ensures nothing { result ≢ DONE → result ≢ AT_LIMIT → result ≢ WRITE_FAILED
         → O.taken out.new ≡ O.taken out.old }
     ensures read { result ≡ READ_FAILED → Rose (F.faults files.old) (F.faults files.new) }
     ensures write { result ≡ WRITE_FAILED → Rose (O.faults out.old) (O.faults out.new) }
@@ -85,21 +93,24 @@ pub fn serial_top<F: Files, O: Sink, E: Sink>(
     ensures only_refused { result ≡ REFUSED → IfSome (F.told files.old plan.now) IsRefused }
 
     // A plan whose reading and whose output don't fail is run, if there is memory.
-    ensures runs { IfSome (F.told files.old plan.now) (λ bytes. IsOk (first_plan_of bytes)
+    ensures runs { IfSome (F.told files.old plan.now) (λ bytes. IsOk (plan_of bytes)
         → ¬ Rose (F.faults files.old) (F.faults files.new)
         → ¬ Rose (O.faults out.old) (O.faults out.new)
-        → Contains (DONE ∷ NO_MEMORY ∷ []) result) }
+        → Contains run_statuses result) }
 
     // No plan is run that isn't there.
     ensures missing { IsTrue F.tells_all → IsNone (F.told files.old plan.now)
         → Contains refused_statuses result }
 
-    // What `out` took: the text of the run, and at each other status nothing.
+    // What `out` took: the text of a run that is finished or has all the lines that its plan allows, or
+    // a prefix of it where a write failed; and at each other status nothing.
     ensures text { result ≡ DONE
-        → TookText (F.told files.old plan.now) (O.taken out.old) (O.taken out.new) }
+        → TookFinished (F.told files.old plan.now) (O.taken out.old) (O.taken out.new) }
+    ensures cut { result ≡ AT_LIMIT
+        → TookCut (F.told files.old plan.now) (O.taken out.old) (O.taken out.new) }
     ensures prefix { result ≡ WRITE_FAILED
-        → TookTextPrefix (F.told files.old plan.now) (O.taken out.old) (O.taken out.new) }
-    ensures nothing { result ≢ DONE → result ≢ WRITE_FAILED
+        → TookPart (F.told files.old plan.now) (O.taken out.old) (O.taken out.new) }
+    ensures nothing { result ≢ DONE → result ≢ AT_LIMIT → result ≢ WRITE_FAILED
         → O.taken out.new ≡ O.taken out.old }
 
     // Reading and writing are said to fail only where they did.
@@ -118,8 +129,7 @@ pub fn serial_top<F: Files, O: Sink, E: Sink>(
     }
 }
 
-/// Reads the plan and writes the lines of its run. Everything that takes memory comes before the
-/// first write.
+/// Reads the plan, runs it and writes the lines of its run.
 fn serial<F: Files, O: Sink>(
     alloc: Global,
     plan: &str,
@@ -127,32 +137,78 @@ fn serial<F: Files, O: Sink>(
     out: &mut O,
 ) -> Result<(), Fault>
     ensures agrees { IfSome (F.told files.old plan.now)
-        (λ bytes. AgreesWith (first_plan_of bytes) result) }
+        (λ bytes. AgreesWith (plan_of bytes) result) }
     ensures missing { IsTrue F.tells_all → IsNone (F.told files.old plan.now)
-        → IsErrAnd result (λ fault. fault ≢ Fault.WriteFailed) }
+        → IsErrAnd result (IsLoadFault (F.told files.old plan.now) (F.faults files.old) (F.faults files.new)) }
     ensures text { OnOk result
-        (TookText (F.told files.old plan.now) (O.taken out.old) (O.taken out.new)) }
+        (TookFinished (F.told files.old plan.now) (O.taken out.old) (O.taken out.new)) }
+    ensures cut { IsErrOf result Fault.AtLimit
+        → TookCut (F.told files.old plan.now) (O.taken out.old) (O.taken out.new) }
     ensures prefix { IsErrOf result Fault.WriteFailed
-        → TookTextPrefix (F.told files.old plan.now) (O.taken out.old) (O.taken out.new) }
-    ensures nothing { IfErr result
-        (λ fault. fault ≢ Fault.WriteFailed → O.taken out.new ≡ O.taken out.old) }
+        → TookPart (F.told files.old plan.now) (O.taken out.old) (O.taken out.new) }
+    ensures nothing { IfErr result (λ fault. fault ≢ Fault.AtLimit → fault ≢ Fault.WriteFailed
+        → O.taken out.new ≡ O.taken out.old) }
     ensures read { IsErrOf result Fault.ReadFailed
         → Rose (F.faults files.old) (F.faults files.new) }
     ensures write { IsErrOf result Fault.WriteFailed
         → Rose (O.faults out.old) (O.faults out.new) }
 {
     let plan = load(alloc, plan, files)?;
-    let lines = first_run(alloc, plan.script())?;
-    let mut text = Vec::with_capacity(alloc, LINE_BYTES + 1)?;
-    write_lines(out, &mut text, &plan, &lines)?;
-    Ok(())
+    run_plan(alloc, plan, out)
+}
+
+/// Runs the plan on one thread and writes the lines of its run. Everything that takes memory comes
+/// before the first write.
+fn run_plan<O: Sink>(alloc: Global, plan: Plan, out: &mut O) -> Result<(), Fault>
+    ensures text { OnOk result (Ran plan IsFinished
+        (λ bytes. O.taken out.new ≡ append_known (O.taken out.old) bytes)) }
+    ensures cut { IsErrOf result Fault.AtLimit → Ran plan IsCut
+        (λ bytes. O.taken out.new ≡ append_known (O.taken out.old) bytes) }
+    ensures prefix { IsErrOf result Fault.WriteFailed → Ran plan IsAtEnd
+        (λ bytes. TookPrefix (O.taken out.old) (O.taken out.new) bytes) }
+    ensures nothing { IfErr result (λ fault. fault ≢ Fault.AtLimit → fault ≢ Fault.WriteFailed
+        → O.taken out.new ≡ O.taken out.old) }
+    ensures fault { IfErr result IsRunFault }
+    ensures write { IsErrOf result Fault.WriteFailed
+        → Rose (O.faults out.old) (O.faults out.new) }
+{
+    let (book, end) = run(alloc, plan)?;
+    let mut piece = Vec::with_capacity(alloc, TEXT_BYTES + 1)?;
+    write_text(alloc, out, &mut piece, book.plan(), book.lines())?;
+    match end {
+        End::Finished => Ok(()),
+        End::AtLimit => Err(Fault::AtLimit),
+        End::Stuck => unreachable!(),
+    }
+}
+
+/// Runs the plan on one thread to its end, and says which of the two that is.
+fn run(alloc: Global, plan: Plan) -> Result<(Book, End), Fault>
+    ensures plan { IfOk result (λ done. done.0.plan ≡ plan) }
+    ensures end { IfOk result (λ done. IsEnd done.0 done.1) }
+    ensures goes_on { IfOk result (λ done. done.1 ≢ End.Stuck) }
+    ensures fault { IfErr result (λ fault. (fault ≡ Fault.NoMemory) ⊎ (fault ≡ Fault.Stuck)) }
+{
+    let mut book = start(alloc, plan)?;
+    match drain(&mut book)? {
+        End::Stuck => Err(Fault::Stuck),
+        end => Ok((book, end)),
+    }
+}
+
+/// The book of the plan, with no lines.
+fn start(alloc: Global, plan: Plan) -> Result<Book, NoMemory>
+    ensures { IfOk result (λ book. book.plan ≡ plan) }
+{
+    match Book::start(alloc, plan) {
+        Ok(book) => Ok(book),
+        Err((_plan, error)) => Err(error),
+    }
 }
 
 /// Reads the plan from its file.
-fn load<F: Files>(alloc: Global, plan: &str, files: &mut F) -> Result<FirstPlan, Fault>
-    ensures ok { IfOk result (λ read. IfSome (F.told files.old plan.now)
-        (λ bytes. first_plan_of bytes ≡ Ok read)) }
-    ensures small { IfOk result IsSmall }
+fn load<F: Files>(alloc: Global, plan: &str, files: &mut F) -> Result<Plan, Fault>
+    ensures ok { IfOk result (IsPlanOf (F.told files.old plan.now)) }
     ensures there { OnOk result (IsTrue F.tells_all → IsSome (F.told files.old plan.now)) }
     ensures fault { IfErr result (IsLoadFault (F.told files.old plan.now)
         (F.faults files.old) (F.faults files.new)) }

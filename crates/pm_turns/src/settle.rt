@@ -6,9 +6,7 @@ ghost use Rattle.pm_turns.specs.Seats.{AreOf, IsSeated};
 
 use crate::turns::Turns;
 use pm_base::{ActorId, DevId, NoMemory};
-use pm_model::{
-    ControlStage, Event, Line, Plan, ResumeStage, Stage, SuspendStage,
-};
+use pm_model::{ControlStage, Event, Line, Plan, ResumeStage, Stage, SuspendStage};
 use pm_state::{State, device_of};
 
 // The device that is waited for at a stage after a wait line.
@@ -149,7 +147,9 @@ impl Turns {
         if let Some(dev) = at {
             self.touch(plan, state, dev);
         }
-        if let Some(dev) = of && of != at {
+        if let Some(dev) = of
+            && of != at
+        {
             self.touch(plan, state, dev);
         }
     }

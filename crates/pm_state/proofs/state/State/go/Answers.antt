@@ -13,7 +13,7 @@ apply-requires-clause-happens c =
     let w = c.args.self.now.world in
     let views_of : Standing → Views = λ s. s.world.views in
     let kept : c.self.inside.parts.views ≡ w.views =
-        ap views_of c.self.view_is ∙ ap views_of c.count_call.ensures ∙ ap views_of c.in_ok-give_way.ensures.ok
-        ∙ with_place_views w line.actor (after_then c.args.then (drop 1 (place w line.actor))) in
+    ap views_of c.self.view_is ∙ ap views_of c.count_call.ensures ∙ ap views_of c.in_ok-give_way.ensures.ok
+    ∙ with_place_views w line.actor (after_then c.args.then (drop 1 (place w line.actor))) in
     let passed = event_fits c.args.plan.now w line.actor c.args.stage line.event c.requires.fits in
     subst (λ v. CanHappen c.args.plan.now v line.event) (sym kept) (can_happen c.args.plan.now w.views line.event passed c.requires.frees)

@@ -1,0 +1,6 @@
+//! Runs a plan on one thread (this project's own).
+#![tactic(auto)]
+
+mod running;
+
+pub use running::{End, drain};

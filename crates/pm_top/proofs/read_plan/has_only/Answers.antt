@@ -1,6 +1,0 @@
-use Rattle.std.proofs.Common.{refl}
-use Rattle.pm_top.proofs.PlanLemmas.{member_keys_view}
-use Rattle.pm_top.proofs.read_plan.has_only.Goals as goal
-
-pub loop-key-init : goal.loop-key-init
-loop-key-init c = rw (member_keys_view c.args.table.now.entries) (rw (c.into_iter-key-iterator.ensures.into_iter_gives, c.keys-key-items.ensures.rest) refl)
