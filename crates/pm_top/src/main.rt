@@ -4,6 +4,8 @@
 mod ending;
 mod output;
 #[cfg(test)]
+mod runs;
+#[cfg(test)]
 mod tests;
 mod top;
 mod words;
