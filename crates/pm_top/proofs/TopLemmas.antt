@@ -63,7 +63,7 @@ ran Ends Took plan p plan_is lawful ends took =
       took = took;
     })
 
--- the text of a book's lines, as they are shown
+-- the text of a book's lines is that of the lines as they are shown
 pub shown_text : (p : Pages) (shown : Plan) (lines : List Line) → shown ≡ p.plan → reverse lines ≡ p.lines → text shown lines ≡ text p.plan (reverse p.lines)
 shown_text p shown lines shown_is lines_are =
     ap (λ (q : Plan). text q lines) shown_is ∙ ap (text p.plan) (sym (reverse-reverse lines) ∙ ap (λ (h : List Line). reverse h) lines_are)
@@ -72,25 +72,9 @@ shown_text p shown lines shown_is lines_are =
 pub same_plan : (old new : Pages) → GoesOn old new → new.plan ≡ old.plan
 same_plan old new goes_on = ap (λ (p : Pages). p.plan) goes_on.added
 
+-- a run of the plan that was read
 pub ran_read : (told : Option (List ℕ)) (plan : Plan) (Ends : Plan → List Line → Type 0) (Took : List ℕ → Type 0) → IsPlanOf told plan → Ran plan Ends Took → RanRead told Ends Took
 ran_read told plan Ends Took reads ran = record { plan = plan; read = reads; run = ran }
-
--- the run of a plan that was read isn't refused
-not_refused : (read : Contents) (fault : Fault) → IsRunFault fault → AgreesWith (Ok read) (Err fault)
-not_refused read (Refused why section item part) is = is
-not_refused read ReadFailed is = tt
-not_refused read WriteFailed is = tt
-not_refused read AtLimit is = tt
-not_refused read NoMemory is = tt
-not_refused read Stuck is = tt
-
-run_agrees : (read : Contents) (ending : Result (Unit {0}) Fault) → IfErr ending IsRunFault → AgreesWith (Ok read) ending
-run_agrees read (Ok done) is = tt
-run_agrees read (Err fault) is = not_refused read fault is
-
-pub read_agrees : (told : Option (List ℕ)) (plan : Plan) (ending : Result (Unit {0}) Fault) → IsPlanOf told plan → IfErr ending IsRunFault → IfSome told (λ bytes. AgreesWith (plan_of bytes) ending)
-read_agrees None plan ending reads is = tt
-read_agrees (Some bytes) plan ending reads is = rw reads (run_agrees (contents_of plan) ending is)
 
 -- each fault has a status of `serial`
 pub status_is_known : (fault : Fault) → Contains serial_statuses (fault_status fault)

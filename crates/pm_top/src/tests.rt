@@ -33,7 +33,8 @@ static FIRST_TEXT: &str = "0 c pm_call: enable a
 0 c pm_ret: put_noidle a 0
 ";
 
-static USAGE: &str = "usage: pm_top serial PLAN | run PLAN [--hands N] | audit PLAN TRACE | check PLAN | make NUMBER DEVICES | convert PLAN TRACE | times PLAN TRACE | why PLAN TRACE DEVICE | desk PLAN\n";
+static USAGE: &str =
+    "usage: pm_top serial PLAN | run PLAN [--hands N] | audit PLAN TRACE | check PLAN | make NUMBER DEVICES | convert PLAN TRACE | times PLAN TRACE | why PLAN TRACE DEVICE | desk PLAN\n";
 
 // Plans that are run, each with its text: no plan at all, in both formats; a caller with no script;
 // `get_sync` of a disabled device; and in format 2 a resume that takes 10 ms beside a `disable` that
@@ -143,9 +144,9 @@ fn ended(rt: &impl Abort, seen: &Seen, status: u8, out: &str, err: &str) {
 
 /// The first lines of a text, as many as this.
 fn first_lines(text: &'static str, count: usize) -> &'static str {
-    let mut len = 0;
+    let mut len = 0usize;
     for line in text.split_inclusive('\n').take(count) {
-        len += line.len();
+        len = len.saturating_add(line.len());
     }
     text.get(..len).unwrap_or(text)
 }
@@ -169,13 +170,7 @@ fn a_run_that_has_all_its_lines_is_written_and_told(rt: HostRuntime) -> Result<(
         let plan = format!(in alloc; "lines = {lines}\n{FIRST_PLAN}")?;
         let seen = run_plan(alloc, plan.as_bytes(), vec![in alloc]?)?;
         let message = if status == 6 { "limit\n" } else { "" };
-        ended(
-            &rt,
-            &seen,
-            status,
-            first_lines(FIRST_TEXT, lines),
-            message,
-        );
+        ended(&rt, &seen, status, first_lines(FIRST_TEXT, lines), message);
     }
     Ok(())
 }
@@ -203,7 +198,11 @@ fn a_failed_write_ends_behind_whole_lines(rt: HostRuntime) -> Result<(), Fail> {
     let last = run_plan(alloc, FIRST_PLAN.as_bytes(), vec![in alloc; 17]?)?;
     ended(&rt, &last, 0, FIRST_TEXT, "");
     // A run that has all its lines, and the header of format 2.
-    let limit = run_plan(alloc, b"lines = 1\ncaller = [{name = 'c', script = ['delay 1']}]", vec![in alloc; 1]?)?;
+    let limit = run_plan(
+        alloc,
+        b"lines = 1\ncaller = [{name = 'c', script = ['delay 1']}]",
+        vec![in alloc; 1]?,
+    )?;
     ended(&rt, &limit, 5, "", "write\n");
     let header = run_plan(alloc, b"trace = 2", vec![in alloc; 1]?)?;
     ended(&rt, &header, 5, "", "write\n");
