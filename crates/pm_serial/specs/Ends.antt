@@ -11,8 +11,8 @@ pub record GoesOn (old new : Pages) : Type 0 where
   pub more : List Line
   pub added : new ≡ record old { lines = more ++ old.lines }
 
--- the run is finished; or the list has all the lines that its plan allows, and the run isn't finished
+-- the run is finished; or it isn't, and the list has all the lines that its plan allows, or has room
 abbrev pub IsEnd : Pages → End → Type 0
 IsEnd p end.Finished = is_finished p.plan (world_of p) ≡ true
 IsEnd p end.AtLimit = (is_full p ≡ true) × (is_finished p.plan (world_of p) ≡ false)
-IsEnd p end.Stuck = Unit {0}
+IsEnd p end.Stuck = (is_full p ≡ false) × (is_finished p.plan (world_of p) ≡ false)

@@ -16,7 +16,8 @@ pub enum End {
     Finished,
     /// The list has all the lines that the plan allows, and the run isn't finished.
     AtLimit,
-    /// A test failed that no law over whole runs rules out as yet. No known run of a plan ends so.
+    /// The run isn't finished, the list has room, and the line of the actor whose turn it is can't be
+    /// written: a test failed that no law over whole runs rules out as yet. No known run ends so.
     Stuck,
 }
 
@@ -88,7 +89,8 @@ fn end_of(book: &Book) -> End
 }
 
 /// Lets the run of a book go on by the order of turns, until it is finished or has all the lines that
-/// its plan allows. After `NoMemory` the book holds the lines written so far, and this may be called
+/// its plan allows. `Finished` comes exactly where the run is finished in the end, `AtLimit` exactly
+/// where it isn't and the list is full. After `NoMemory` the book holds the lines written so far, and this may be called
 /// again.
 pub fn drain(book: &mut Book) -> Result<End, NoMemory>
     ensures goes_on { GoesOn book.old book.new }
