@@ -1,6 +1,6 @@
 //! The lines of a book, and the places that are kept for more.
 
-ghost use Rattle.std.specs.Prelude.{◌≡◌, ◌+◌, ◌-◌, ◌<◌, ◌≤◌, ◌++◌, ◌∷◌, [], reverse, OnErr, OnOk};
+ghost use Rattle.std.specs.Prelude.{◌≡◌, ◌+◌, ◌<◌, ◌≤◌, ◌^◌, ◌++◌, ◌∷◌, [], false, reverse, true, OnErr, OnOk};
 ghost use Rattle.pm_book.specs.Pages.{Sheet};
 ghost use Rattle.pm_model.specs.Lawful.{last_time};
 
@@ -76,7 +76,8 @@ impl Lines {
     pub fn make_room(&mut self, begins: bool) -> Result<(), NoMemory>
         ensures lines { self.new.lines ≡ self.old.lines }
         ensures room { OnOk result (self.new.ends + 1 ≤ self.new.spare) }
-        ensures kept { OnOk result (self.old.ends ≤ self.new.ends) }
+        ensures none { OnOk result (begins ≡ false → self.new.ends ≡ self.old.ends) }
+        ensures one { OnOk result (begins ≡ true → self.old.ends + 1 < 2 ^ 32 → self.new.ends ≡ self.old.ends + 1) }
         ensures err { OnErr result (self.new.ends ≡ self.old.ends) }
     {
         let ends = self.ends.saturating_add(u32::from(begins));
