@@ -1,5 +1,5 @@
 -- What a sink took of a text that is written line by line.
-use Rattle.std.proofs.Common.{◌≡◌, ℕ, ◌+◌, ◌<◌, ◌≤◌, List, [], ◌∷◌, ◌++◌, length, take, drop, get_or, reverse, refl, ap, ◌∙◌, subst, sym, append_assoc, append-nil, nat_eq, true, false, cond, Bool, arith}
+use Rattle.std.proofs.Common.{◌≡◌, ℕ, ◌+◌, ◌<◌, ◌≤◌, List, [], ◌∷◌, ◌++◌, length, take, drop, get_or, reverse, refl, ap, ◌∙◌, subst, sym, append_assoc, append-nil, nat_eq, true, false}
 use Rattle.std.proofs.lemmas.List.{reverse-append, reverse-reverse, take-append-drop, take_more}
 use Rattle.std.proofs.lemmas.Bool.{and_parts}
 use Rattle.std.proofs.lemmas.List.Folds.{list_all-append}
@@ -14,7 +14,7 @@ use Rattle.pm_model.specs.declared.event.Line.{Line}
 use Rattle.pm_model.specs.declared.plan.Plan.{Plan}
 use Rattle.pm_model.specs.Lawful.{IsLawful, last_time}
 use Rattle.pm_model.specs.LineOf.{is_line_of}
-use Rattle.pm_model.specs.Spelling.{Names, header, line_text, line_text2, lines_text, lines_text2, newline}
+use Rattle.pm_model.specs.Spelling.{header, line_text, line_text2, lines_text, lines_text2, newline}
 use Rattle.pm_model.specs.Text.{names_of, text}
 use Rattle.pm_top.specs.Pieces.{AreInTime, header_piece, line_piece, line_pieces, time_behind}
 

@@ -1,10 +1,10 @@
 -- What the ending of a command says.
-use Rattle.std.proofs.Common.{◌≡◌, ℕ, ◌<◌, ◌≤◌, List, [], ◌∷◌, Option, None, Some, Ok, Err, IfErr, IfSome, length, reverse, inl, inr, refl, ap, ◌∙◌, subst, sym, lit<, true, arith}
-use Rattle.std.specs.Prelude.{◌≢◌, ◌⊎◌, Result, Contains, IsErr, IsOk, IsNone, nat_le}
+use Rattle.std.proofs.Common.{◌≡◌, ℕ, ◌<◌, ◌≤◌, List, [], ◌∷◌, Option, None, Some, Ok, Err, IfSome, length, reverse, refl, ap, ◌∙◌, subst, sym, lit<, arith}
+use Rattle.std.specs.Prelude.{◌≢◌, Result, Contains, IsErr, IsOk}
 use Rattle.std.proofs.lemmas.Bool.{lt-ltb}
 use Rattle.std.proofs.lemmas.List.{reverse-reverse}
 use Rattle.pm_base.specs.declared.limits.TheConstants.{PLAN_BYTES}
-use Rattle.pm_book.specs.Pages.{Pages, is_full}
+use Rattle.pm_book.specs.Pages.{Pages}
 use Rattle.pm_io.specs.declared.reading.FileFault.{FileFault}
 use Rattle.pm_io.specs.declared.reading.FileFault.TheVariants as file
 use Rattle.pm_io.specs.Faults.{Rose}
@@ -15,15 +15,14 @@ use Rattle.pm_model.specs.Text.{text}
 use Rattle.pm_planread.specs.declared.refusal.PlanFault.{PlanFault}
 use Rattle.pm_planread.specs.declared.refusal.PlanFault.TheVariants as plan
 use Rattle.pm_planread.specs.declared.refusal.PlanWhy.TheVariants.{TooLong}
-use Rattle.pm_planread.specs.PlanOf.{Contents, contents_of, plan_of}
+use Rattle.pm_planread.specs.PlanOf.{Contents, plan_of}
 use Rattle.pm_plantree.specs.declared.place.Section.TheVariants.{Top}
-use Rattle.pm_serial.specs.declared.running.End.{End}
 use Rattle.pm_serial.specs.declared.running.End.TheVariants as end
 use Rattle.pm_serial.specs.Ends.{GoesOn, IsEnd}
 use Rattle.pm_top.specs.declared.ending.Fault.{Fault}
 use Rattle.pm_top.specs.declared.ending.Fault.TheVariants.{AtLimit, NoMemory, ReadFailed, Refused, Stuck, WriteFailed}
 use Rattle.pm_top.specs.declared.ending.TheConstants.{AT_LIMIT, REFUSED, WRITE_FAILED}
-use Rattle.pm_top.specs.Ending.{AgreesWith, IsAtEnd, IsCut, IsLoadFault, IsPlanOf, IsRunFault, Ran, RanRead, TookMessage, fault_message, fault_status, file_fault, refused_statuses, run_statuses, serial_statuses, status_message}
+use Rattle.pm_top.specs.Ending.{AgreesWith, IsCut, IsLoadFault, IsPlanOf, Ran, RanRead, TookMessage, fault_message, fault_status, file_fault, refused_statuses, run_statuses, serial_statuses, status_message}
 
 -- a plan with too many bytes is refused for them
 too_long_refused : (bytes : List ℕ) → PLAN_BYTES < length bytes → plan_of bytes ≡ Err (plan.Refused TooLong Top 0 0)

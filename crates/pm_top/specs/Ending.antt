@@ -1,5 +1,5 @@
 -- How a command ends: its status, its message, and what the program wrote (this project's own).
-use Rattle.std.specs.Prelude.{◌≡◌, ⊤, ℕ, ◌⊎◌, Option, List, [], ◌∷◌, ◌++◌, Result, Ok, Err, codes, false, length, nat_eq, reverse, IfSome, IsErr, option_and_then, if◌then◌else◌}
+use Rattle.std.specs.Prelude.{◌≡◌, ⊤, ℕ, ◌⊎◌, Option, List, [], ◌∷◌, Result, Ok, Err, codes, false, length, nat_eq, reverse, IfSome, IsErr, option_and_then, if◌then◌else◌}
 use Rattle.std.specs.Io.KnownBytes.{append_known}
 use Rattle.pm_io.specs.declared.reading.FileFault.{FileFault}
 use Rattle.pm_io.specs.declared.reading.FileFault.TheVariants as file

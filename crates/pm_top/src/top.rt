@@ -139,7 +139,8 @@ fn serial<F: Files, O: Sink>(
     ensures agrees { IfSome (F.told files.old plan.now)
         (λ bytes. AgreesWith (plan_of bytes) result) }
     ensures missing { IsTrue F.tells_all → IsNone (F.told files.old plan.now)
-        → IsErrAnd result (IsLoadFault (F.told files.old plan.now) (F.faults files.old) (F.faults files.new)) }
+        → IsErrAnd result (IsLoadFault (F.told files.old plan.now)
+        (F.faults files.old) (F.faults files.new)) }
     ensures text { OnOk result
         (TookFinished (F.told files.old plan.now) (O.taken out.old) (O.taken out.new)) }
     ensures cut { IsErrOf result Fault.AtLimit
@@ -208,7 +209,8 @@ fn write_book<O: Sink>(alloc: Global, book: &Book, out: &mut O) -> Result<(), Fa
     ensures prefix { OnErr result (TookPrefix (O.taken out.old) (O.taken out.new)
         (text book.now.plan (reverse book.now.lines))) }
     ensures nothing { IsErrOf result Fault.NoMemory → O.taken out.new ≡ O.taken out.old }
-    ensures fault { IfErr result (λ fault. (fault ≡ Fault.WriteFailed) ⊎ (fault ≡ Fault.NoMemory)) }
+    ensures fault { IfErr result
+        (λ fault. (fault ≡ Fault.WriteFailed) ⊎ (fault ≡ Fault.NoMemory)) }
     ensures write { IsErrOf result Fault.WriteFailed
         → Rose (O.faults out.old) (O.faults out.new) }
 {
