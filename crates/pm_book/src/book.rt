@@ -9,6 +9,7 @@ ghost use Rattle.pm_state.specs.Turns.{is_running};
 ghost use Rattle.pm_model.specs.World.{start};
 ghost use Rattle.pm_turns.specs.Seats.{AreOf};
 ghost use Rattle.pm_book.specs.Pages.{is_full, world_of};
+ghost use Rattle.pm_device.specs.Parts.{IsFor};
 
 use crate::lines::Lines;
 use pm_base::{ActorId, NoMemory};
@@ -89,7 +90,8 @@ impl Book {
 
     /// The counters after the lines.
     pub fn parts(&self) -> &Parts
-        ensures { result.now.views ≡ (world_of self.now).views }
+        ensures made_for { IsFor self.now.plan result.now.shape }
+        ensures views { result.now.views ≡ (world_of self.now).views }
     {
         self.state.parts()
     }
