@@ -8,6 +8,8 @@ mod runs;
 #[cfg(test)]
 mod tests;
 mod top;
+#[cfg(test)]
+mod views;
 mod words;
 
 use ending::{Fault, refuse_words};

@@ -1229,6 +1229,14 @@ script = ["enable a", "set_autosuspend_delay a 10", "use_autosuspend a", "get_sy
     },
 ];
 
+/// The plan of the run that shows this, and no bytes where there is none.
+pub(crate) fn plan_that_shows(shows: &str) -> &'static [u8] {
+    match RUNS.iter().find(|run| run.shows == shows) {
+        Some(run) => run.plan,
+        None => b"",
+    }
+}
+
 /// What a call of `serial` answered and wrote.
 #[derive(Drop)]
 struct Seen {
