@@ -1,6 +1,8 @@
 //! Runs a plan of `pm_runtime_*` calls and writes one trace line per atomic step.
 #![tactic(auto)]
 
+#[cfg(test)]
+mod drawn;
 mod ending;
 mod output;
 #[cfg(test)]

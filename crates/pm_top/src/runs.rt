@@ -1239,10 +1239,10 @@ pub(crate) fn plan_that_shows(shows: &str) -> &'static [u8] {
 
 /// What a call of `serial` answered and wrote.
 #[derive(Drop)]
-struct Seen {
-    status: u8,
-    out: MemSink,
-    err: MemSink,
+pub(crate) struct Seen {
+    pub(crate) status: u8,
+    pub(crate) out: MemSink,
+    pub(crate) err: MemSink,
 }
 
 /// The plan under the name `plan`.
@@ -1253,7 +1253,7 @@ fn one_plan(alloc: Global, plan: &[u8]) -> Result<MemFiles, AllocError> {
 }
 
 /// Runs `serial plan` over sinks that take everything.
-fn run_plan(alloc: Global, plan: &[u8]) -> Result<Seen, AllocError> {
+pub(crate) fn run_plan(alloc: Global, plan: &[u8]) -> Result<Seen, AllocError> {
     let mut files = one_plan(alloc, plan)?;
     let mut out = MemSink::new(alloc, 4096, Vec::new(alloc));
     let mut err = MemSink::new(alloc, 4096, Vec::new(alloc));
