@@ -1,2 +1,1 @@
 pub mod CalmLemmas
-pub mod QuietLemmas

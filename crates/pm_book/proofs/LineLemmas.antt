@@ -10,6 +10,7 @@ use Rattle.pm_model.specs.declared.event.Event.TheVariants as event
 use Rattle.pm_model.specs.declared.event.Line.{Line}
 use Rattle.pm_model.specs.declared.plan.Plan.{Plan}
 use Rattle.pm_model.specs.declared.stage.Move.TheVariants.{Write, Late, Wait}
+use Rattle.pm_model.specs.declared.stage.Change.{Change}
 use Rattle.pm_model.specs.declared.stage.Stage.{Stage}
 use Rattle.pm_model.specs.declared.stage.Then.{Then}
 use Rattle.pm_model.specs.Events.{by_event}
@@ -17,43 +18,35 @@ use Rattle.pm_model.specs.Handing.{after_then}
 use Rattle.pm_model.specs.Row.{Row, writes, waits, timed}
 use Rattle.pm_model.specs.Views.{Views}
 use Rattle.pm_model.specs.World.{World, after_line, counts_call, due, move, place, row, row_at, stage_at, with_place}
-use Rattle.pm_apply.specs.Changing.{changed_by}
 use Rattle.pm_state.specs.Standing.{IsOf, Standing, after_write}
 
--- what comes after a row's line takes the stage's place
-next_is : (late : Bool) (at : ℕ) (e e' : Event) (changes : Views → Views) (next next' : Then)
-    → (if late then Late at else Write e' next') ≡ Write e next → next' ≡ next
-next_is true at e e' changes next next' h = cc h
-next_is false at e e' changes next next' h = cc h
+-- a row that writes names what its move says
+after_writes : (plan : Plan) (w : World) (line : Line) (late : Bool) (at : ℕ) (e e' : Event) (c c' : Change) (next next' : Then)
+    → (if late then Late at else Write e' c' next') ≡ Write e c next → after_line plan w line (Some (writes e' c' next')) ≡ after_write plan w c line next
+after_writes plan w line true at e e' c c' next next' h = cc h
+after_writes plan w line false at e e' c c' next next' h =
+    let named : c' ≡ c = cc h in
+    let after : next' ≡ next = cc h in
+    rw (named, after) refl
 
 -- a stage that waits writes nothing
-waits_write : {A : Type 0} (late : Bool) (at : ℕ) (d : _) (e : Event) (next : Then) → (if late then Late at else Wait d) ≡ Write e next → A
-waits_write true at d e next h = cc h
-waits_write false at d e next h = cc h
+waits_write : {A : Type 0} (late : Bool) (at : ℕ) (d : _) (e : Event) (c : Change) (next : Then) → (if late then Late at else Wait d) ≡ Write e c next → A
+waits_write true at d e c next h = cc h
+waits_write false at d e c next h = cc h
 
--- what is after the line, by its row's named changes
-abbrev by_row : Plan → World → Line → Option Row → Then → World
-by_row plan w line r next =
-    with_place (record w {
-      views = by_event plan line.time line.event (option_map_or (λ row. changed_by row w.views) r w.views);
-      called = counts_call line.actor line.event w.called;
-    }) line.actor (after_then next (drop 1 (place w line.actor)))
-
-after_row : (plan : Plan) (w : World) (line : Line) (at : ℕ) (e : Event) (next : Then) (r : Option Row)
-    → option_map (timed at line.time) r ≡ Some (Write e next) → after_line plan w line r ≡ by_row plan w line r next
-after_row plan w line at e next None h = cc h
-after_row plan w line at e next (Some (waits d)) h = waits_write (nat_lt line.time at) at d e next (cc h)
-after_row plan w line at e next (Some (writes e' changes next')) h =
-    let same : next' ≡ next = next_is (nat_lt line.time at) at e e' changes next next' (cc h) in
-    ap (λ n. by_row plan w line (Some (writes e' changes n)) n) same
+after_row : (plan : Plan) (w : World) (line : Line) (at : ℕ) (e : Event) (c : Change) (next : Then) (r : Option Row)
+    → option_map (timed at line.time) r ≡ Some (Write e c next) → after_line plan w line r ≡ after_write plan w c line next
+after_row plan w line at e c next None h = cc h
+after_row plan w line at e c next (Some (waits d)) h = waits_write (nat_lt line.time at) at d e c next (cc h)
+after_row plan w line at e c next (Some (writes e' c' next')) h = after_writes plan w line (nat_lt line.time at) at e e' c c' next next' (cc h)
 
 -- the line that a stage's move writes leads to what its row names
-pub write_is : (plan : Plan) (w : World) (s : Stage) (line : Line) (e : Event) (next : Then)
-    → stage_at plan w line.actor ≡ Some s → move plan w.views s line.time ≡ Some (Write e next)
-    → after_line plan w line (row_at plan w line.actor line.time) ≡ after_write plan w s line next
-write_is plan w s line e next stands gives =
-    subst (λ x. after_line plan w line (option_and_then (λ s'. row plan w.views s' line.time) x) ≡ after_write plan w s line next) (sym stands)
-    (after_row plan w line (due plan w.views s) e next (row plan w.views s line.time) gives)
+pub write_is : (plan : Plan) (w : World) (s : Stage) (line : Line) (e : Event) (c : Change) (next : Then)
+    → stage_at plan w line.actor ≡ Some s → move plan w.views s line.time ≡ Some (Write e c next)
+    → after_line plan w line (row_at plan w line.actor line.time) ≡ after_write plan w c line next
+write_is plan w s line e c next stands gives =
+    subst (λ x. after_line plan w line (option_and_then (λ s'. row plan w.views s' line.time) x) ≡ after_write plan w c line next) (sym stands)
+    (after_row plan w line (due plan w.views s) e c next (row plan w.views s line.time) gives)
 
 placed_of : (plan : Plan) (s : Standing) (w : World) (actor : ActorId) (stages : List Stage) → IsOf plan s
     → w.callers ≡ s.world.callers → w.works ≡ s.world.works → w.timers ≡ s.world.timers → length w.called ≡ length s.world.called
@@ -101,7 +94,7 @@ calls_length (Work d) e called = refl
 calls_length (Timer d) e called = refl
 
 -- the state stays one of the plan
-pub write_of : (plan : Plan) (s : Standing) (stage : Stage) (line : Line) (next : Then) → IsOf plan s
-    → IsOf plan (record s { world = after_write plan s.world stage line next })
-write_of plan s stage line next is =
+pub write_of : (plan : Plan) (s : Standing) (c : Change) (line : Line) (next : Then) → IsOf plan s
+    → IsOf plan (record s { world = after_write plan s.world c line next })
+write_of plan s c line next is =
     placed_of plan s _ line.actor (after_then next (drop 1 (place s.world line.actor))) is refl refl refl (calls_length line.actor line.event s.world.called)

@@ -9,6 +9,7 @@ use Rattle.pm_model.specs.declared.event.Line.{Line}
 use Rattle.pm_model.specs.declared.plan.Plan.{Plan}
 use Rattle.pm_model.specs.declared.stage.Move.{Move}
 use Rattle.pm_model.specs.declared.stage.Move.TheVariants.{Write, Late, Wait}
+use Rattle.pm_model.specs.declared.stage.Change.{Change}
 use Rattle.pm_model.specs.declared.stage.Stage.{Stage}
 use Rattle.pm_model.specs.declared.stage.Then.{Then}
 use Rattle.pm_model.specs.Lawful.{Permits, last_time}
@@ -18,7 +19,7 @@ use Rattle.pm_model.specs.World.{World, move, stage_at, world}
 use Rattle.pm_state.specs.declared.acting.Turn.{Turn}
 use Rattle.pm_state.specs.declared.acting.Turn.TheVariants as turn
 use Rattle.pm_state.specs.Standing.{IsActor, Standing, after_write}
-use Rattle.pm_state.specs.Tests.{fits, fits_call, fits_event, fits_stage, tells}
+use Rattle.pm_state.specs.Tests.{fits, fits_call, fits_change, fits_event}
 use Rattle.pm_state.specs.Turns.{by_move, by_running, by_stage, ending_by, ending_of, running_due, turn_of}
 use Rattle.pm_turns.specs.Seats.{Seats}
 use Rattle.pm_book.specs.Pages.{Adds, IsKept, MayWrite, Pages, moment_from, world_of}
@@ -27,16 +28,16 @@ use Rattle.pm_book.proofs.LineLemmas.{write_is, write_of}
 pub reverse-push : (lines lines' : List Line) (line : Line) → lines' ≡ lines ++ line ∷ [] → reverse lines' ≡ line ∷ reverse lines
 reverse-push lines lines' line h = subst (λ l. reverse l ≡ line ∷ reverse lines) (sym h) (reverse-append lines (line ∷ []))
 
-permits : (p : Pages) (s : Stage) (line : Line) (next : Then) → MayWrite p s line next → Permits p.plan p.lines line
-permits p s line next may = record { stage = s; stands = may.stands; next = next; gives = may.gives; in_time = may.later }
+permits : (p : Pages) (s : Stage) (line : Line) (c : Change) (next : Then) → MayWrite p s line c next → Permits p.plan p.lines line
+permits p s line c next may = record { stage = s; stands = may.stands; change = c; next = next; gives = may.gives; in_time = may.later }
 
 second_of_two : (a b : Bool) → a && b ≡ true → b ≡ true
 second_of_two a true h = refl
 second_of_two true false h = h
 second_of_two false false h = h
 
-fits_plan : (plan : Plan) (w : World) (actor : ActorId) (s : Stage) (e : Event) → fits plan w actor s e ≡ true → is_event_of (length plan.devices) e ≡ true
-fits_plan plan w actor s e h = second_of_two (fits_stage (length plan.devices) w.views s && fits_event (length plan.devices) w.views e && fits_call w actor e) _ h
+fits_plan : (plan : Plan) (w : World) (actor : ActorId) (c : Change) (e : Event) → fits plan w actor c e ≡ true → is_event_of (length plan.devices) e ≡ true
+fits_plan plan w actor c e h = second_of_two (fits_change (length plan.devices) w.views c && fits_event (length plan.devices) w.views e && fits_call w actor e) _ h
 
 all_three : (a b c : Bool) → a ≡ true → b ≡ true → c ≡ true → a && b && c ≡ true
 all_three a b c x y z = cc (x, y, z)
@@ -49,66 +50,66 @@ actor_of plan (Caller c) h = below _ _ h
 actor_of plan (Work d) h = below _ _ h
 actor_of plan (Timer d) h = below _ _ h
 
-line_of : (p : Pages) (s : Stage) (line : Line) (next : Then) → IsActor p.plan line.actor → MayWrite p s line next → is_line_of p.plan line ≡ true
-line_of p s line next actor may =
-    all_three (nat_lt line.time (2 ^ 63)) _ _ (below _ _ may.in_time) (actor_of p.plan line.actor actor) (fits_plan p.plan (world_of p) line.actor s line.event may.fits)
+line_of : (p : Pages) (s : Stage) (line : Line) (c : Change) (next : Then) → IsActor p.plan line.actor → MayWrite p s line c next → is_line_of p.plan line ≡ true
+line_of p s line c next actor may =
+    all_three (nat_lt line.time (2 ^ 63)) _ _ (below _ _ may.in_time) (actor_of p.plan line.actor actor) (fits_plan p.plan (world_of p) line.actor c line.event may.fits)
 
 both : (a b : Bool) → a ≡ true → b ≡ true → a && b ≡ true
 both a b x y = cc (x, y)
 
-world_after : (plan : Plan) (h : List Line) (w : World) (s : Stage) (line : Line) (next : Then) → w ≡ world plan h
-    → MayWrite (record { plan = plan; lines = h }) s line next → after_write plan w s line next ≡ world plan (line ∷ h)
-world_after plan h w s line next same may =
-    subst (λ x. after_write plan x s line next ≡ world plan (line ∷ h)) (sym same) (sym (write_is plan (world plan h) s line line.event next may.stands may.gives))
+world_after : (plan : Plan) (h : List Line) (w : World) (s : Stage) (line : Line) (c : Change) (next : Then) → w ≡ world plan h
+    → MayWrite (record { plan = plan; lines = h }) s line c next → after_write plan w c line next ≡ world plan (line ∷ h)
+world_after plan h w s line c next same may =
+    subst (λ x. after_write plan x c line next ≡ world plan (line ∷ h)) (sym same) (sym (write_is plan (world plan h) s line line.event c next may.stands may.gives))
 
 -- a line that may be written keeps what a book keeps
-pub kept_step : (plan : Plan) (state : Standing) (seats : Seats) (h : List Line) (s : Stage) (line : Line) (next : Then) → IsKept plan state seats h
-    → IsActor plan line.actor → MayWrite (record { plan = plan; lines = h }) s line next
-    → IsKept plan (record state { world = after_write plan state.world s line next }) seats (line ∷ h)
-kept_step plan state seats h s line next kept actor may = record {
-  lawful = (permits (record { plan = plan; lines = h }) s line next may, may.room, kept.lawful);
-  lines_are = both _ _ (line_of (record { plan = plan; lines = h }) s line next actor may) kept.lines_are;
-  world_is = world_after plan h state.world s line next kept.world_is may;
-  is_of = write_of plan state s line next kept.is_of;
+pub kept_step : (plan : Plan) (state : Standing) (seats : Seats) (h : List Line) (s : Stage) (line : Line) (c : Change) (next : Then) → IsKept plan state seats h
+    → IsActor plan line.actor → MayWrite (record { plan = plan; lines = h }) s line c next
+    → IsKept plan (record state { world = after_write plan state.world c line next }) seats (line ∷ h)
+kept_step plan state seats h s line c next kept actor may = record {
+  lawful = (permits (record { plan = plan; lines = h }) s line c next may, may.room, kept.lawful);
+  lines_are = both _ _ (line_of (record { plan = plan; lines = h }) s line c next actor may) kept.lines_are;
+  world_is = world_after plan h state.world s line c next kept.world_is may;
+  is_of = write_of plan state c line next kept.is_of;
   seats_are = kept.seats_are;
   in_time = may.in_time;
 }
 
 -- what an actor's turn tells of its stage, where it writes
-pub record Writing (plan : Plan) (w : World) (actor : ActorId) (t : ℕ) (s : Stage) (e : Event) (next : Then) : Type 0 where
+pub record Writing (plan : Plan) (w : World) (actor : ActorId) (t : ℕ) (s : Stage) (e : Event) (c : Change) (next : Then) : Type 0 where
   pub stands : stage_at plan w actor ≡ Some s
-  pub gives : move plan w.views s t ≡ Some (Write e next)
+  pub gives : move plan w.views s t ≡ Some (Write e c next)
 
-record Moving (s s' : Stage) (m : Option Move) (e : Event) (next : Then) : Type 0 where
+record Moving (s s' : Stage) (m : Option Move) (e : Event) (c : Change) (next : Then) : Type 0 where
   stage_is : s' ≡ s
-  move_is : m ≡ Some (Write e next)
+  move_is : m ≡ Some (Write e c next)
 
-by_move_writes : (s s' : Stage) (m : Option Move) (e : Event) (next : Then) → by_move s' m ≡ turn.Writes s e next → Moving s s' m e next
-by_move_writes s s' (Some (Write e' n)) e next h = record { stage_is = cc h; move_is = cc h }
-by_move_writes s s' (Some (Late at)) e next h = cc h
-by_move_writes s s' (Some (Wait d)) e next h = cc h
-by_move_writes s s' None e next h = cc h
+by_move_writes : (s s' : Stage) (m : Option Move) (e : Event) (c : Change) (next : Then) → by_move s' m ≡ turn.Writes s e c next → Moving s s' m e c next
+by_move_writes s s' (Some (Write e' c' n)) e c next h = record { stage_is = cc h; move_is = cc h }
+by_move_writes s s' (Some (Late at)) e c next h = cc h
+by_move_writes s s' (Some (Wait d)) e c next h = cc h
+by_move_writes s s' None e c next h = cc h
 
-by_running_writes : (due : Option ℕ) (other : Turn) (s : Stage) (e : Event) (next : Then) → by_running due other ≡ turn.Writes s e next → other ≡ turn.Writes s e next
-by_running_writes None other s e next h = h
-by_running_writes (Some at) other s e next h = cc h
+by_running_writes : (due : Option ℕ) (other : Turn) (s : Stage) (e : Event) (c : Change) (next : Then) → by_running due other ≡ turn.Writes s e c next → other ≡ turn.Writes s e c next
+by_running_writes None other s e c next h = h
+by_running_writes (Some at) other s e c next h = cc h
 
-moving_at : (plan : Plan) (v : Views) (t : ℕ) (s s' : Stage) (e : Event) (next : Then) → Moving s s' (move plan v s' t) e next → move plan v s t ≡ Some (Write e next)
-moving_at plan v t s s' e next m = subst (λ x. move plan v x t ≡ Some (Write e next)) m.stage_is m.move_is
+moving_at : (plan : Plan) (v : Views) (t : ℕ) (s s' : Stage) (e : Event) (c : Change) (next : Then) → Moving s s' (move plan v s' t) e c next → move plan v s t ≡ Some (Write e c next)
+moving_at plan v t s s' e c next m = subst (λ x. move plan v x t ≡ Some (Write e c next)) m.stage_is m.move_is
 
-stage_writes : (plan : Plan) (v : Views) (t : ℕ) (x : Option Stage) (s : Stage) (e : Event) (next : Then) → by_stage plan v t x ≡ turn.Writes s e next
-    → (x ≡ Some s) × (move plan v s t ≡ Some (Write e next))
-stage_writes plan v t None s e next h = cc h
-stage_writes plan v t (Some s') s e next h =
-    let moving = by_move_writes s s' (move plan v s' t) e next (by_running_writes (running_due plan s') _ s e next h) in
-    (ap (λ y. Some y) moving.stage_is, moving_at plan v t s s' e next moving)
+stage_writes : (plan : Plan) (v : Views) (t : ℕ) (x : Option Stage) (s : Stage) (e : Event) (c : Change) (next : Then) → by_stage plan v t x ≡ turn.Writes s e c next
+    → (x ≡ Some s) × (move plan v s t ≡ Some (Write e c next))
+stage_writes plan v t None s e c next h = cc h
+stage_writes plan v t (Some s') s e c next h =
+    let moving = by_move_writes s s' (move plan v s' t) e c next (by_running_writes (running_due plan s') _ s e c next h) in
+    (ap (λ y. Some y) moving.stage_is, moving_at plan v t s s' e c next moving)
 
-ending_writes : (plan : Plan) (v : Views) (t : ℕ) (x : Option Stage) (s : Stage) (e : Event) (next : Then) → ending_by plan v t x ≡ turn.Writes s e next
-    → (x ≡ Some s) × (move plan v s t ≡ Some (Write e next))
-ending_writes plan v t None s e next h = cc h
-ending_writes plan v t (Some s') s e next h =
-    let moving = by_move_writes s s' (move plan v s' t) e next h in
-    (ap (λ y. Some y) moving.stage_is, moving_at plan v t s s' e next moving)
+ending_writes : (plan : Plan) (v : Views) (t : ℕ) (x : Option Stage) (s : Stage) (e : Event) (c : Change) (next : Then) → ending_by plan v t x ≡ turn.Writes s e c next
+    → (x ≡ Some s) × (move plan v s t ≡ Some (Write e c next))
+ending_writes plan v t None s e c next h = cc h
+ending_writes plan v t (Some s') s e c next h =
+    let moving = by_move_writes s s' (move plan v s' t) e c next h in
+    (ap (λ y. Some y) moving.stage_is, moving_at plan v t s s' e c next moving)
 
 later_than : (h : List Line) (now : ℕ) → last_time h ≤ moment_from h now
 later_than h now = grind (arith, common_steps)
@@ -117,42 +118,40 @@ has_room : (lines n : ℕ) → nat_le lines n ≡ false → n < lines
 has_room lines n h = grind (arith, common_steps)
 
 -- a turn that writes, on a list that isn't full, may write
-pub may_by_turn : (plan : Plan) (h : List Line) (w : World) (actor : ActorId) (now t : ℕ) (s : Stage) (e : Event) (next : Then) → w ≡ world plan h
-    → t ≡ moment_from h now → t < 2 ^ 63 → nat_le plan.lines (length h) ≡ false → turn_of plan w actor t ≡ turn.Writes s e next
-    → tells plan w.views s ≡ true → fits plan w actor s e ≡ true
-    → MayWrite (record { plan = plan; lines = h }) s (record { time = t; actor = actor; event = e }) next
-may_by_turn plan h w actor now t s e next same at in_time free writes told passed =
-    let is = stage_writes plan w.views t (stage_at plan w actor) s e next writes in
+pub may_by_turn : (plan : Plan) (h : List Line) (w : World) (actor : ActorId) (now t : ℕ) (s : Stage) (e : Event) (c : Change) (next : Then) → w ≡ world plan h
+    → t ≡ moment_from h now → t < 2 ^ 63 → nat_le plan.lines (length h) ≡ false → turn_of plan w actor t ≡ turn.Writes s e c next
+    → fits plan w actor c e ≡ true
+    → MayWrite (record { plan = plan; lines = h }) s (record { time = t; actor = actor; event = e }) c next
+may_by_turn plan h w actor now t s e c next same at in_time free writes passed =
+    let is = stage_writes plan w.views t (stage_at plan w actor) s e c next writes in
     record {
       stands = subst (λ x. stage_at plan x actor ≡ Some s) same is.0;
-      gives = subst (λ x. move plan x.views s t ≡ Some (Write e next)) same is.1;
+      gives = subst (λ x. move plan x.views s t ≡ Some (Write e c next)) same is.1;
       later = subst (λ x. last_time h ≤ x) (sym at) (later_than h now);
       in_time = in_time;
       room = has_room plan.lines (length h) free;
-      told = subst (λ x. tells plan x.views s ≡ true) same told;
-      fits = subst (λ x. fits plan x actor s e ≡ true) same passed;
+      fits = subst (λ x. fits plan x actor c e ≡ true) same passed;
     }
 
-pub may_by_ending : (plan : Plan) (h : List Line) (w : World) (actor : ActorId) (now t : ℕ) (s : Stage) (e : Event) (next : Then) → w ≡ world plan h
-    → t ≡ moment_from h now → t < 2 ^ 63 → nat_le plan.lines (length h) ≡ false → ending_of plan w actor t ≡ turn.Writes s e next
-    → tells plan w.views s ≡ true → fits plan w actor s e ≡ true
-    → MayWrite (record { plan = plan; lines = h }) s (record { time = t; actor = actor; event = e }) next
-may_by_ending plan h w actor now t s e next same at in_time free writes told passed =
-    let is = ending_writes plan w.views t (stage_at plan w actor) s e next writes in
+pub may_by_ending : (plan : Plan) (h : List Line) (w : World) (actor : ActorId) (now t : ℕ) (s : Stage) (e : Event) (c : Change) (next : Then) → w ≡ world plan h
+    → t ≡ moment_from h now → t < 2 ^ 63 → nat_le plan.lines (length h) ≡ false → ending_of plan w actor t ≡ turn.Writes s e c next
+    → fits plan w actor c e ≡ true
+    → MayWrite (record { plan = plan; lines = h }) s (record { time = t; actor = actor; event = e }) c next
+may_by_ending plan h w actor now t s e c next same at in_time free writes passed =
+    let is = ending_writes plan w.views t (stage_at plan w actor) s e c next writes in
     record {
       stands = subst (λ x. stage_at plan x actor ≡ Some s) same is.0;
-      gives = subst (λ x. move plan x.views s t ≡ Some (Write e next)) same is.1;
+      gives = subst (λ x. move plan x.views s t ≡ Some (Write e c next)) same is.1;
       later = subst (λ x. last_time h ≤ x) (sym at) (later_than h now);
       in_time = in_time;
       room = has_room plan.lines (length h) free;
-      told = subst (λ x. tells plan x.views s ≡ true) same told;
-      fits = subst (λ x. fits plan x actor s e ≡ true) same passed;
+      fits = subst (λ x. fits plan x actor c e ≡ true) same passed;
     }
 
 -- the line that was written is one more
-pub adds : (old new : Pages) (s : Stage) (line : Line) (next : Then) (t : ℕ) → MayWrite old s line next → line.time ≡ t
+pub adds : (old new : Pages) (s : Stage) (line : Line) (c : Change) (next : Then) (t : ℕ) → MayWrite old s line c next → line.time ≡ t
     → new ≡ record old { lines = line ∷ old.lines } → Adds old new line.actor t
-adds old new s line next t may at same = record { line = line; added = same; permits = permits old s line next may; actor_is = refl; time_is = at }
+adds old new s line c next t may at same = record { line = line; added = same; permits = permits old s line c next may; actor_is = refl; time_is = at }
 
 pub if_ok : {A B : Type 0} (r : Result A B) (P : A → Type 0) (Q : Type 0) → OnOk r Q → ((x : A) → Q → P x) → IfOk r P
 if_ok (Ok x) P Q q f = f x q

@@ -5,6 +5,7 @@ use Rattle.pm_model.specs.declared.event.Event.{Event}
 use Rattle.pm_model.specs.declared.event.Event.TheVariants as event
 use Rattle.pm_model.specs.declared.event.Line.{Line}
 use Rattle.pm_model.specs.declared.plan.Plan.{Plan}
+use Rattle.pm_model.specs.declared.stage.Change.{Change}
 use Rattle.pm_model.specs.declared.stage.Stage.{Stage}
 use Rattle.pm_model.specs.declared.stage.Move.TheVariants.{Write}
 use Rattle.pm_model.specs.declared.stage.Then.{Then}
@@ -17,7 +18,7 @@ use Rattle.pm_model.specs.World.{World, move, stage_at, world}
 use Rattle.pm_state.specs.declared.acting.Turn.{Turn}
 use Rattle.pm_state.specs.declared.acting.Turn.TheVariants as turn
 use Rattle.pm_state.specs.Standing.{IsOf, Standing}
-use Rattle.pm_state.specs.Tests.{fits, tells}
+use Rattle.pm_state.specs.Tests.{fits}
 use Rattle.pm_state.specs.Turns.{ending_of, turn_of}
 use Rattle.pm_turns.specs.Seats.{AreOf, Seats}
 use Rattle.pm_book.specs.declared.steps.EndStep.{EndStep}
@@ -63,7 +64,7 @@ step_by v turn.Resting = step.Resting
 step_by v (turn.Running at) = step.Running at
 step_by v (turn.Blocked d) = step.Blocked d
 step_by v (turn.Early at) = step.Early at
-step_by v (turn.Writes s e next) = written v e
+step_by v (turn.Writes s e c next) = written v e
 step_by v turn.Stuck = step.Stuck
 
 -- what a step of an actor answers: a full list first, and then what its turn is
@@ -73,7 +74,7 @@ step_answer p actor now =
 
 abbrev pub end_by : Turn → EndStep
 end_by (turn.Early at) = end.Early at
-end_by (turn.Writes s e next) = end.Wrote
+end_by (turn.Writes s e c next) = end.Wrote
 end_by _ = end.Stuck
 
 -- what the end of an actor's callback answers
@@ -96,14 +97,13 @@ pub record Adds (old new : Pages) (actor : ActorId) (t : ℕ) : Type 0 where
   pub time_is : line.time ≡ t
 
 -- the line may be written at this stage, and has passed the tests
-pub record MayWrite (p : Pages) (s : Stage) (line : Line) (next : Then) : Type 0 where
+pub record MayWrite (p : Pages) (s : Stage) (line : Line) (c : Change) (next : Then) : Type 0 where
   pub stands : stage_at p.plan (world_of p) line.actor ≡ Some s
-  pub gives : move p.plan (world_of p).views s line.time ≡ Some (Write line.event next)
+  pub gives : move p.plan (world_of p).views s line.time ≡ Some (Write line.event c next)
   pub later : last_time p.lines ≤ line.time
   pub in_time : line.time < 2 ^ 63
   pub room : length p.lines < p.plan.lines
-  pub told : tells p.plan (world_of p).views s ≡ true
-  pub fits : fits p.plan (world_of p) line.actor s line.event ≡ true
+  pub fits : fits p.plan (world_of p) line.actor c line.event ≡ true
 
 -- the list is lawful and all its lines are lines of the plan, and the state and the turns are those after it
 pub record IsKept (plan : Plan) (state : Standing) (seats : Seats) (h : List Line) : Type 0 where

@@ -9,7 +9,7 @@ use crate::book::Book;
 use crate::steps::{EndStep, Step};
 use pm_base::{ActorId, NoMemory};
 use pm_laws::held_counts_are_taken;
-use pm_model::{Event, Line, Stage, Then};
+use pm_model::{Change, Event, Line, Stage, Then};
 use pm_state::Turn;
 
 impl Book {
@@ -36,9 +36,15 @@ impl Book {
     }
 
     // Writes a line that may come next.
-    fn write(&mut self, stage: Stage, line: Line, then: Then) -> Result<(), NoMemory>
+    fn write(
+        &mut self,
+        stage: Stage,
+        line: Line,
+        change: Change,
+        then: Then,
+    ) -> Result<(), NoMemory>
         requires in_range { IsActor self.old.plan line.actor }
-        requires may { MayWrite self.old stage line then }
+        requires may { MayWrite self.old stage line change then }
         ensures ok { OnOk result (self.new ≡ record self.old { lines = line ∷ self.old.lines }) }
         ensures err { OnErr result (self.new ≡ self.old) }
     {
@@ -46,7 +52,7 @@ impl Book {
         self.turns.reserve(line.event)?;
         self.lines
             .make_room(matches!(line.event, Event::Begin { .. }))?;
-        self.state.go(&self.plan, stage, &line, then)?;
+        self.state.go(&self.plan, change, &line, then)?;
         self.lines.push(line);
         self.turns.settle(&self.plan, &self.state, stage, &line);
         Ok(())
@@ -54,9 +60,9 @@ impl Book {
 
     // Writes the end line of a callback that may come next, at the place that is kept for it. Where
     // none is kept, it answers false and changes nothing.
-    fn write_end(&mut self, stage: Stage, line: Line, then: Then) -> bool
+    fn write_end(&mut self, stage: Stage, line: Line, change: Change, then: Then) -> bool
         requires in_range { IsActor self.old.plan line.actor }
-        requires may { MayWrite self.old stage line then }
+        requires may { MayWrite self.old stage line change then }
         requires level { EndsLevel (world_of self.old) line.actor then }
         ensures written { result ≡ true → self.new ≡ record self.old { lines = line ∷ self.old.lines } }
         ensures stays { result ≡ false → self.new ≡ self.old }
@@ -65,7 +71,7 @@ impl Book {
             return false;
         }
         held_counts_are_taken();
-        self.state.go_level(&self.plan, stage, &line, then);
+        self.state.go_level(&self.plan, change, &line, then);
         self.lines.push_end(line);
         self.turns.settle(&self.plan, &self.state, stage, &line);
         true
@@ -74,15 +80,21 @@ impl Book {
 
 impl Book {
     // Writes the line that an actor's turn is.
-    fn write_turn(&mut self, line: Line, stage: Stage, then: Then) -> Result<Step, NoMemory>
+    fn write_turn(
+        &mut self,
+        line: Line,
+        stage: Stage,
+        change: Change,
+        then: Then,
+    ) -> Result<Step, NoMemory>
         requires in_range { IsActor self.old.plan line.actor }
-        requires may { MayWrite self.old stage line then }
+        requires may { MayWrite self.old stage line change then }
         ensures answer { IfOk result (λ s. s ≡ written (world_of self.old).views line.event) }
         ensures ok { OnOk result (self.new ≡ record self.old { lines = line ∷ self.old.lines }) }
         ensures err { OnErr result (self.new ≡ self.old) }
     {
         let answer = self.answer(line.event);
-        self.write(stage, line, then)?;
+        self.write(stage, line, change, then)?;
         Ok(answer)
     }
 
@@ -107,9 +119,14 @@ impl Book {
             Turn::Blocked(dev) => Ok(Step::Blocked(dev)),
             Turn::Early(at) => Ok(Step::Early(at)),
             Turn::Stuck => Ok(Step::Stuck),
-            Turn::Writes { stage, event, then } => {
+            Turn::Writes {
+                stage,
+                event,
+                change,
+                then,
+            } => {
                 let line = Line { time, actor, event };
-                self.write_turn(line, stage, then)
+                self.write_turn(line, stage, change, then)
             }
         }
     }
@@ -128,9 +145,14 @@ impl Book {
         let time = self.moment(now);
         match self.state.ending(&self.plan, actor, time) {
             Turn::Early(at) => EndStep::Early(at),
-            Turn::Writes { stage, event, then } => {
+            Turn::Writes {
+                stage,
+                event,
+                change,
+                then,
+            } => {
                 let line = Line { time, actor, event };
-                if self.write_end(stage, line, then) {
+                if self.write_end(stage, line, change, then) {
                     EndStep::Wrote
                 } else {
                     EndStep::Stuck

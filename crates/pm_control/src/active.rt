@@ -9,7 +9,7 @@ ghost use Rattle.pm_device.specs.Parts.{IsFor};
 use crate::{gives, goes_on, takes, writes_status};
 use pm_base::{DevId, EAGAIN, EBUSY, Why};
 use pm_device::{Parts, calls, parent_of, ret, returning, supplier_call};
-use pm_model::{Await, ControlStage, Helper, IdleStage, Move, Plan, Stage, Word};
+use pm_model::{Await, Change, ControlStage, Helper, IdleStage, Move, Plan, Stage, Word};
 
 // The device becomes Active.
 fn forces_active(dev: DevId) -> Move
@@ -30,7 +30,7 @@ pub fn active_starts(plan: &Plan, parts: &Parts, dev: DevId) -> Move
     ensures { result ≡ move_of (active_starts plan.now parts.now.views dev) }
 {
     if parts.may_not_force(dev) {
-        return ret(Helper::SetActive, dev, EAGAIN);
+        return ret(Helper::SetActive, dev, EAGAIN, Change::Same);
     }
     if parts.is_active(dev) {
         return forces_active(dev);
@@ -43,7 +43,7 @@ pub fn active_starts(plan: &Plan, parts: &Parts, dev: DevId) -> Move
         );
     }
     if parts.awaits_parent(plan, dev) {
-        return ret(Helper::SetActive, dev, EBUSY);
+        return ret(Helper::SetActive, dev, EBUSY, Change::Same);
     }
     forces_active(dev)
 }
@@ -108,7 +108,7 @@ pub fn suspended_starts(parts: &Parts, dev: DevId) -> Move
     ensures { result ≡ move_of (suspended_starts parts.now.views dev) }
 {
     if parts.may_not_force(dev) {
-        return ret(Helper::SetSuspended, dev, EAGAIN);
+        return ret(Helper::SetSuspended, dev, EAGAIN, Change::Same);
     }
     let next = ControlStage::SuppliersIdle { dev, last: None };
     writes_status(dev, Word::ForcedSuspended, goes_on(next))
@@ -123,7 +123,12 @@ pub fn suppliers_idle(plan: &Plan, parts: &Parts, dev: DevId, last: Option<DevId
 {
     match parts.next_supplier(plan, dev, last) {
         Some((_, supplier)) => {
-            parts.calls_idle(supplier, 1, Await::SuppliersIdle { dev, supplier })
+            parts.calls_idle(
+                supplier,
+                1,
+                Change::Same,
+                Await::SuppliersIdle { dev, supplier },
+            )
         }
         None => {
             if parts.tells_parent(plan, dev) {
@@ -131,9 +136,9 @@ pub fn suppliers_idle(plan: &Plan, parts: &Parts, dev: DevId, last: Option<DevId
                     helper: Helper::SetSuspended,
                     dev,
                 };
-                parts.calls_idle(parent_of(plan, dev), 1, under)
+                parts.calls_idle(parent_of(plan, dev), 1, Change::Same, under)
             } else {
-                ret(Helper::SetSuspended, dev, 0)
+                ret(Helper::SetSuspended, dev, 0, Change::Same)
             }
         }
     }

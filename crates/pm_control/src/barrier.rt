@@ -8,7 +8,7 @@ ghost use Rattle.pm_device.specs.Parts.{IsFor};
 use crate::{gives, goes_on};
 use pm_base::{DevId, Why};
 use pm_device::{Parts, returning};
-use pm_model::{Await, ControlStage, Event, Helper, Move, Plan, Purpose};
+use pm_model::{Await, Change, ControlStage, Event, Helper, Move, Plan, Purpose};
 
 /// Once no resume is pending.
 #[tactic(auto, unfolding(pm_model::specs::ControlTable::barrier_idles))]
@@ -19,10 +19,18 @@ pub fn barrier_idles(parts: &Parts, dev: DevId, code: i32) -> Move
     if parts.busy(dev) {
         return Move::Write(
             Event::Wait { dev },
+            Change::CancelAll { dev },
             goes_on(ControlStage::BarrierWait { dev, code }),
         );
     }
-    gives(dev, Why::Control, returning(Helper::Barrier, dev, code))
+    Move::Write(
+        Event::Put {
+            dev,
+            why: Why::Control,
+        },
+        Change::CancelAll { dev },
+        returning(Helper::Barrier, dev, code),
+    )
 }
 
 /// A pending resume is carried out first.

@@ -7,7 +7,7 @@ ghost use Rattle.pm_model.specs.Row.{move_of};
 use crate::{goes_on, takes};
 use pm_base::{DevId, EINVAL, Why};
 use pm_device::{Parts, calls, ret, to_resume};
-use pm_model::{Await, ControlStage, Event, Helper, Move};
+use pm_model::{Await, Change, ControlStage, Event, Helper, Move};
 
 /// `enable`.
 #[tactic(auto, unfolding(pm_model::specs::ControlTable::enabling))]
@@ -16,9 +16,9 @@ pub fn enabling(parts: &Parts, dev: DevId) -> Move
     ensures { result ≡ move_of (enabling parts.now.views dev) }
 {
     if parts.is_disabled(dev) {
-        ret(Helper::Enable, dev, 0)
+        ret(Helper::Enable, dev, 0, Change::Enable { dev })
     } else {
-        ret(Helper::Enable, dev, EINVAL)
+        ret(Helper::Enable, dev, EINVAL, Change::Same)
     }
 }
 
@@ -29,12 +29,16 @@ pub fn disabling(parts: &Parts, dev: DevId) -> Move
     ensures { result ≡ move_of (disabling parts.now.views dev) }
 {
     if parts.is_disabled(dev) {
-        return ret(Helper::Disable, dev, 0);
+        return ret(Helper::Disable, dev, 0, Change::Disable { dev });
     }
     if parts.busy(dev) {
-        return Move::Write(Event::Wait { dev }, goes_on(ControlStage::Disabled { dev }));
+        return Move::Write(
+            Event::Wait { dev },
+            Change::DisableBusy { dev },
+            goes_on(ControlStage::Disabled { dev }),
+        );
     }
-    ret(Helper::Disable, dev, 0)
+    ret(Helper::Disable, dev, 0, Change::DisableAtOnce { dev })
 }
 
 /// [X1]
@@ -60,7 +64,7 @@ pub fn disable_ends(parts: &Parts, dev: DevId) -> Move
         return Move::Wait(dev);
     }
     if parts.is_disabled(dev) {
-        return ret(Helper::Disable, dev, 0);
+        return ret(Helper::Disable, dev, 0, Change::KeepStatus { dev });
     }
-    ret(Helper::Disable, dev, 0)
+    ret(Helper::Disable, dev, 0, Change::Same)
 }

@@ -6,6 +6,7 @@ ghost use Rattle.std.specs.Prelude.{◌≡◌, ◌<◌, ◌≤◌, ◌^◌, leng
 ghost use Rattle.pm_base.specs.declared.limits.TheConstants.{MAX_MS};
 ghost use Rattle.pm_model.specs.declared.event.Event.TheVariants as event;
 ghost use Rattle.pm_model.specs.declared.event.Helper.TheVariants as helper;
+ghost use Rattle.pm_model.specs.declared.stage.Change.TheVariants as change;
 ghost use Rattle.pm_model.specs.declared.stage.Move.TheVariants as move;
 ghost use Rattle.pm_model.specs.declared.stage.Stage.TheVariants as the_stage;
 ghost use Rattle.pm_model.specs.ControlTable.{control_row, control_starts, goes_on};
@@ -23,7 +24,7 @@ mod topology;
 
 use pm_base::{DevId, Why};
 use pm_device::{Parts, added, goes, removed, ret};
-use pm_model::{Command, ControlStage, Event, Helper, Move, Plan, Stage, Then, Word};
+use pm_model::{Change, Command, ControlStage, Event, Helper, Move, Plan, Stage, Then, Word};
 
 // A stage of a control function takes the place.
 fn goes_on(stage: ControlStage) -> Then
@@ -34,23 +35,23 @@ fn goes_on(stage: ControlStage) -> Then
 
 // A count is taken for this reason.
 fn takes(dev: DevId, why: Why, then: Then) -> Move
-    ensures { result ≡ move.Write (event.Get dev why) then }
+    ensures { result ≡ move.Write (event.Get dev why) change.Same then }
 {
-    Move::Write(Event::Get { dev, why }, then)
+    Move::Write(Event::Get { dev, why }, Change::Same, then)
 }
 
 // A count that was taken for this reason is given back.
 fn gives(dev: DevId, why: Why, then: Then) -> Move
-    ensures { result ≡ move.Write (event.Put dev why) then }
+    ensures { result ≡ move.Write (event.Put dev why) change.Same then }
 {
-    Move::Write(Event::Put { dev, why }, then)
+    Move::Write(Event::Put { dev, why }, Change::Same, then)
 }
 
 // The status line.
 fn writes_status(dev: DevId, word: Word, then: Then) -> Move
-    ensures { result ≡ move.Write (event.State dev word) then }
+    ensures { result ≡ move.Write (event.State dev word) change.Same then }
 {
-    Move::Write(Event::State { dev, word }, then)
+    Move::Write(Event::State { dev, word }, Change::Same, then)
 }
 
 // The milliseconds of `schedule_suspend`.
@@ -103,7 +104,17 @@ fn starts(plan: &Plan, parts: &Parts, command: Command, time: u64) -> Move
         }
         Helper::LinkAdd => topology::link_adds(plan, parts, dev, added(plan, command)),
         Helper::LinkDel => topology::link_dels(plan, parts, dev, removed(plan, command)),
-        _ => ret(helper, dev, 0),
+        Helper::MarkLastBusy => ret(helper, dev, 0, Change::MarkBusy { dev }),
+        Helper::IgnoreChildren => ret(
+            helper,
+            dev,
+            0,
+            Change::Ignore {
+                dev,
+                ignores: number != 0,
+            },
+        ),
+        _ => ret(helper, dev, 0, Change::Same),
     }
 }
 

@@ -10,7 +10,7 @@ ghost use Rattle.pm_device.specs.Parts.{IsFor};
 use crate::{gives, takes};
 use pm_base::{DevId, Why};
 use pm_device::{Parts, calls, prevented, ret, returning, to_resume};
-use pm_model::{Await, Event, Helper, IdleStage, Move, Plan, Stage, TimerAct};
+use pm_model::{Await, Change, Event, Helper, IdleStage, Move, Plan, Stage, TimerAct};
 
 /// `forbid`.
 #[tactic(auto, unfolding(pm_model::specs::ControlTable::forbidding))]
@@ -19,7 +19,7 @@ pub fn forbidding(parts: &Parts, dev: DevId) -> Move
     ensures { result ≡ move_of (forbidding parts.now.views dev) }
 {
     if !parts.device(dev).auto_on {
-        return ret(Helper::Forbid, dev, 0);
+        return ret(Helper::Forbid, dev, 0, Change::Same);
     }
     let under = Await::ReturnZero {
         helper: Helper::Forbid,
@@ -35,7 +35,7 @@ pub fn allowing(parts: &Parts, dev: DevId) -> Move
     ensures { result ≡ move_of (allowing parts.now.views dev) }
 {
     if parts.device(dev).auto_on {
-        return ret(Helper::Allow, dev, 0);
+        return ret(Helper::Allow, dev, 0, Change::Same);
     }
     let given = Stage::Idle(IdleStage::Given { dev, flags: 9 });
     let under = Await::ReturnZero {
@@ -54,18 +54,37 @@ pub fn sets(parts: &Parts, helper: Helper, dev: DevId, use_auto: bool, delay: i6
     let device = parts.device(dev);
     let was = prevented(device.use_auto, device.delay);
     let is = prevented(use_auto, delay);
+    let new = Change::Set {
+        dev,
+        use_auto,
+        delay,
+    };
     let under = Await::ReturnZero { helper, dev };
     if !was && is {
-        return takes(dev, Why::Delay, calls(to_resume(dev, 0), under));
+        return Move::Write(
+            Event::Get {
+                dev,
+                why: Why::Delay,
+            },
+            new,
+            calls(to_resume(dev, 0), under),
+        );
     }
     if was && is {
-        return ret(helper, dev, 0);
+        return ret(helper, dev, 0, new);
     }
     if was && !is {
         let idle = Stage::Idle(IdleStage::Enter { dev, flags: 8 });
-        return gives(dev, Why::Delay, calls(idle, under));
+        return Move::Write(
+            Event::Put {
+                dev,
+                why: Why::Delay,
+            },
+            new,
+            calls(idle, under),
+        );
     }
-    parts.calls_idle(dev, 8, under)
+    parts.calls_idle(dev, 8, new, under)
 }
 
 /// `schedule_suspend` in so many milliseconds, called at this moment.
@@ -82,11 +101,15 @@ pub fn schedules(plan: &Plan, parts: &Parts, dev: DevId, ms: u64, time: u64) -> 
     }
     let refusal = parts.refusal(plan, dev);
     if refusal != 0 {
-        return ret(helper, dev, refusal);
+        return ret(helper, dev, refusal, Change::Same);
     }
     let act = TimerAct::Arm {
         at: time + ms,
         auto_on: false,
     };
-    Move::Write(Event::Timer { dev, act }, returning(helper, dev, 0))
+    Move::Write(
+        Event::Timer { dev, act },
+        Change::CancelRequest { dev },
+        returning(helper, dev, 0),
+    )
 }

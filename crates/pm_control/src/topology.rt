@@ -6,10 +6,9 @@ ghost use Rattle.pm_model.specs.Derived.{busy, is_suspended};
 ghost use Rattle.pm_model.specs.Row.{move_of};
 ghost use Rattle.pm_device.specs.Parts.{IsFor};
 
-use crate::gives;
 use pm_base::{DevId, EAGAIN, EINVAL, Why};
 use pm_device::{Parts, calls, ret};
-use pm_model::{Await, Helper, IdleStage, Move, Plan, Stage};
+use pm_model::{Await, Change, Event, Helper, IdleStage, Move, Plan, Stage};
 
 // No link of the pair can be added now.
 fn cannot_add(plan: &Plan, parts: &Parts, consumer: DevId, supplier: DevId) -> bool
@@ -42,12 +41,17 @@ pub fn link_adds(plan: &Plan, parts: &Parts, consumer: DevId, supplier: DevId) -
     requires in_range { consumer.0 < length plan.now.devices }
     ensures { result ≡ move_of (link_adds plan.now parts.now.views consumer supplier) }
 {
+    let change = Change::Link {
+        consumer,
+        supplier,
+        present: true,
+    };
     if cannot_add(plan, parts, consumer, supplier) {
-        ret(Helper::LinkAdd, consumer, EINVAL)
+        ret(Helper::LinkAdd, consumer, EINVAL, Change::Same)
     } else if is_at_work(parts, consumer) {
-        ret(Helper::LinkAdd, consumer, EAGAIN)
+        ret(Helper::LinkAdd, consumer, EAGAIN, Change::Same)
     } else {
-        ret(Helper::LinkAdd, consumer, 0)
+        ret(Helper::LinkAdd, consumer, 0, change)
     }
 }
 
@@ -58,11 +62,16 @@ pub fn link_dels(plan: &Plan, parts: &Parts, consumer: DevId, supplier: DevId) -
     requires in_range { consumer.0 < length plan.now.devices }
     ensures { result ≡ move_of (link_dels plan.now parts.now.views consumer supplier) }
 {
+    let change = Change::Link {
+        consumer,
+        supplier,
+        present: false,
+    };
     if cannot_remove(plan, parts, consumer, supplier) {
-        return ret(Helper::LinkDel, consumer, EINVAL);
+        return ret(Helper::LinkDel, consumer, EINVAL, Change::Same);
     }
     if parts.busy(consumer) {
-        return ret(Helper::LinkDel, consumer, EAGAIN);
+        return ret(Helper::LinkDel, consumer, EAGAIN, Change::Same);
     }
     if parts.is_held(plan, consumer, supplier) {
         let given = Stage::Idle(IdleStage::Given {
@@ -73,7 +82,14 @@ pub fn link_dels(plan: &Plan, parts: &Parts, consumer: DevId, supplier: DevId) -
             helper: Helper::LinkDel,
             dev: consumer,
         };
-        return gives(supplier, Why::Link(consumer), calls(given, under));
+        return Move::Write(
+            Event::Put {
+                dev: supplier,
+                why: Why::Link(consumer),
+            },
+            change,
+            calls(given, under),
+        );
     }
-    ret(Helper::LinkDel, consumer, 0)
+    ret(Helper::LinkDel, consumer, 0, change)
 }

@@ -4,10 +4,10 @@
 ghost use Rattle.std.specs.Prelude.{◌≡◌, ◌<◌, ◌∷◌, [], false, length};
 ghost use Rattle.pm_model.specs.declared.event.Event.TheVariants as event;
 ghost use Rattle.pm_model.specs.declared.plan.Plan.{Plan as APlan};
+ghost use Rattle.pm_model.specs.declared.stage.Change.TheVariants.{Same};
 ghost use Rattle.pm_model.specs.declared.stage.Move.TheVariants as move;
 ghost use Rattle.pm_model.specs.declared.stage.ResumeStage.TheVariants as resume;
 ghost use Rattle.pm_model.specs.declared.stage.Stage.TheVariants as the_stage;
-ghost use Rattle.pm_model.specs.Changes.{same};
 ghost use Rattle.pm_model.specs.HelperTable.{returning, to_resume};
 ghost use Rattle.pm_model.specs.ResumeTable.{resumes_supplier};
 ghost use Rattle.pm_model.specs.Row.{back, calls, goes, idles, move_of, resumes, suspends};
@@ -16,8 +16,8 @@ ghost use Rattle.pm_device.specs.Parts.{IsFor};
 use crate::Parts;
 use pm_base::{Cb, DevId};
 use pm_model::{
-    Await, Event, Helper, HelperStage, IdleStage, Move, Purpose, ResumeCall, ResumeStage, Stage,
-    Stages, SuspendStage, Then,
+    Await, Change, Event, Helper, HelperStage, IdleStage, Move, Purpose, ResumeCall, ResumeStage,
+    Stage, Stages, SuspendStage, Then,
 };
 
 /// The stage gives way to this one.
@@ -51,17 +51,17 @@ pub fn back(code: i32) -> Then
 }
 
 /// A return line, after which the call ends with its code.
-pub fn returns(func: Cb, dev: DevId, code: i32) -> Move
-    ensures { result ≡ move.Write (event.Return func dev code) (back code) }
+pub fn returns(func: Cb, dev: DevId, code: i32, change: Change) -> Move
+    ensures { result ≡ move.Write (event.Return func dev code) change (back code) }
 {
-    Move::Write(Event::Return { func, dev, code }, back(code))
+    Move::Write(Event::Return { func, dev, code }, change, back(code))
 }
 
 /// The return line of a helper, after which its actor's place is empty.
-pub fn ret(helper: Helper, dev: DevId, code: i32) -> Move
-    ensures { result ≡ move.Write (event.Ret helper dev code) (back code) }
+pub fn ret(helper: Helper, dev: DevId, code: i32, change: Change) -> Move
+    ensures { result ≡ move.Write (event.Ret helper dev code) change (back code) }
 {
-    Move::Write(Event::Ret { helper, dev, code }, back(code))
+    Move::Write(Event::Ret { helper, dev, code }, change, back(code))
 }
 
 /// The return line of a helper comes next.
@@ -103,7 +103,7 @@ impl Parts {
     /// The first line of an idle, which takes the place of the stage.
     pub fn idles(&self, dev: DevId, flags: u8) -> Move
         requires { dev.0 < length self.now.shape.parents }
-        ensures { (plan : APlan) → IsFor plan self.now.shape → result ≡ move_of (idles plan self.now.views dev flags same []) }
+        ensures { (plan : APlan) → IsFor plan self.now.shape → result ≡ move_of (idles plan self.now.views dev flags Same []) }
     {
         let stage = Stage::Idle(IdleStage::Verdict { dev, flags });
         Move::Write(
@@ -111,14 +111,15 @@ impl Parts {
                 dev,
                 fields: self.fields(dev, flags),
             },
+            Change::Same,
             goes(stage),
         )
     }
 
     /// The first line of an idle, called over the stage that awaits its end.
-    pub fn calls_idle(&self, dev: DevId, flags: u8, under: Await) -> Move
+    pub fn calls_idle(&self, dev: DevId, flags: u8, change: Change, under: Await) -> Move
         requires { dev.0 < length self.now.shape.parents }
-        ensures { (plan : APlan) → IsFor plan self.now.shape → result ≡ move_of (idles plan self.now.views dev flags same (the_stage.Await under ∷ [])) }
+        ensures { (plan : APlan) → IsFor plan self.now.shape → result ≡ move_of (idles plan self.now.views dev flags change (the_stage.Await under ∷ [])) }
     {
         let stage = Stage::Idle(IdleStage::Verdict { dev, flags });
         Move::Write(
@@ -126,6 +127,7 @@ impl Parts {
                 dev,
                 fields: self.fields(dev, flags),
             },
+            change,
             calls(stage, under),
         )
     }
@@ -141,6 +143,7 @@ impl Parts {
                 dev,
                 fields: self.fields(dev, flags),
             },
+            Change::Same,
             goes(stage),
         )
     }
@@ -156,6 +159,7 @@ impl Parts {
                 dev,
                 fields: self.fields(dev, flags),
             },
+            Change::Same,
             calls(stage, under),
         )
     }
@@ -171,6 +175,7 @@ impl Parts {
                 dev,
                 fields: self.fields(dev, flags),
             },
+            Change::Same,
             goes(stage),
         )
     }
@@ -186,6 +191,7 @@ impl Parts {
                 dev,
                 fields: self.fields(dev, flags),
             },
+            Change::Same,
             calls(stage, under),
         )
     }

@@ -8,9 +8,9 @@ ghost use Rattle.pm_base.specs.declared.Why.TheVariants as why;
 ghost use Rattle.pm_model.specs.declared.event.Event.TheVariants as event;
 ghost use Rattle.pm_model.specs.declared.event.Helper.TheVariants as helper;
 ghost use Rattle.pm_model.specs.declared.event.WorkAct.TheVariants.{Run};
+ghost use Rattle.pm_model.specs.declared.stage.Change.TheVariants as change;
 ghost use Rattle.pm_model.specs.declared.stage.Move.TheVariants as move;
 ghost use Rattle.pm_model.specs.declared.stage.Stage.TheVariants as the_stage;
-ghost use Rattle.pm_model.specs.Changes.{same};
 ghost use Rattle.pm_model.specs.HelperTable.{begins, carries_out, flags_of, gets_if, helper_row, helper_starts, put_suspends, puts, timer_fires, to_idle, to_suspend};
 ghost use Rattle.pm_model.specs.Row.{move_of, ret, timed};
 ghost use Rattle.pm_model.specs.Views.{pending_of, timer};
@@ -21,7 +21,7 @@ ghost use Rattle.pm_helper.specs.HelperMove.{CanTell, ReadsWithin};
 use pm_base::{DevId, EINVAL, Req, Why};
 use pm_device::{Parts, back, calls, goes, ret, returning, to_resume};
 use pm_model::{
-    Await, Command, ControlStage, Event, Helper, HelperStage, IdleStage, Move, Plan, Stage,
+    Await, Change, Command, ControlStage, Event, Helper, HelperStage, IdleStage, Move, Plan, Stage,
     SuspendStage, Then, TimerAct, WorkAct,
 };
 
@@ -93,13 +93,14 @@ fn begins(command: Command, time: u64) -> Then
 
 // A caller takes a count.
 fn takes(dev: DevId, then: Then) -> Move
-    ensures { result ≡ move.Write (event.Get dev why.Caller) then }
+    ensures { result ≡ move.Write (event.Get dev why.Caller) change.Same then }
 {
     Move::Write(
         Event::Get {
             dev,
             why: Why::Caller,
         },
+        Change::Same,
         then,
     )
 }
@@ -111,11 +112,11 @@ fn gets_if(parts: &Parts, command: Command, holds: bool) -> Move
 {
     let Command { helper, dev, .. } = command;
     if parts.is_disabled(dev) {
-        ret(helper, dev, EINVAL)
+        ret(helper, dev, EINVAL, Change::Same)
     } else if parts.is_active(dev) && holds {
         takes(dev, returning(helper, dev, 1))
     } else {
-        ret(helper, dev, 0)
+        ret(helper, dev, 0, Change::Same)
     }
 }
 
@@ -126,13 +127,14 @@ fn puts(parts: &Parts, command: Command, then: Then) -> Move
 {
     let Command { helper, dev, .. } = command;
     if parts.device(dev).share == 0 {
-        return ret(helper, dev, EINVAL);
+        return ret(helper, dev, EINVAL, Change::Same);
     }
     Move::Write(
         Event::Put {
             dev,
             why: Why::Caller,
         },
+        Change::Same,
         then,
     )
 }
@@ -160,7 +162,7 @@ fn starts(parts: &Parts, command: Command) -> Move
             puts(parts, command, goes(given))
         }
         Helper::PutNoidle => puts(parts, command, returning(helper, dev, 0)),
-        _ => ret(helper, dev, 0),
+        _ => ret(helper, dev, 0, Change::Same),
     }
 }
 
@@ -179,6 +181,7 @@ fn put_suspends(plan: &Plan, parts: &Parts, command: Command) -> Move
                 dev,
                 fields: parts.fields(dev, flags),
             },
+            Change::Same,
             returning(helper, dev, 0),
         );
     }
@@ -201,7 +204,7 @@ fn carries_out(dev: DevId, req: Req) -> Then
 // A work item runs its request.
 fn works(parts: &Parts, dev: DevId) -> Move
     requires { dev.0 < length parts.now.shape.parents }
-    ensures { result ≡ move.Write (event.Work dev (Run (pending_of parts.now.views dev).request)) (carries_out dev (pending_of parts.now.views dev).request) }
+    ensures { result ≡ move.Write (event.Work dev (Run (pending_of parts.now.views dev).request)) change.Same (carries_out dev (pending_of parts.now.views dev).request) }
 {
     let request = parts.pending(dev).request;
     Move::Write(
@@ -209,6 +212,7 @@ fn works(parts: &Parts, dev: DevId) -> Move
             dev,
             act: WorkAct::Run(request),
         },
+        Change::Same,
         carries_out(dev, request),
     )
 }
@@ -226,6 +230,7 @@ fn fires(parts: &Parts, dev: DevId) -> Move
             dev,
             act: TimerAct::Fire { auto_on },
         },
+        Change::Same,
         goes(to_suspend(dev, flags)),
     )
 }
@@ -250,13 +255,13 @@ fn timer(parts: &Parts, dev: DevId, time: u64) -> Move
 fn delay(ms: i64, since: u64, time: u64) -> Move
     requires positive { pos 0 ≤ℤ ms }
     requires reckons { since + nat_abs ms < 2 ^ 64 }
-    ensures { result ≡ timed (since + nat_abs ms) time (ret helper.Delay (record { 0 = 0 }) (pos 0) same) }
+    ensures { result ≡ timed (since + nat_abs ms) time (ret helper.Delay (record { 0 = 0 }) (pos 0) change.Same) }
 {
     let due = since + ms.unsigned_abs();
     if time < due {
         Move::Late(due)
     } else {
-        ret(Helper::Delay, DevId(0), 0)
+        ret(Helper::Delay, DevId(0), 0, Change::Same)
     }
 }
 
@@ -271,13 +276,13 @@ pub fn next(plan: &Plan, parts: &Parts, stage: HelperStage, time: u64) -> Move
 {
     match stage {
         HelperStage::Call { command } => {
-            Move::Write(Event::Call { command }, begins(command, time))
+            Move::Write(Event::Call { command }, Change::Same, begins(command, time))
         }
         HelperStage::Work { dev } => works(parts, dev),
         HelperStage::Timer { dev } => timer(parts, dev, time),
         HelperStage::Start { command } => starts(parts, command),
         HelperStage::Given { command } => put_suspends(plan, parts, command),
         HelperStage::Delay { ms, since } => delay(ms, since, time),
-        HelperStage::Ret { helper, dev, code } => ret(helper, dev, code),
+        HelperStage::Ret { helper, dev, code } => ret(helper, dev, code, Change::Same),
     }
 }

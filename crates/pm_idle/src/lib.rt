@@ -5,6 +5,7 @@ ghost use Rattle.std.specs.Prelude.{◌≡◌, ◌+◌, ◌<◌, ◌^◌, length
 ghost use Rattle.std.specs.Ordering.{int_eq};
 ghost use Rattle.pm_base.specs.declared.Cb.TheVariants as cb;
 ghost use Rattle.pm_model.specs.declared.event.Event.TheVariants as event;
+ghost use Rattle.pm_model.specs.declared.stage.Change.TheVariants as change;
 ghost use Rattle.pm_model.specs.declared.stage.Move.TheVariants as move;
 ghost use Rattle.pm_model.specs.declared.stage.Stage.TheVariants as the_stage;
 ghost use Rattle.pm_model.specs.Derived.{begun};
@@ -17,7 +18,7 @@ ghost use Rattle.pm_idle.specs.IdleMove.{CanTell, device_of};
 
 use pm_base::{ASYNC, AUTO, Cb, DevId, EAGAIN, EINPROGRESS, Req};
 use pm_device::{Parts, back, goes, has, has_idle, is_above_idle, ms_of, returns};
-use pm_model::{Event, IdleStage, Move, Plan, Stage, SuspendStage, Then, WorkAct};
+use pm_model::{Change, Event, IdleStage, Move, Plan, Stage, SuspendStage, Then, WorkAct};
 
 // An idle that answers 0 goes on to suspend by the autosuspend rule.
 fn then_suspends(dev: DevId, flags: u8) -> Then
@@ -38,16 +39,16 @@ fn verdict(plan: &Plan, parts: &Parts, dev: DevId, flags: u8, time: u64) -> Move
 {
     let refusal = parts.refusal(plan, dev);
     if refusal < 0 {
-        return returns(Cb::Idle, dev, refusal);
+        return returns(Cb::Idle, dev, refusal, Change::Same);
     }
     if !parts.is_active(dev) {
-        return returns(Cb::Idle, dev, EAGAIN);
+        return returns(Cb::Idle, dev, EAGAIN, Change::Same);
     }
     if is_above_idle(parts.pending(dev).request) {
-        return returns(Cb::Idle, dev, EAGAIN);
+        return returns(Cb::Idle, dev, EAGAIN, Change::Same);
     }
     if parts.device(dev).idle_running {
-        return returns(Cb::Idle, dev, EINPROGRESS);
+        return returns(Cb::Idle, dev, EINPROGRESS, Change::Same);
     }
     if !has_idle(plan, dev) {
         return Move::Write(
@@ -56,6 +57,7 @@ fn verdict(plan: &Plan, parts: &Parts, dev: DevId, flags: u8, time: u64) -> Move
                 dev,
                 code: 0,
             },
+            Change::CancelRequest { dev },
             then_suspends(dev, flags),
         );
     }
@@ -65,11 +67,13 @@ fn verdict(plan: &Plan, parts: &Parts, dev: DevId, flags: u8, time: u64) -> Move
                 dev,
                 act: WorkAct::Queue(Req::Idle),
             },
+            Change::Same,
             goes(Stage::Idle(IdleStage::Queued { dev, flags })),
         );
     }
     Move::Write(
         Event::Begin { dev, cb: Cb::Idle },
+        Change::CancelRequest { dev },
         goes(Stage::Idle(IdleStage::Running {
             dev,
             flags,
@@ -93,6 +97,7 @@ fn ends(plan: &Plan, parts: &Parts, dev: DevId, flags: u8, time: u64) -> Move
             cb: Cb::Idle,
             code,
         },
+        Change::CallbackMarks { dev },
         goes(Stage::Idle(IdleStage::Done { dev, flags, code })),
     )
 }
@@ -115,7 +120,7 @@ fn running(plan: &Plan, parts: &Parts, dev: DevId, flags: u8, since: u64, time: 
 
 // I3
 fn done(dev: DevId, flags: u8, code: i32) -> Move
-    ensures { result ≡ move.Write (event.Return cb.Idle dev code) (if int_eq code (pos 0) then then_suspends dev flags else back code) }
+    ensures { result ≡ move.Write (event.Return cb.Idle dev code) change.Same (if int_eq code (pos 0) then then_suspends dev flags else back code) }
 {
     let then = if code == 0 {
         then_suspends(dev, flags)
@@ -128,6 +133,7 @@ fn done(dev: DevId, flags: u8, code: i32) -> Move
             dev,
             code,
         },
+        Change::Same,
         then,
     )
 }
@@ -145,6 +151,7 @@ fn given(plan: &Plan, parts: &Parts, dev: DevId, flags: u8) -> Move
                 dev,
                 fields: parts.fields(dev, flags),
             },
+            Change::Same,
             back(0),
         );
     }
@@ -165,7 +172,7 @@ pub fn next(plan: &Plan, parts: &Parts, stage: IdleStage, time: u64) -> Move
         IdleStage::Verdict { dev, flags } => verdict(plan, parts, dev, flags, time),
         IdleStage::Running { dev, flags, since } => running(plan, parts, dev, flags, since, time),
         IdleStage::Done { dev, flags, code } => done(dev, flags, code),
-        IdleStage::Queued { dev, .. } => returns(Cb::Idle, dev, 0),
+        IdleStage::Queued { dev, .. } => returns(Cb::Idle, dev, 0, Change::Same),
         IdleStage::Given { dev, flags } => given(plan, parts, dev, flags),
     }
 }

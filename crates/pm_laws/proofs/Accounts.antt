@@ -10,9 +10,11 @@ use Rattle.pm_model.specs.declared.event.Event.TheVariants as event
 use Rattle.pm_model.specs.declared.event.Word.{Word}
 use Rattle.pm_model.specs.declared.event.Word.TheVariants as word
 use Rattle.pm_model.specs.declared.plan.Plan.{Plan}
+use Rattle.pm_model.specs.declared.stage.Change.{Change}
+use Rattle.pm_model.specs.declared.stage.Change.TheVariants as change
 use Rattle.pm_model.specs.declared.stage.Stage.{Stage}
 use Rattle.pm_model.specs.declared.stage.Then.{Then}
-use Rattle.pm_model.specs.declared.views.Device.{Device}
+use Rattle.pm_model.specs.ChangeViews.{change_views}
 use Rattle.pm_model.specs.Counted.{takes, gives, frees, is_same, is_caller, says_on}
 use Rattle.pm_model.specs.Events.{by_event, by_word, by_end, set_status, set_error, is_try_again}
 use Rattle.pm_model.specs.Row.{writes}
@@ -20,13 +22,11 @@ use Rattle.pm_model.specs.Views.{Views, device}
 use Rattle.pm_sums.specs.Sums.{one}
 use Rattle.pm_laws.specs.Counts.{told, lent}
 use Rattle.pm_laws.proofs.Links.{both}
+use Rattle.pm_laws.proofs.Named.{IsCalm, change_calm}
 use Rattle.pm_laws.proofs.Owning.{unturned, quiet_says}
 use Rattle.pm_laws.proofs.Rows.{Known, Owning, Counting, Keeps, Owes, SameOwners, SameHolds}
-use Rattle.pm_laws.proofs.Seen.{core, core_seen, seen, Account, account_of, account_core, account_seen, held_core, held_seen, status_seen, entries_seen, untouched_seen}
+use Rattle.pm_laws.proofs.Seen.{core, core_seen, Account, account_of, account_core, account_seen, held_core, held_seen}
 use Rattle.pm_laws.proofs.Turns.{IsQuiet, quiet_event, entry_kept}
-
-abbrev pub usage_of : Device → ℕ
-usage_of x = x.usage
 
 -- the counts stay, and the stages that take the place hold what the stage held
 pub uncounted : {plan : Plan} {v after : Views} {s : Stage} {e : Event} {next : Then}
@@ -62,38 +62,37 @@ caller_gives d _ c = absurd (false≢true c)
 spends_none : {A : Type 0} (d : DevId) (e : Event) → gives (λ w. true) d e ≡ false → gives is_caller d e ≡ true → A
 spends_none d e none c = absurd (false≢true (sym none ∙ caller_gives d e c))
 
--- a quiet event on these views; where it is a pm_domain line, its row changed nothing beside it
-abbrev pub IsApart : Event → Views → Views → Type 0
-IsApart (event.Domain d is_up n) v v' = v' ≡ v
-IsApart e v v' = IsQuiet e
+-- a quiet event; where it is a pm_domain line, its row names no change
+abbrev pub IsApart : Event → Change → Type 0
+IsApart (event.Domain d is_up n) c = c ≡ change.Same
+IsApart e c = IsQuiet e
 
-apart_quiet : (e : Event) (v v' : Views) → IsApart e v v' → IsQuiet e
-apart_quiet (event.Domain d is_up n) v v' q = tt
-apart_quiet (event.Get x w) v v' q = q
-apart_quiet (event.Put x w) v v' q = q
-apart_quiet (event.State x w) v v' q = q
-apart_quiet (event.Begin x cb.Suspend) v v' q = q
-apart_quiet (event.End x cb.Suspend c) v v' q = q
-apart_quiet _ v v' q = tt
+apart_quiet : (e : Event) (c : Change) → IsApart e c → IsQuiet e
+apart_quiet (event.Domain d is_up n) c q = tt
+apart_quiet (event.Get x w) c q = q
+apart_quiet (event.Put x w) c q = q
+apart_quiet (event.State x w) c q = q
+apart_quiet (event.Begin x cb.Suspend) c q = q
+apart_quiet (event.End x cb.Suspend k) c q = q
+apart_quiet _ c q = tt
 
-apart_switches : (plan : Plan) (e : Event) (v v' : Views) → IsApart e v v' → (o : ℕ) → says_on plan v' o e ≡ says_on plan v o e
-apart_switches plan (event.Domain d is_up n) v v' q o = ap (λ x. says_on plan x o (event.Domain d is_up n)) q
-apart_switches plan _ v v' q o = refl
+apart_switches : (plan : Plan) (t : ℕ) (e : Event) (c : Change) (v : Views) → IsApart e c → (o : ℕ)
+    → says_on plan (change_views plan t c v) o e ≡ says_on plan v o e
+apart_switches plan t (event.Domain d is_up n) c v q o = ap (λ x. says_on plan (change_views plan t x v) o (event.Domain d is_up n)) q
+apart_switches plan t _ c v q o = refl
 
 -- a line that changes nothing of the statuses and the counts
-pub quiet : {plan : Plan} {v : Views} {t : ℕ} {s : Stage} {e : Event} {changes : Views → Views} {next : Then} → Known plan v → IsApart e v (changes v)
-    → seen (changes v) ≡ seen v → SameOwners s next → SameHolds plan s next → Owes plan v t s (writes e changes next)
-quiet {plan} {v} {t} {s} {e} {changes} {next} k apart c o h =
-    let q = apart_quiet e v (changes v) apart in
-    let all : core (by_event plan t e (changes v)) ≡ core v = quiet_event plan t e (changes v) q ∙ core_seen v (changes v) c in
-    let kept : Keeps plan v t s e changes next = record {
-      entries = entries_seen plan v (changes v) c k.entries;
-      still = λ d. status_seen v (changes v) d c;
+pub quiet : {plan : Plan} {v : Views} {t : ℕ} {s : Stage} {e : Event} {c : Change} {next : Then} → Known plan v → IsApart e c → IsCalm v c
+    → SameOwners s next → SameHolds plan s next → Owes plan v t s (writes e c next)
+quiet {plan} {v} {t} {s} {e} {c} {next} k apart is o h =
+    let q = apart_quiet e c apart in
+    let v' = change_views plan t c v in
+    let all : core (by_event plan t e v') ≡ core v = quiet_event plan t e v' q ∙ core_seen v v' (change_calm plan t c v k.entries is) in
+    let kept : Keeps plan v t s e c next = record {
       owning = unturned (quiet_says e q) o;
-      counting = uncounted (λ d. account_core v (by_event plan t e (changes v)) d all) (held_core v (by_event plan t e (changes v)) all) (λ d. (quiet_counts plan v e q d).0) (λ d. (quiet_counts plan v e q d).1) (λ d. (quiet_counts plan v e q d).2) h;
-      untouched = untouched_seen v (changes v) c;
+      counting = uncounted (λ d. account_core v (by_event plan t e v') d all) (held_core v (by_event plan t e v') all) (λ d. (quiet_counts plan v e q d).0) (λ d. (quiet_counts plan v e q d).1) (λ d. (quiet_counts plan v e q d).2) h;
       spends = λ d g. spends_none d e (quiet_counts plan v e q d).0 g;
-      switching = apart_switches plan e v (changes v) apart;
+      switching = apart_switches plan t e c v apart;
     } in
     record { paid = kept }
 
@@ -179,16 +178,15 @@ turn_switches plan v v' (event.Domain d is_up n) is o = elim is [ ]
 turn_switches plan v v' _ is o = refl
 
 -- a line that turns a status
-pub turn : {plan : Plan} {v : Views} {t : ℕ} {s : Stage} {e : Event} {changes : Views → Views} {next : Then} → Known plan v → IsTurn e
-    → seen (changes v) ≡ seen v → Owning plan v s e next → SameHolds plan s next → Owes plan v t s (writes e changes next)
-turn {plan} {v} {t} {s} {e} {changes} {next} k is c o h =
-    let kept : Keeps plan v t s e changes next = record {
-      entries = entries_seen plan v (changes v) c k.entries;
-      still = λ d. status_seen v (changes v) d c;
+pub turn : {plan : Plan} {v : Views} {t : ℕ} {s : Stage} {e : Event} {c : Change} {next : Then} → Known plan v → IsTurn e → IsCalm v c
+    → Owning plan v s e next → SameHolds plan s next → Owes plan v t s (writes e c next)
+turn {plan} {v} {t} {s} {e} {c} {next} k is calm o h =
+    let v' = change_views plan t c v in
+    let same = change_calm plan t c v k.entries calm in
+    let kept : Keeps plan v t s e c next = record {
       owning = o;
-      counting = uncounted (λ d. turn_account plan t e (changes v) d is ∙ account_seen v (changes v) d c) (turn_held plan t e (changes v) is ∙ held_seen v (changes v) c) (λ d. (turn_counts plan v e is d).0) (λ d. (turn_counts plan v e is d).1) (λ d. (turn_counts plan v e is d).2) h;
-      untouched = untouched_seen v (changes v) c;
+      counting = uncounted (λ d. turn_account plan t e v' d is ∙ account_seen v v' d same) (turn_held plan t e v' is ∙ held_seen v v' same) (λ d. (turn_counts plan v e is d).0) (λ d. (turn_counts plan v e is d).1) (λ d. (turn_counts plan v e is d).2) h;
       spends = λ d g. spends_none d e (turn_counts plan v e is d).0 g;
-      switching = turn_switches plan v (changes v) e is;
+      switching = turn_switches plan v v' e is;
     } in
     record { paid = kept }

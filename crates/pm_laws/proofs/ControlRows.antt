@@ -1,5 +1,5 @@
 -- The rows of the control functions.
-use Rattle.std.proofs.Common.{ℕ, ◌≡◌, Bool, true, false, not, ◌&&◌, ◌||◌, Option, Some, None, ℤ, pos, nat_abs, nat_eq, refl, sym, ◌∙◌, arith}
+use Rattle.std.proofs.Common.{ℕ, ◌≡◌, Bool, true, false, not, ◌&&◌, ◌||◌, Option, Some, None, ℤ, pos, nat_abs, nat_eq, refl, sym, arith}
 use Rattle.std.specs.Ordering.{int_eq}
 use Rattle.std.proofs.lemmas.Bool.{false≢true}
 use Rattle.pm_base.specs.declared.DevId.{DevId}
@@ -13,19 +13,16 @@ use Rattle.pm_model.specs.declared.plan.Plan.{Plan}
 use Rattle.pm_model.specs.declared.stage.ControlStage.{ControlStage}
 use Rattle.pm_model.specs.declared.stage.ControlStage.TheVariants as control
 use Rattle.pm_model.specs.declared.stage.Stage.TheVariants as stage
-use Rattle.pm_model.specs.Changes.{disables, cancel_all}
-use Rattle.pm_model.specs.ControlTable.{enabling, disabled_at_once, disabling, disable_starts, disable_ends, barrier_idles, barrier_resumes, barrier_ends, may_not_force, forces_active, active_starts, gives_links, active_unwinds, takes_links, active_links, suspended_starts, tells_supplier, suppliers_idle, forbidding, allowing, sets, schedules, may_be_absent, is_pair_in, link_adds, link_dels, control_starts, control_row}
+use Rattle.pm_model.specs.ControlTable.{enabling, disabling, disable_starts, disable_ends, barrier_idles, barrier_resumes, barrier_ends, may_not_force, forces_active, active_starts, gives_links, active_unwinds, takes_links, active_links, suspended_starts, tells_supplier, suppliers_idle, forbidding, allowing, sets, schedules, may_be_absent, is_pair_in, link_adds, link_dels, control_starts, control_row}
 use Rattle.pm_model.specs.Derived.{refusal, has_error, is_disabled, is_active, is_suspended, is_moving, asks_resume, awaits_parent, busy, prevented, first_held, first_free, next_supplier, has_link}
 use Rattle.pm_model.specs.SuspendTable.{tells_parent}
 use Rattle.pm_model.specs.Views.{Views, device}
 use Rattle.pm_laws.proofs.Accounts.{quiet, turn}
-use Rattle.pm_laws.proofs.Givings.{took_stages, gave_stages, took_forbid, gave_forbid, took_link, gave_link, took_delay, gave_delay, setting_calm, forced}
+use Rattle.pm_laws.proofs.Givings.{took_stages, gave_stages, took_forbid, gave_forbid, took_link, gave_link, took_delay, gave_delay, forced}
 use Rattle.pm_laws.proofs.HelperRows.{command}
 use Rattle.pm_laws.proofs.Links.{neither, held_found, free_found, link_calls}
 use Rattle.pm_laws.proofs.Owning.{stays_still, begins_resume, ends_resume}
 use Rattle.pm_laws.proofs.Rows.{Known, Owes, either, alike, waiting}
-use Rattle.pm_laws.proofs.Seen.{seen, pending_calm, cancel_all_calm, last_busy_calm, disables_calm, last_calm, enables_calm, disables_all_calm, ignores_calm}
-use Rattle.pm_laws.proofs.Turns.{present_calm}
 
 off : (b : Bool) → not b ≡ false → b ≡ true
 off true e = refl
@@ -35,36 +32,33 @@ off false e = absurd (false≢true (sym e))
 enabling_keeps : (plan : Plan) (v : Views) (t : ℕ) (d : DevId) (n : ℤ) → Known plan v
     → Owes plan v t (stage.Control (control.Start (command helper.Enable d n))) (enabling v d)
 unfolding enabling
-enabling_keeps plan v t d n k = either (not (is_disabled v d)) (λ _. search quiet) (λ _. search (quiet, enables_calm))
-
-at_once_calm : (d : DevId) (v : Views) → seen (disabled_at_once d v) ≡ seen v
-at_once_calm d v = last_calm (is_active v d) d (cancel_all d (disables d v)) ∙ disables_all_calm d v
+enabling_keeps plan v t d n k = either (not (is_disabled v d)) (λ _. search quiet) (λ _. search quiet)
 
 disabling_keeps : (plan : Plan) (v : Views) (t : ℕ) (d : DevId) → Known plan v → Owes plan v t (stage.Control (control.Disable d)) (disabling v d)
 unfolding disabling
 disabling_keeps plan v t d k =
-    either (is_disabled v d) (λ _. search (quiet, disables_calm)) (λ _.
-    either (busy v d) (λ _. quiet k tt (disables_all_calm d v) (λ _. (refl, refl)) (λ _. refl)) (λ _.
-    quiet k tt (at_once_calm d v) (λ _. (refl, refl)) (λ _. refl)))
+    either (is_disabled v d) (λ _. search quiet) (λ _.
+    either (busy v d) (λ _. search quiet) (λ _.
+    search quiet))
 
 disable_starts_keep : (plan : Plan) (v : Views) (t : ℕ) (d : DevId) (n : ℤ) → Known plan v
     → Owes plan v t (stage.Control (control.Start (command helper.Disable d n))) (disable_starts v d)
 unfolding disable_starts
 disable_starts_keep plan v t d n k =
-    either (not (is_disabled v d) && asks_resume v d) (λ _. took_stages d why.Control k tt refl (λ _. (refl, refl)) (λ _. omega arith))
+    either (not (is_disabled v d) && asks_resume v d) (λ _. took_stages d why.Control k tt tt (λ _. (refl, refl)) (λ _. omega arith))
     (λ _. alike (stage.Control (control.Disable d)) (λ _. (refl, refl)) (λ _. refl) (disabling_keeps plan v t d k))
 
 disable_ends_keep : (plan : Plan) (v : Views) (t : ℕ) (d : DevId) → Known plan v
     → Owes plan v t (stage.Control (control.Disabled d)) (disable_ends v d)
 unfolding disable_ends
-disable_ends_keep plan v t d k = either (busy v d) (λ _. waiting) (λ _. either (is_disabled v d) (λ _. search (quiet, last_calm)) (λ _. search quiet))
+disable_ends_keep plan v t d k = either (busy v d) (λ _. waiting) (λ _. either (is_disabled v d) (λ _. search quiet) (λ _. search quiet))
 
 -- barrier
 barrier_idles_keep : (plan : Plan) (v : Views) (t : ℕ) (d : DevId) (c : ℤ) → Known plan v
     → Owes plan v t (stage.Control (control.BarrierIdle d c)) (barrier_idles v d c)
 unfolding barrier_idles
 barrier_idles_keep plan v t d c k =
-    either (busy v d) (λ _. search (quiet, cancel_all_calm)) (λ _. gave_stages d why.Control k tt (cancel_all_calm d v) (λ _. (refl, refl)) (λ _. omega arith))
+    either (busy v d) (λ _. search quiet) (λ _. gave_stages d why.Control k tt tt (λ _. (refl, refl)) (λ _. omega arith))
 
 barrier_resumes_keep : (plan : Plan) (v : Views) (t : ℕ) (d : DevId) → Known plan v
     → Owes plan v t (stage.Control (control.BarrierResume d)) (barrier_resumes plan v d)
@@ -75,7 +69,7 @@ barrier_resumes_keep plan v t d k =
 barrier_ends_keep : (plan : Plan) (v : Views) (t : ℕ) (d : DevId) (c : ℤ) → Known plan v
     → Owes plan v t (stage.Control (control.BarrierWait d c)) (barrier_ends v d c)
 unfolding barrier_ends
-barrier_ends_keep plan v t d c k = either (busy v d) (λ _. waiting) (λ _. gave_stages d why.Control k tt refl (λ _. (refl, refl)) (λ _. omega arith))
+barrier_ends_keep plan v t d c k = either (busy v d) (λ _. waiting) (λ _. gave_stages d why.Control k tt tt (λ _. (refl, refl)) (λ _. omega arith))
 
 -- set_active
 may_force : (v : Views) (d : DevId) → may_not_force v d ≡ false → is_moving v d ≡ false
@@ -84,7 +78,7 @@ may_force v d e = (neither (is_moving v d) (device v d).idle_running (neither (n
 
 forces_keep : (plan : Plan) (v : Views) (t : ℕ) (d : DevId) (n : ℤ) → Known plan v → is_moving v d ≡ false
     → Owes plan v t (stage.Control (control.Start (command helper.SetActive d n))) (forces_active d)
-forces_keep plan v t d n k still = turn k tt refl (stays_still d status.Active still refl (λ _. refl) (λ _. (refl, refl)) (λ _. (refl, refl))) (λ _. refl)
+forces_keep plan v t d n k still = turn k tt tt (stays_still d status.Active still refl (λ _. refl) (λ _. (refl, refl)) (λ _. (refl, refl))) (λ _. refl)
 
 active_starts_keep : (plan : Plan) (v : Views) (t : ℕ) (d : DevId) (n : ℤ) → Known plan v
     → Owes plan v t (stage.Control (control.Start (command helper.SetActive d n))) (active_starts plan v d)
@@ -92,13 +86,13 @@ unfolding active_starts
 active_starts_keep plan v t d n k =
     either (may_not_force v d) (λ _. search quiet) (λ may.
     either (is_active v d) (λ _. forces_keep plan v t d n k (may_force v d may)) (λ _.
-    either (has_link plan v d) (λ has. turn k tt refl (begins_resume d (may_force v d may) (link_calls plan v d has) (λ _. refl) (λ _. (refl, refl)) (λ _. (refl, refl))) (λ _. refl)) (λ _.
+    either (has_link plan v d) (λ has. turn k tt tt (begins_resume d (may_force v d may) (link_calls plan v d has) (λ _. refl) (λ _. (refl, refl)) (λ _. (refl, refl))) (λ _. refl)) (λ _.
     either (awaits_parent plan v d) (λ _. search quiet) (λ _. forces_keep plan v t d n k (may_force v d may)))))
 
 gives_keep : (plan : Plan) (v : Views) (t : ℕ) (d : DevId) (c : ℤ) → Known plan v → (x : Option (ℕ × DevId)) → first_held plan v d ≡ x
     → Owes plan v t (stage.Control (control.ActiveUnwind d c)) (gives_links d c x)
-gives_keep plan v t d c k (Some link) e = gave_link d link.1 k refl (held_found plan v d link e) (λ _. (refl, refl)) (λ _. refl)
-gives_keep plan v t d c k None e = turn k tt refl (ends_resume d status.Suspended refl (λ _. refl) (λ _. (refl, refl)) (λ _. (refl, refl))) (λ _. refl)
+gives_keep plan v t d c k (Some link) e = gave_link d link.1 k tt (held_found plan v d link e) (λ _. (refl, refl)) (λ _. refl)
+gives_keep plan v t d c k None e = turn k tt tt (ends_resume d status.Suspended refl (λ _. refl) (λ _. (refl, refl)) (λ _. (refl, refl))) (λ _. refl)
 
 unwinds_keep : (plan : Plan) (v : Views) (t : ℕ) (d : DevId) (c : ℤ) → Known plan v
     → Owes plan v t (stage.Control (control.ActiveUnwind d c)) (active_unwinds plan v d c)
@@ -110,7 +104,7 @@ takes_keep : (plan : Plan) (v : Views) (t : ℕ) (d : DevId) → Known plan v �
 takes_keep plan v t d k (Some link) e = took_link d link.1 k (free_found plan v d link e) (λ _. (refl, refl)) (λ _. refl)
 takes_keep plan v t d k None e =
     either (awaits_parent plan v d) (λ _. alike (stage.Control (control.ActiveUnwind d EBUSY)) (λ _. (refl, refl)) (λ _. refl) (unwinds_keep plan v t d EBUSY k))
-    (λ _. turn k tt refl (ends_resume d status.Active refl (λ _. refl) (λ _. (refl, refl)) (λ _. (refl, refl))) (λ _. refl))
+    (λ _. turn k tt tt (ends_resume d status.Active refl (λ _. refl) (λ _. (refl, refl)) (λ _. (refl, refl))) (λ _. refl))
 
 links_keep : (plan : Plan) (v : Views) (t : ℕ) (d : DevId) → Known plan v
     → Owes plan v t (stage.Control (control.ActiveLinks d)) (active_links plan v d)
@@ -164,16 +158,16 @@ sets_keep plan v t c h d u n k =
     let was = prevented (device v d).use_auto (device v d).delay in
     let is = prevented u n in
     either (not was && is) (λ more. took_delay d u n k more (λ _. (refl, refl)) (λ _. refl)) (λ no_more.
-    either (was && is) (λ both_hold. quiet k tt (setting_calm u n d v (alike_true was is both_hold)) (λ _. (refl, refl)) (λ _. refl)) (λ _.
+    either (was && is) (λ both_hold. quiet k tt (alike_true was is both_hold) (λ _. (refl, refl)) (λ _. refl)) (λ _.
     either (was && not is) (λ less. gave_delay d u n k less (λ _. (refl, refl)) (λ _. refl)) (λ no_less.
-    quiet k tt (setting_calm u n d v (alike_else was is no_more no_less)) (λ _. (refl, refl)) (λ _. refl))))
+    quiet k tt (alike_else was is no_more no_less) (λ _. (refl, refl)) (λ _. refl))))
 
 schedules_keep : (plan : Plan) (v : Views) (t : ℕ) (c : Command) (d : DevId) (ms : ℕ) → Known plan v
     → Owes plan v t (stage.Control (control.Start c)) (schedules plan v d ms t)
 unfolding schedules
 schedules_keep plan v t c d ms k =
     either (nat_eq ms 0) (λ _. search quiet) (λ _.
-    either (not (int_eq (refusal plan v d) (pos 0))) (λ _. search quiet) (λ _. search (quiet, pending_calm)))
+    either (not (int_eq (refusal plan v d) (pos 0))) (λ _. search quiet) (λ _. search quiet))
 
 -- the links
 link_adds_keep : (plan : Plan) (v : Views) (t : ℕ) (x : Command) (c s : DevId) → Known plan v
@@ -182,7 +176,7 @@ unfolding link_adds
 link_adds_keep plan v t x c s k =
     either (not (may_be_absent plan c s) || is_pair_in plan c s v.present) (λ _. search quiet) (λ _.
     either (not (is_suspended v c) || busy v c) (λ _. search quiet) (λ _.
-    quiet k tt (present_calm plan c s true v k.entries) (λ _. (refl, refl)) (λ _. refl)))
+    search quiet))
 
 link_dels_keep : (plan : Plan) (v : Views) (t : ℕ) (x : Command) (c s : DevId) → Known plan v
     → Owes plan v t (stage.Control (control.Start x)) (link_dels plan v c s)
@@ -190,8 +184,8 @@ unfolding link_dels
 link_dels_keep plan v t x c s k =
     either (not (may_be_absent plan c s) || not (is_pair_in plan c s v.present)) (λ _. search quiet) (λ _.
     either (busy v c) (λ _. search quiet) (λ _.
-    either (is_pair_in plan c s v.held) (λ has. gave_link c s k (present_calm plan c s false v k.entries) has (λ _. (refl, refl)) (λ _. refl)) (λ _.
-    quiet k tt (present_calm plan c s false v k.entries) (λ _. (refl, refl)) (λ _. refl))))
+    either (is_pair_in plan c s v.held) (λ has. gave_link c s k tt has (λ _. (refl, refl)) (λ _. refl)) (λ _.
+    search quiet)))
 
 starts_keep : (plan : Plan) (v : Views) (t : ℕ) (h : Helper) (d : DevId) (n : ℤ) → Known plan v
     → Owes plan v t (stage.Control (control.Start (command h d n))) (control_starts plan v (command h d n) t)
@@ -199,23 +193,23 @@ unfolding control_starts
 starts_keep plan v t helper.ScheduleSuspend d n k = schedules_keep plan v t (command helper.ScheduleSuspend d n) d (nat_abs n) k
 starts_keep plan v t helper.Enable d n k = enabling_keeps plan v t d n k
 starts_keep plan v t helper.Disable d n k = disable_starts_keep plan v t d n k
-starts_keep plan v t helper.Barrier d n k = took_stages d why.Control k tt refl (λ _. (refl, refl)) (λ _. omega arith)
+starts_keep plan v t helper.Barrier d n k = took_stages d why.Control k tt tt (λ _. (refl, refl)) (λ _. omega arith)
 starts_keep plan v t helper.SetActive d n k = active_starts_keep plan v t d n k
 starts_keep plan v t helper.SetSuspended d n k = suspended_starts_keep plan v t d n k
 starts_keep plan v t helper.Allow d n k = allowing_keeps plan v t d n k
 starts_keep plan v t helper.Forbid d n k = forbidding_keeps plan v t d n k
-starts_keep plan v t helper.MarkLastBusy d n k = search (quiet, last_busy_calm)
+starts_keep plan v t helper.MarkLastBusy d n k = search quiet
 starts_keep plan v t helper.UseAutosuspend d n k = sets_keep plan v t (command helper.UseAutosuspend d n) helper.UseAutosuspend d true (device v d).delay k
 starts_keep plan v t helper.DontUseAutosuspend d n k = sets_keep plan v t (command helper.DontUseAutosuspend d n) helper.DontUseAutosuspend d false (device v d).delay k
 starts_keep plan v t helper.SetAutosuspendDelay d n k = sets_keep plan v t (command helper.SetAutosuspendDelay d n) helper.SetAutosuspendDelay d (device v d).use_auto n k
-starts_keep plan v t helper.IgnoreChildren d n k = search (quiet, ignores_calm)
+starts_keep plan v t helper.IgnoreChildren d n k = search quiet
 starts_keep plan v t helper.LinkAdd d n k = link_adds_keep plan v t (command helper.LinkAdd d n) d (record { 0 = nat_abs n }) k
 starts_keep plan v t helper.LinkDel d n k = link_dels_keep plan v t (command helper.LinkDel d n) d (record { 0 = nat_abs n }) k
 starts_keep plan v t _ d n k = search quiet
 
 pub control_keeps : (plan : Plan) (v : Views) (t : ℕ) (s : ControlStage) → Known plan v → Owes plan v t (stage.Control s) (control_row plan v s t)
 control_keeps plan v t (control.Start c) k = starts_keep plan v t c.helper c.dev c.number k
-control_keeps plan v t (control.DisableGiven d) k = gave_stages d why.Control k tt refl (λ _. (refl, refl)) (λ _. omega arith)
+control_keeps plan v t (control.DisableGiven d) k = gave_stages d why.Control k tt tt (λ _. (refl, refl)) (λ _. omega arith)
 control_keeps plan v t (control.Disable d) k = disabling_keeps plan v t d k
 control_keeps plan v t (control.Disabled d) k = disable_ends_keep plan v t d k
 control_keeps plan v t (control.BarrierResume d) k = barrier_resumes_keep plan v t d k

@@ -11,10 +11,13 @@ use Rattle.pm_base.specs.declared.Why.TheVariants as why
 use Rattle.pm_model.specs.declared.event.Event.TheVariants as event
 use Rattle.pm_model.specs.declared.event.Word.TheVariants as word
 use Rattle.pm_model.specs.declared.plan.Plan.{Plan}
+use Rattle.pm_model.specs.declared.stage.Change.{Change}
+use Rattle.pm_model.specs.declared.stage.Change.TheVariants as change
 use Rattle.pm_model.specs.declared.stage.Stage.{Stage}
 use Rattle.pm_model.specs.declared.stage.Then.{Then}
 use Rattle.pm_model.specs.declared.views.Device.{Device}
-use Rattle.pm_model.specs.Changes.{set_held, set_setting, same, disarm}
+use Rattle.pm_model.specs.Changes.{set_held, set_setting, disarm}
+use Rattle.pm_model.specs.ChangeViews.{change_views}
 use Rattle.pm_model.specs.Counted.{is_same, is_caller, gives}
 use Rattle.pm_model.specs.Derived.{prevented, is_moving}
 use Rattle.pm_model.specs.Events.{by_event, got, gave, set_usage, set_share, set_auto, set_status, set_error, frees_links, held_from}
@@ -22,13 +25,12 @@ use Rattle.pm_model.specs.Row.{writes}
 use Rattle.pm_model.specs.Views.{Views, fresh_device, device, with_device}
 use Rattle.pm_sums.specs.Sums.{one, weigh}
 use Rattle.pm_laws.specs.Counts.{holds, owed, told, lent}
-use Rattle.pm_laws.specs.Sizes.{HasEntries}
-use Rattle.pm_laws.proofs.Accounts.{usage_of}
 use Rattle.pm_laws.proofs.Links.{both, has_pair, lent_taken, lent_given, lent_loosed, held_of, distinct_links}
+use Rattle.pm_laws.proofs.Named.{IsCalm, beside, change_calm}
 use Rattle.pm_laws.proofs.Owning.{unturned, same_is, stays_still, Owns, OwnsNext, none}
 use Rattle.pm_laws.proofs.Places.{shown}
 use Rattle.pm_laws.proofs.Rows.{Known, Counting, Keeps, Owes, SameOwners, SameHolds}
-use Rattle.pm_laws.proofs.Seen.{seen, Untouched, untouched_seen, aside_of, device_calm, status_of, Account, account_seen, held_seen, status_seen, entries_seen}
+use Rattle.pm_laws.proofs.Seen.{seen, usage_of, Account, account_seen, held_seen}
 use Rattle.pm_laws.proofs.Turns.{within_set, entry_is, entry_kept, freed_kept}
 
 -- a number in one entry rises or falls by one
@@ -203,21 +205,6 @@ pub counts_true : (b : Bool) → one (b && true) ≡ one b
 counts_true true = refl
 counts_true false = refl
 
--- what the changes beside the event leave: the entries, the statuses, the usages and what no such change touches
-record Beside (plan : Plan) (v v' : Views) : Type 0 where
-  entries : HasEntries plan v'
-  still : (d : DevId) → status_of (device v' d) ≡ status_of (device v d)
-  usages : (d : DevId) → usage_of (device v' d) ≡ usage_of (device v d)
-  untouched : Untouched v v'
-
-beside_seen : (plan : Plan) (v v' : Views) → Known plan v → seen v' ≡ seen v → Beside plan v v'
-beside_seen plan v v' k c = record {
-  entries = entries_seen plan v v' c k.entries;
-  still = λ d. status_seen v v' d c;
-  usages = λ d. ap (λ (z : Account). z.usage) (account_seen v v' d c);
-  untouched = untouched_seen v v' c;
-}
-
 owed_seen : (plan : Plan) (v v' : Views) (d : DevId) → seen v' ≡ seen v → owed plan v' d ≡ owed plan v d
 owed_seen plan v v' d c =
     let told_same : told (device v' d) ≡ told (device v d) = ap (λ (z : Account). z.told) (account_seen v v' d c) in
@@ -225,29 +212,27 @@ owed_seen plan v v' d c =
     omega arith
 
 -- a row that takes a count
-took : {plan : Plan} {v : Views} {t : ℕ} {s : Stage} {changes : Views → Views} {next : Then} (e : DevId) (w : Why) → Beside plan v (changes v)
-    → SameOwners s next
-    → ((d : DevId) → d.0 < length (changes v).devices → owed plan (by_event plan t (event.Get e w) (changes v)) d + weigh (holds plan d) (shown next) ≡ owed plan v d + (holds plan d s + one (is_same d e)))
-    → Owes plan v t s (writes (event.Get e w) changes next)
+took : {plan : Plan} {v : Views} {t : ℕ} {s : Stage} {c : Change} {next : Then} (e : DevId) (w : Why) → Known plan v → SameOwners s next
+    → ((d : DevId) → d.0 < length (change_views plan t c v).devices → owed plan (by_event plan t (event.Get e w) (change_views plan t c v)) d + weigh (holds plan d) (shown next) ≡ owed plan v d + (holds plan d s + one (is_same d e)))
+    → Owes plan v t s (writes (event.Get e w) c next)
 unfolding by_event
-took {plan} {v} {t} {s} {changes} {next} e w c a owes =
-    let now = got plan e w (set_usage ((device (changes v) e).usage + 1) e (changes v)) in
+took {plan} {v} {t} {s} {c} {next} e w k a owes =
+    let v' = change_views plan t c v in
+    let b = beside plan t c v k.entries in
+    let now = got plan e w (set_usage ((device v' e).usage + 1) e v') in
     let counting : Counting plan v now s (event.Get e w) next = record {
       adds = λ d x within was.
-          let here : d.0 < length (changes v).devices = omega (arith, c.entries.devices) in
-          let u = got_usage plan e d w (changes v) here in
-          omega (arith, owes d here, c.usages d);
+          let here : d.0 < length v'.devices = omega (arith, b.entries.devices) in
+          let u = got_usage plan e d w v' here in
+          omega (arith, owes d here, b.usages d);
       moves = λ d x within was.
-          let here : d.0 < length (changes v).devices = omega (arith, c.entries.devices) in
-          let u = got_usage plan e d w (changes v) here in
-          omega (arith, counts_true (is_same d e), c.usages d);
+          let here : d.0 < length v'.devices = omega (arith, b.entries.devices) in
+          let u = got_usage plan e d w v' here in
+          omega (arith, counts_true (is_same d e), b.usages d);
     } in
-    let kept : Keeps plan v t s (event.Get e w) changes next = record {
-      entries = c.entries;
-      still = c.still;
+    let kept : Keeps plan v t s (event.Get e w) c next = record {
       owning = unturned (λ _. refl) a;
       counting = counting;
-      untouched = c.untouched;
       spends = λ d g. absurd (false≢true g);
       switching = λ _. refl;
     } in
@@ -265,84 +250,77 @@ stages_spend why.Caller is = elim is [ ]
 stages_spend _ is = refl
 
 -- a row that gives one back
-gave_back : {plan : Plan} {v : Views} {t : ℕ} {s : Stage} {changes : Views → Views} {next : Then} (e : DevId) (w : Why) → Beside plan v (changes v)
-    → Spends v e w → SameOwners s next
-    → ((d : DevId) → d.0 < length (changes v).devices → owed plan (by_event plan t (event.Put e w) (changes v)) d + (weigh (holds plan d) (shown next) + one (is_same d e)) ≡ owed plan v d + holds plan d s)
-    → Owes plan v t s (writes (event.Put e w) changes next)
+gave_back : {plan : Plan} {v : Views} {t : ℕ} {s : Stage} {c : Change} {next : Then} (e : DevId) (w : Why) → Known plan v → Spends v e w
+    → SameOwners s next
+    → ((d : DevId) → d.0 < length (change_views plan t c v).devices → owed plan (by_event plan t (event.Put e w) (change_views plan t c v)) d + (weigh (holds plan d) (shown next) + one (is_same d e)) ≡ owed plan v d + holds plan d s)
+    → Owes plan v t s (writes (event.Put e w) c next)
 unfolding by_event
-gave_back {plan} {v} {t} {s} {changes} {next} e w c spends a owes =
-    let now = gave plan e w (set_usage ((device (changes v) e).usage - 1) e (changes v)) in
+gave_back {plan} {v} {t} {s} {c} {next} e w k spends a owes =
+    let v' = change_views plan t c v in
+    let b = beside plan t c v k.entries in
+    let now = gave plan e w (set_usage ((device v' e).usage - 1) e v') in
     let fell : (d : DevId) (x : ℕ) → d.0 < length plan.devices → (device v d).usage ≡ owed plan v d + (holds plan d s + x) → usage_of (device now d) + one (is_same d e) ≡ (device v d).usage =
     λ d x within was.
-    let here : d.0 < length (changes v).devices = omega (arith, c.entries.devices) in
-    let some : one (is_same d e) ≤ usage_of (device (changes v) d) = omega (arith, owes d here, c.usages d) in
-    gave_usage plan e d w (changes v) here some ∙ c.usages d
+    let here : d.0 < length v'.devices = omega (arith, b.entries.devices) in
+    let some : one (is_same d e) ≤ usage_of (device v' d) = omega (arith, owes d here, b.usages d) in
+    gave_usage plan e d w v' here some ∙ b.usages d
     in
     let counting : Counting plan v now s (event.Put e w) next = record {
       adds = λ d x within was.
-          let here : d.0 < length (changes v).devices = omega (arith, c.entries.devices) in
+          let here : d.0 < length v'.devices = omega (arith, b.entries.devices) in
           omega (arith, owes d here, fell d x within was);
       moves = λ d x within was. omega (arith, counts_true (is_same d e), fell d x within was);
     } in
-    let kept : Keeps plan v t s (event.Put e w) changes next = record {
-      entries = c.entries;
-      still = c.still;
+    let kept : Keeps plan v t s (event.Put e w) c next = record {
       owning = unturned (λ _. refl) a;
       counting = counting;
-      untouched = c.untouched;
       spends = spends;
       switching = λ _. refl;
     } in
     record { paid = kept }
 
 -- the count is the stage's, a caller's, forbid's or a link's
-pub took_stages : {plan : Plan} {v : Views} {t : ℕ} {s : Stage} {changes : Views → Views} {next : Then} (e : DevId) (w : Why) → Known plan v
-    → IsStages w → seen (changes v) ≡ seen v → SameOwners s next
-    → ((d : DevId) → weigh (holds plan d) (shown next) ≡ holds plan d s + one (is_same d e)) → Owes plan v t s (writes (event.Get e w) changes next)
-took_stages {plan} {v} {t} {changes} e w k is c o h = took e w (beside_seen plan v (changes v) k c) o (λ d within. let told_now = owed_stages_got plan (changes v) t e w d is in omega (arith, h d, owed_seen plan v (changes v) d c))
+pub took_stages : {plan : Plan} {v : Views} {t : ℕ} {s : Stage} {c : Change} {next : Then} (e : DevId) (w : Why) → Known plan v
+    → IsStages w → IsCalm v c → SameOwners s next
+    → ((d : DevId) → weigh (holds plan d) (shown next) ≡ holds plan d s + one (is_same d e)) → Owes plan v t s (writes (event.Get e w) c next)
+took_stages {plan} {v} {t} {s} {c} e w k is calm o h =
+    let v' = change_views plan t c v in
+    took e w k o (λ d within. let told_now = owed_stages_got plan v' t e w d is in omega (arith, h d, owed_seen plan v v' d (change_calm plan t c v k.entries calm)))
 
-pub gave_stages : {plan : Plan} {v : Views} {t : ℕ} {s : Stage} {changes : Views → Views} {next : Then} (e : DevId) (w : Why) → Known plan v
-    → IsStages w → seen (changes v) ≡ seen v → SameOwners s next
-    → ((d : DevId) → weigh (holds plan d) (shown next) + one (is_same d e) ≡ holds plan d s) → Owes plan v t s (writes (event.Put e w) changes next)
-gave_stages {plan} {v} {t} {changes} e w k is c o h = gave_back e w (beside_seen plan v (changes v) k c) (no_caller v e w (stages_spend w is)) o (λ d within. let told_now = owed_stages_gave plan (changes v) t e w d is in omega (arith, h d, owed_seen plan v (changes v) d c))
+pub gave_stages : {plan : Plan} {v : Views} {t : ℕ} {s : Stage} {c : Change} {next : Then} (e : DevId) (w : Why) → Known plan v
+    → IsStages w → IsCalm v c → SameOwners s next
+    → ((d : DevId) → weigh (holds plan d) (shown next) + one (is_same d e) ≡ holds plan d s) → Owes plan v t s (writes (event.Put e w) c next)
+gave_stages {plan} {v} {t} {s} {c} e w k is calm o h =
+    let v' = change_views plan t c v in
+    gave_back e w k (no_caller v e w (stages_spend w is)) o (λ d within. let told_now = owed_stages_gave plan v' t e w d is in omega (arith, h d, owed_seen plan v v' d (change_calm plan t c v k.entries calm)))
 
 pub took_share : {plan : Plan} {v : Views} {t : ℕ} {s : Stage} {next : Then} (e : DevId) → Known plan v → SameOwners s next → SameHolds plan s next
-    → Owes plan v t s (writes (event.Get e why.Caller) same next)
-took_share {plan} {v} {t} e k o h = took e why.Caller (beside_seen plan v v k refl) o (λ d within. let told_now = owed_share_got plan v t e d within in omega (arith, h d))
+    → Owes plan v t s (writes (event.Get e why.Caller) change.Same next)
+took_share {plan} {v} {t} e k o h = took e why.Caller k o (λ d within. let told_now = owed_share_got plan v t e d within in omega (arith, h d))
 
 pub gave_share : {plan : Plan} {v : Views} {t : ℕ} {s : Stage} {next : Then} (e : DevId) → Known plan v → nat_eq (device v e).share 0 ≡ false
-    → SameOwners s next → SameHolds plan s next → Owes plan v t s (writes (event.Put e why.Caller) same next)
-gave_share {plan} {v} {t} e k some o h = gave_back e why.Caller (beside_seen plan v v k refl) (λ d g. ap (λ z. nat_eq (device v z).share 0) (sym (same_is d e (both (is_same d e) true g).0)) ∙ some) o (λ d within. let told_now = owed_share_gave plan v t e d within some in omega (arith, h d))
+    → SameOwners s next → SameHolds plan s next → Owes plan v t s (writes (event.Put e why.Caller) change.Same next)
+gave_share {plan} {v} {t} e k some o h = gave_back e why.Caller k (λ d g. ap (λ z. nat_eq (device v z).share 0) (sym (same_is d e (both (is_same d e) true g).0)) ∙ some) o (λ d within. let told_now = owed_share_gave plan v t e d within some in omega (arith, h d))
 
 pub took_forbid : {plan : Plan} {v : Views} {t : ℕ} {s : Stage} {next : Then} (e : DevId) → Known plan v → (device v e).auto_on ≡ true
-    → SameOwners s next → SameHolds plan s next → Owes plan v t s (writes (event.Get e why.Forbid) same next)
-took_forbid {plan} {v} {t} e k on o h = took e why.Forbid (beside_seen plan v v k refl) o (λ d within. let told_now = owed_forbid_got plan v t e d within on in omega (arith, h d))
+    → SameOwners s next → SameHolds plan s next → Owes plan v t s (writes (event.Get e why.Forbid) change.Same next)
+took_forbid {plan} {v} {t} e k on o h = took e why.Forbid k o (λ d within. let told_now = owed_forbid_got plan v t e d within on in omega (arith, h d))
 
 pub gave_forbid : {plan : Plan} {v : Views} {t : ℕ} {s : Stage} {next : Then} (e : DevId) → Known plan v → (device v e).auto_on ≡ false
-    → SameOwners s next → SameHolds plan s next → Owes plan v t s (writes (event.Put e why.Forbid) same next)
-gave_forbid {plan} {v} {t} e k off o h = gave_back e why.Forbid (beside_seen plan v v k refl) (no_caller v e why.Forbid refl) o (λ d within. let told_now = owed_forbid_gave plan v t e d within off in omega (arith, h d))
+    → SameOwners s next → SameHolds plan s next → Owes plan v t s (writes (event.Put e why.Forbid) change.Same next)
+gave_forbid {plan} {v} {t} e k off o h = gave_back e why.Forbid k (no_caller v e why.Forbid refl) o (λ d within. let told_now = owed_forbid_gave plan v t e d within off in omega (arith, h d))
 
 pub took_link : {plan : Plan} {v : Views} {t : ℕ} {s : Stage} {next : Then} (c e : DevId) → Known plan v → has_pair c e false plan.links v.held ≡ true
-    → SameOwners s next → SameHolds plan s next → Owes plan v t s (writes (event.Get e (why.Link c)) same next)
-took_link {plan} {v} {t} c e k has o h = took e (why.Link c) (beside_seen plan v v k refl) o (λ d within. let told_now = owed_link_got plan v t c e d has in omega (arith, h d))
+    → SameOwners s next → SameHolds plan s next → Owes plan v t s (writes (event.Get e (why.Link c)) change.Same next)
+took_link {plan} {v} {t} c e k has o h = took e (why.Link c) k o (λ d within. let told_now = owed_link_got plan v t c e d has in omega (arith, h d))
 
-pub gave_link : {plan : Plan} {v : Views} {t : ℕ} {s : Stage} {changes : Views → Views} {next : Then} (c e : DevId) → Known plan v
-    → seen (changes v) ≡ seen v → has_pair c e true plan.links v.held ≡ true → SameOwners s next → SameHolds plan s next
-    → Owes plan v t s (writes (event.Put e (why.Link c)) changes next)
-gave_link {plan} {v} {t} {changes} c e k calm has o h = gave_back e (why.Link c) (beside_seen plan v (changes v) k calm) (no_caller v e (why.Link c) refl) o (λ d within. let told_now = owed_link_gave plan (changes v) t c e d (ap (has_pair c e true plan.links) (held_seen v (changes v) calm) ∙ has) in omega (arith, h d, owed_seen plan v (changes v) d calm))
-
--- the setting changes: the usage stays, and what is told of it goes by whether suspends are prevented before and after
-beside_setting : (plan : Plan) (v : Views) (u : Bool) (n : ℤ) (e : DevId) → Known plan v → Beside plan v (set_setting u n e v)
-beside_setting plan v u n e k = record {
-  entries = record { devices = length-set v.devices e.0 _ ∙ k.entries.devices; pending = k.entries.pending; timers = k.entries.timers; on = k.entries.on; held = k.entries.held; present = k.entries.present };
-  still = λ d. entry_kept status_of v e d _ refl;
-  usages = λ d. entry_kept usage_of v e d _ refl;
-  untouched = record { asides = λ d. entry_kept aside_of v e d _ refl; held = refl; domains = refl };
-}
-
-pub setting_calm : (u : Bool) (n : ℤ) (e : DevId) (v : Views) → prevented (device v e).use_auto (device v e).delay ≡ prevented u n
-    → seen (set_setting u n e v) ≡ seen v
-setting_calm u n e v same = device_calm v e _ refl (rw same refl) refl
+pub gave_link : {plan : Plan} {v : Views} {t : ℕ} {s : Stage} {x : Change} {next : Then} (c e : DevId) → Known plan v
+    → IsCalm v x → has_pair c e true plan.links v.held ≡ true → SameOwners s next → SameHolds plan s next
+    → Owes plan v t s (writes (event.Put e (why.Link c)) x next)
+gave_link {plan} {v} {t} {s} {x} c e k calm has o h =
+    let v' = change_views plan t x v in
+    let same = change_calm plan t x v k.entries calm in
+    gave_back e (why.Link c) k (no_caller v e (why.Link c) refl) o (λ d within. let told_now = owed_link_gave plan v' t c e d (ap (has_pair c e true plan.links) (held_seen v v' same) ∙ has) in omega (arith, h d, owed_seen plan v v' d same))
 
 prevented_more : (a : ℕ) (was is : Bool) → not was && is ≡ true → a + one is ≡ a + one was + 1
 prevented_more a true is e = absurd (false≢true e)
@@ -356,20 +334,20 @@ prevented_less a true false e = omega arith
 
 pub took_delay : {plan : Plan} {v : Views} {t : ℕ} {s : Stage} {next : Then} (e : DevId) (u : Bool) (n : ℤ) → Known plan v
     → not (prevented (device v e).use_auto (device v e).delay) && prevented u n ≡ true → SameOwners s next → SameHolds plan s next
-    → Owes plan v t s (writes (event.Get e why.Delay) (set_setting u n e) next)
+    → Owes plan v t s (writes (event.Get e why.Delay) (change.Set e u n) next)
 took_delay {plan} {v} {t} e u n k more o h =
-    took e why.Delay (beside_setting plan v u n e k) o (λ d within.
-    let here : d.0 < length v.devices = omega (arith, k.entries.devices, (beside_setting plan v u n e k).entries.devices) in
+    took e why.Delay k o (λ d within.
+    let here : d.0 < length v.devices = omega (arith, k.entries.devices, (beside plan t (change.Set e u n) v k.entries).entries.devices) in
     let told_now = owed_delay_got plan (set_setting u n e v) t e d in
     let p = owed_parts plan v (set_setting u n e v) d (one (is_same d e)) (raised told v e d _ here (λ _. prevented_more _ _ _ more)) refl in
     omega (arith, h d))
 
 pub gave_delay : {plan : Plan} {v : Views} {t : ℕ} {s : Stage} {next : Then} (e : DevId) (u : Bool) (n : ℤ) → Known plan v
     → prevented (device v e).use_auto (device v e).delay && not (prevented u n) ≡ true → SameOwners s next → SameHolds plan s next
-    → Owes plan v t s (writes (event.Put e why.Delay) (set_setting u n e) next)
+    → Owes plan v t s (writes (event.Put e why.Delay) (change.Set e u n) next)
 gave_delay {plan} {v} {t} e u n k less o h =
-    gave_back e why.Delay (beside_setting plan v u n e k) (no_caller v e why.Delay refl) o (λ d within.
-    let here : d.0 < length v.devices = omega (arith, k.entries.devices, (beside_setting plan v u n e k).entries.devices) in
+    gave_back e why.Delay k (no_caller v e why.Delay refl) o (λ d within.
+    let here : d.0 < length v.devices = omega (arith, k.entries.devices, (beside plan t (change.Set e u n) v k.entries).entries.devices) in
     let told_now = owed_delay_gave plan (set_setting u n e v) t e d in
     let p = owed_parts_less plan v (set_setting u n e v) d (one (is_same d e)) (lowered told v e d _ here (λ _. prevented_less _ _ _ less)) refl in
     omega (arith, h d))
@@ -386,7 +364,7 @@ freed_usage plan e d v within =
     ∙ ap (λ (p : ℕ × Device). p.1.usage - held_from plan v.held e p.0) (get_or-enumerate_from 0 v.devices d.0 (0, fresh_device) within) ∙ ap (λ n. usage_of (device v d) - held_from plan v.held e n) (omega arith)
 
 pub forced : {plan : Plan} {v : Views} {t : ℕ} {s : Stage} {next : Then} (e : DevId) → Known plan v → is_moving v e ≡ false → Owns s none none
-    → OwnsNext next none none → SameHolds plan s next → Owes plan v t s (writes (event.State e word.ForcedSuspended) same next)
+    → OwnsNext next none none → SameHolds plan s next → Owes plan v t s (writes (event.State e word.ForcedSuspended) change.Same next)
 unfolding by_event frees_links
 forced {plan} {v} {t} {s} {next} e k still o o' h =
     let between = forced_views e v in
@@ -404,12 +382,9 @@ forced {plan} {v} {t} {s} {next} e k still o o' h =
           let u = freed_usage plan e d between (here d within) in
           omega (arith, told_kept d, usage_kept d, h d);
     } in
-    let kept : Keeps plan v t s (event.State e word.ForcedSuspended) same next = record {
-      entries = k.entries;
-      still = λ _. refl;
+    let kept : Keeps plan v t s (event.State e word.ForcedSuspended) change.Same next = record {
       owning = stays_still e status.Suspended still refl (λ _. refl) o o';
       counting = counting;
-      untouched = record { asides = λ _. refl; held = refl; domains = refl };
       spends = λ d g. absurd (false≢true g);
       switching = λ _. refl;
     } in

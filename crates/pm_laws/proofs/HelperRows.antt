@@ -9,11 +9,11 @@ use Rattle.pm_model.specs.declared.event.Helper.{Helper}
 use Rattle.pm_model.specs.declared.event.Helper.TheVariants as helper
 use Rattle.pm_model.specs.declared.event.WorkAct.TheVariants.{Run}
 use Rattle.pm_model.specs.declared.plan.Plan.{Plan}
+use Rattle.pm_model.specs.declared.stage.Change.TheVariants as change
 use Rattle.pm_model.specs.declared.stage.HelperStage.{HelperStage}
 use Rattle.pm_model.specs.declared.stage.HelperStage.TheVariants as at
 use Rattle.pm_model.specs.declared.stage.Stage.TheVariants as stage
 use Rattle.pm_model.specs.declared.stage.Then.{Then}
-use Rattle.pm_model.specs.Changes.{same}
 use Rattle.pm_model.specs.Derived.{is_active, is_disabled, is_in_use}
 use Rattle.pm_model.specs.HelperTable.{begins, gets_if, puts, helper_starts, put_suspends, carries_out, timer_fires, helper_row}
 use Rattle.pm_model.specs.Row.{writes}
@@ -28,12 +28,12 @@ abbrev pub command : Helper → DevId → ℤ → Command
 command h d n = record { helper = h; dev = d; number = n }
 
 calls_keep : (plan : Plan) (v : Views) (t : ℕ) (h : Helper) (d : DevId) (n : ℤ) → Known plan v
-    → Owes plan v t (stage.Helper (at.Call (command h d n))) (writes (event.Call (command h d n)) same (begins (command h d n) t))
+    → Owes plan v t (stage.Helper (at.Call (command h d n))) (writes (event.Call (command h d n)) change.Same (begins (command h d n) t))
 calls_keep plan v t helper.Resume d n k = search quiet
 calls_keep plan v t _ d n k = search quiet
 
 works_keep : (plan : Plan) (v : Views) (t : ℕ) (d : DevId) (r : Req) → Known plan v
-    → Owes plan v t (stage.Helper (at.Work d)) (writes (event.Work d (Run r)) same (carries_out d r))
+    → Owes plan v t (stage.Helper (at.Work d)) (writes (event.Work d (Run r)) change.Same (carries_out d r))
 works_keep plan v t d req.Nothing k = search quiet
 works_keep plan v t d _ k = search quiet
 

@@ -14,7 +14,6 @@ use Rattle.pm_model.specs.Row.{back}
 use Rattle.pm_model.specs.Views.{Views, device, pending_of}
 use Rattle.pm_laws.proofs.Accounts.{quiet}
 use Rattle.pm_laws.proofs.Rows.{Known, Owes, SameOwners, SameHolds, either, either_next}
-use Rattle.pm_laws.proofs.Seen.{pending_calm, marks_calm}
 
 verdict_keeps : (plan : Plan) (v : Views) (t : ℕ) (d : DevId) (f : ℕ) → Known plan v
     → Owes plan v t (stage.Idle (idle.Verdict d f)) (idle_verdict plan v d f t)
@@ -24,14 +23,14 @@ verdict_keeps plan v t d f k =
     either (not (is_active v d)) (λ _. search quiet) (λ _.
     either (is_above_idle (pending_of v d).request) (λ _. search quiet) (λ _.
     either (device v d).idle_running (λ _. search quiet) (λ _.
-    either (not (has_idle plan d)) (λ _. search (quiet, pending_calm)) (λ _.
+    either (not (has_idle plan d)) (λ _. search quiet) (λ _.
     either (has f ASYNC) (λ _. search quiet) (λ _.
-    search (quiet, pending_calm)))))))
+    search quiet))))))
 
 ends_keeps : (plan : Plan) (v : Views) (t : ℕ) (d : DevId) (f since : ℕ) → Known plan v
     → Owes plan v t (stage.Idle (idle.Running d f since)) (idle_ends plan v d f t)
 unfolding idle_ends
-ends_keeps plan v t d f since k = search (quiet, marks_calm)
+ends_keeps plan v t d f since k = search quiet
 
 given_keeps : (plan : Plan) (v : Views) (t : ℕ) (d : DevId) (f : ℕ) → Known plan v → Owes plan v t (stage.Idle (idle.Given d f)) (given plan v d f)
 unfolding given
@@ -41,7 +40,7 @@ done_keeps : (plan : Plan) (v : Views) (t : ℕ) (d : DevId) (f : ℕ) (c : ℤ)
     → Owes plan v t (stage.Idle (idle.Done d f c)) (idle_row plan v (idle.Done d f c) t)
 done_keeps plan v t d f c k =
     let s = stage.Idle (idle.Done d f c) in
-    quiet k tt refl (either_next (SameOwners s) (int_eq c (pos 0)) (then_suspends d f) (back c) (λ _. (refl, refl)) (λ _. (refl, refl)))
+    quiet k tt tt (either_next (SameOwners s) (int_eq c (pos 0)) (then_suspends d f) (back c) (λ _. (refl, refl)) (λ _. (refl, refl)))
     (either_next (SameHolds plan s) (int_eq c (pos 0)) (then_suspends d f) (back c) (λ _. refl) (λ _. refl))
 
 pub idle_keeps : (plan : Plan) (v : Views) (t : ℕ) (s : IdleStage) → Known plan v → Owes plan v t (stage.Idle s) (idle_row plan v s t)

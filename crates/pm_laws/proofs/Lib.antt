@@ -1,5 +1,6 @@
 pub mod Seen
 pub mod Turns
+pub mod Named
 pub mod Places
 pub mod Rows
 pub mod Owning

@@ -5,8 +5,10 @@ use Rattle.pm_base.specs.declared.DevId.{DevId}
 use Rattle.pm_base.specs.declared.Status.{Status}
 use Rattle.pm_model.specs.declared.event.Event.{Event}
 use Rattle.pm_model.specs.declared.plan.Plan.{Plan}
+use Rattle.pm_model.specs.declared.stage.Change.{Change}
 use Rattle.pm_model.specs.declared.stage.Stage.{Stage}
 use Rattle.pm_model.specs.declared.stage.Then.{Then}
+use Rattle.pm_model.specs.ChangeViews.{change_views}
 use Rattle.pm_model.specs.Counted.{says_status, says_on, takes, gives, frees, is_caller}
 use Rattle.pm_model.specs.Derived.{is_suspending_status, is_resuming_status, is_suspending, is_resuming, is_moving}
 use Rattle.pm_model.specs.Events.{by_event}
@@ -18,7 +20,6 @@ use Rattle.pm_laws.specs.Owners.{owns_suspend, owns_resume}
 use Rattle.pm_laws.specs.Counts.{holds, owed}
 use Rattle.pm_laws.specs.Sizes.{HasEntries}
 use Rattle.pm_laws.proofs.Places.{shown}
-use Rattle.pm_laws.proofs.Seen.{Untouched}
 
 -- Suspending or Resuming
 abbrev pub is_moving_status : Status → Bool
@@ -56,18 +57,15 @@ pub record Counting (plan : Plan) (v after : Views) (s : Stage) (e : Event) (nex
       → (device after d).usage + (one (gives (λ w. true) d e) + frees plan v d e) ≡ (device v d).usage + one (takes (λ w. true) d e)
 
 -- what a row that writes an event owes. A caller's put finds a share, and a pm_domain line switches the domains that it
--- would switch before the changes that its row names
-pub record Keeps (plan : Plan) (v : Views) (t : ℕ) (s : Stage) (e : Event) (changes : Views → Views) (next : Then) : Type 0 where
-  pub entries : HasEntries plan (changes v)
-  pub still : (d : DevId) → (device (changes v) d).status ≡ (device v d).status
+-- would switch before the change that its row names
+pub record Keeps (plan : Plan) (v : Views) (t : ℕ) (s : Stage) (e : Event) (c : Change) (next : Then) : Type 0 where
   pub owning : Owning plan v s e next
-  pub counting : Counting plan v (by_event plan t e (changes v)) s e next
-  pub untouched : Untouched v (changes v)
+  pub counting : Counting plan v (by_event plan t e (change_views plan t c v)) s e next
   pub spends : (d : DevId) → gives is_caller d e ≡ true → nat_eq (device v d).share 0 ≡ false
-  pub switching : (o : ℕ) → says_on plan (changes v) o e ≡ says_on plan v o e
+  pub switching : (o : ℕ) → says_on plan (change_views plan t c v) o e ≡ says_on plan v o e
 
 abbrev pub KeepsRow : Plan → Views → ℕ → Stage → Row → Type 0
-KeepsRow plan v t s (writes e changes next) = Keeps plan v t s e changes next
+KeepsRow plan v t s (writes e c next) = Keeps plan v t s e c next
 KeepsRow plan v t s (waits d) = Unit {0}
 
 -- what a row owes
@@ -96,10 +94,7 @@ alike {plan} {v} {t} {s} {row} s' a h o = let it : KeepsRow plan v t s row = go 
   where
     go : (row : Row) → KeepsRow plan v t s' row → KeepsRow plan v t s row
     go (waits d) k = tt
-    go (writes e changes next) k = record {
-      entries = k.entries;
-      still = k.still;
-      untouched = k.untouched;
+    go (writes e c next) k = record {
       spends = k.spends;
       switching = k.switching;
       owning = record { one_each = λ d. rw ((a d).0, (a d).1) (k.owning.one_each d); settles = k.owning.settles };

@@ -15,6 +15,7 @@ use Rattle.pm_model.specs.declared.event.Line.{Line}
 use Rattle.pm_model.specs.declared.plan.Plan.{Plan}
 use Rattle.pm_model.specs.declared.rows.DeviceRow.{DeviceRow}
 use Rattle.pm_model.specs.declared.rows.LinkRow.{LinkRow}
+use Rattle.pm_model.specs.declared.stage.Change.{Change}
 use Rattle.pm_model.specs.declared.stage.Await.{Await}
 use Rattle.pm_model.specs.declared.stage.Await.TheVariants as await
 use Rattle.pm_model.specs.declared.stage.Handed.{Handed}
@@ -23,6 +24,7 @@ use Rattle.pm_model.specs.declared.stage.Stage.{Stage}
 use Rattle.pm_model.specs.declared.stage.Stage.TheVariants as stage
 use Rattle.pm_model.specs.declared.stage.Then.{Then}
 use Rattle.pm_model.specs.declared.views.Device.{Device}
+use Rattle.pm_model.specs.ChangeViews.{change_views}
 use Rattle.pm_model.specs.Counted.{says_status}
 use Rattle.pm_model.specs.Derived.{is_moving, is_suspending, is_resuming, is_suspending_status, is_resuming_status}
 use Rattle.pm_model.specs.Events.{by_event}
@@ -41,6 +43,7 @@ use Rattle.pm_laws.proofs.ControlRows.{control_keeps}
 use Rattle.pm_laws.proofs.HelperRows.{helper_keeps}
 use Rattle.pm_laws.proofs.IdleRows.{idle_keeps}
 use Rattle.pm_laws.proofs.Links.{lent_of, lent_cons, one_and_false}
+use Rattle.pm_laws.proofs.Named.{Beside, beside}
 use Rattle.pm_laws.proofs.Places.{tally_joined, shown, IsHanded, IsWeight, IsPlaced, is_placed, tally_placed, then_keeps, stands_weighs, places_kept}
 use Rattle.pm_laws.proofs.ResumeRows.{resume_keeps}
 use Rattle.pm_laws.proofs.Rows.{Known, Keeps, Owes, said, is_moving_status}
@@ -98,22 +101,19 @@ row_keeps plan v t (stage.Control s) r k e = same_row plan v t (stage.Control s)
 row_keeps plan v t (stage.Await s) r k e = cc
 
 -- a line that is permitted is written by its row
-record Written (o : Option Row) (e : Event) (next : Then) : Type 0 where
-  changes : Views → Views
-  is : o ≡ Some (writes e changes next)
-
-written : (due t : ℕ) (o : Option Row) (e : Event) (next : Then) → option_map (timed due t) o ≡ Some (Write e next) → Written o e next
-written due t None e next h = cc
-written due t (Some (waits d)) e next h = go (nat_lt t due) h
+written : (due t : ℕ) (o : Option Row) (e : Event) (c : Change) (next : Then) → option_map (timed due t) o ≡ Some (Write e c next)
+    → o ≡ Some (writes e c next)
+written due t None e c next h = cc
+written due t (Some (waits d)) e c next h = go (nat_lt t due) h
   where
-    go : (b : Bool) → Some (if b then Late due else Wait d) ≡ Some (Write e next) → Written (Some (waits d)) e next
+    go : (b : Bool) → Some (if b then Late due else Wait d) ≡ Some (Write e c next) → Some (waits d) ≡ Some (writes e c next)
     go true h = cc
     go false h = cc
-written due t (Some (writes e' changes next')) e next h = go (nat_lt t due) h
+written due t (Some (writes e' c' next')) e c next h = go (nat_lt t due) h
   where
-    go : (b : Bool) → Some (if b then Late due else Write e' next') ≡ Some (Write e next) → Written (Some (writes e' changes next')) e next
+    go : (b : Bool) → Some (if b then Late due else Write e' c' next') ≡ Some (Write e c next) → Some (writes e' c' next') ≡ Some (writes e c next)
     go true h = cc
-    go false h = let a : e' ≡ e = cc in let b : next' ≡ next = cc in record { changes = changes; is = rw (a, b) refl }
+    go false h = cc
 
 -- what all stages but an actor's top weigh
 pub others : (Stage → ℕ) → World → ActorId → ℕ
@@ -149,9 +149,9 @@ views_moved w v called (Caller c) stack = refl
 views_moved w v called (Work d) stack = refl
 views_moved w v called (Timer d) stack = refl
 
-pub views_after : (plan : Plan) (w : World) (line : Line) (changes : Views → Views) (next : Then)
-    → (after_line plan w line (Some (writes line.event changes next))).views ≡ by_event plan line.time line.event (changes w.views)
-views_after plan w line changes next = views_moved w (by_event plan line.time line.event (changes w.views)) (counts_call line.actor line.event w.called) line.actor (after_then next (drop 1 (place w line.actor)))
+pub views_after : (plan : Plan) (w : World) (line : Line) (c : Change) (next : Then)
+    → (after_line plan w line (Some (writes line.event c next))).views ≡ by_event plan line.time line.event (change_views plan line.time c w.views)
+views_after plan w line c next = views_moved w (by_event plan line.time line.event (change_views plan line.time c w.views)) (counts_call line.actor line.event w.called) line.actor (after_then next (drop 1 (place w line.actor)))
 
 -- the counts on a device but those that an actor's top holds
 pub held_top : (plan : Plan) (w : World) (a : ActorId) (s : Stage) (d : DevId) → Holds plan w → stage_at plan w a ≡ Some s → d.0 < length plan.devices
@@ -176,26 +176,29 @@ pub status_is : (plan : Plan) (t : ℕ) (e : Event) (v v' : Views) (d : DevId) �
 status_is plan t e v v' d within still = status_after plan t e v' d within ∙ ap (λ x. unwrap_or (says_status d e) x) still
 
 -- the parts after a line whose row has paid
-step : (plan : Plan) (w : World) (line : Line) (s : Stage) (changes : Views → Views) (next : Then) → Holds plan w
-    → stage_at plan w line.actor ≡ Some s → Keeps plan w.views line.time s line.event changes next
-    → Holds plan (after_line plan w line (Some (writes line.event changes next)))
-step plan w line s changes next h stands k =
+step : (plan : Plan) (w : World) (line : Line) (s : Stage) (c : Change) (next : Then) → Holds plan w
+    → stage_at plan w line.actor ≡ Some s → Keeps plan w.views line.time s line.event c next
+    → Holds plan (after_line plan w line (Some (writes line.event c next)))
+step plan w line s c next h stands k =
     record { entries = entries_now; places = places_now; settled = settled_now; owners = owners_now; counts = counts_now }
   where
     v : Views
     v = w.views
 
+    named : Beside plan w.views (change_views plan line.time c w.views)
+    named = beside plan line.time c w.views h.entries
+
     after : Views
-    after = by_event plan line.time line.event (changes w.views)
+    after = by_event plan line.time line.event (change_views plan line.time c w.views)
 
     stack : List Stage
     stack = after_then next (drop 1 (place w line.actor))
 
     now : World
-    now = after_line plan w line (Some (writes line.event changes next))
+    now = after_line plan w line (Some (writes line.event c next))
 
     views_are : now.views ≡ after
-    views_are = views_after plan w line changes next
+    views_are = views_after plan w line c next
 
     places_are : places now ≡ places (with_place w line.actor stack)
     places_are = places_moved w after (counts_call line.actor line.event w.called) line.actor stack
@@ -204,7 +207,7 @@ step plan w line s changes next h stands k =
     placed = is_placed plan w line.actor s h.entries h.places stands
 
     entries_after_line : HasEntries plan after
-    entries_after_line = entries_after plan line.time line.event (changes w.views) k.entries
+    entries_after_line = entries_after plan line.time line.event (change_views plan line.time c w.views) named.entries
 
     entries_now : HasEntries plan now.views
     entries_now = subst (HasEntries plan) (sym views_are) entries_after_line
@@ -213,7 +216,7 @@ step plan w line s changes next h stands k =
     places_now = places_kept plan (record w { views = after; called = counts_call line.actor line.event w.called }) line.actor stack (record { callers = h.places.callers; works = h.places.works; timers = h.places.timers })
 
     status_now : (d : DevId) → d.0 < length plan.devices → (device after d).status ≡ said line.event w.views d
-    status_now d within = status_is plan line.time line.event w.views (changes w.views) d (omega (arith, k.entries.devices)) (k.still d)
+    status_now d within = status_is plan line.time line.event w.views (change_views plan line.time c w.views) d (omega (arith, named.entries.devices)) (named.still d)
 
     settled_after : (d : DevId) → no_callbacks plan d ≡ true → is_moving after d ≡ false
     settled_after d none = ap is_moving_status (status_now d (quiet_within plan d none)) ∙ k.owning.settles d none (h.settled d none)
@@ -294,23 +297,25 @@ start_holds plan = record {
 pub record Paid (plan : Plan) (w : World) (line : Line) : Type 0 where
   pub stage : Stage
   pub stands : stage_at plan w line.actor ≡ Some stage
-  pub changes : Views → Views
+  pub change : Change
   pub next : Then
-  pub leads : row_at plan w line.actor line.time ≡ Some (writes line.event changes next)
-  pub keeps : Keeps plan w.views line.time stage line.event changes next
+  pub leads : row_at plan w line.actor line.time ≡ Some (writes line.event change next)
+  pub beside : Beside plan w.views (change_views plan line.time change w.views)
+  pub keeps : Keeps plan w.views line.time stage line.event change next
 
 pub permitted : (plan : Plan) (h : List Line) (line : Line) → Permits plan h line → Holds plan (world plan h) → Paid plan (world plan h) line
 permitted plan h line p holds =
     let w = world plan h in
     let known : Known plan w.views = record { entries = holds.entries; settled = holds.settled } in
-    let is = written (due plan w.views p.stage) line.time (row plan w.views p.stage line.time) line.event p.next p.gives in
-    let owes = row_keeps plan w.views line.time p.stage (writes line.event is.changes p.next) known is.is in
+    let is = written (due plan w.views p.stage) line.time (row plan w.views p.stage line.time) line.event p.change p.next p.gives in
+    let owes = row_keeps plan w.views line.time p.stage (writes line.event p.change p.next) known is in
     record {
       stage = p.stage;
       stands = p.stands;
-      changes = is.changes;
+      change = p.change;
       next = p.next;
-      leads = ap (option_and_then (λ s. row plan w.views s line.time)) p.stands ∙ is.is;
+      leads = ap (option_and_then (λ s. row plan w.views s line.time)) p.stands ∙ is;
+      beside = beside plan line.time p.change w.views holds.entries;
       keeps = owes.paid;
     }
 
@@ -320,4 +325,4 @@ lawful_holds plan [] lawful = start_holds plan
 lawful_holds plan (line ∷ h) lawful =
     let before = lawful_holds plan h lawful.2 in
     let p = permitted plan h line lawful.0 before in
-    subst (λ r. Holds plan (after_line plan (world plan h) line r)) (sym p.leads) (step plan (world plan h) line p.stage p.changes p.next before p.stands p.keeps)
+    subst (λ r. Holds plan (after_line plan (world plan h) line r)) (sym p.leads) (step plan (world plan h) line p.stage p.change p.next before p.stands p.keeps)

@@ -12,6 +12,7 @@ use Rattle.pm_model.specs.declared.plan.Plan.{Plan}
 use Rattle.pm_model.specs.declared.rows.DeviceRow.{DeviceRow}
 use Rattle.pm_model.specs.declared.rows.DomainRow.{DomainRow}
 use Rattle.pm_model.specs.declared.rows.LinkRow.{LinkRow}
+use Rattle.pm_model.specs.ChangeViews.{change_views}
 use Rattle.pm_model.specs.Counted.{gives, takes, frees, gets, puts, freed, says_status, status_of, last_said, says_error, error_of, says_auto, is_allowed, says_idle, idle_runs, says_held, is_held_pair, is_caller, says_on, is_switched_on}
 use Rattle.pm_model.specs.Events.{by_event}
 use Rattle.pm_model.specs.Lawful.{IsLawful}
@@ -28,8 +29,8 @@ use Rattle.pm_laws.proofs.Switches.{held_after, on_after}
 
 -- the views after a permitted line
 views_next : (plan : Plan) (w : World) (line : Line) (p : Paid plan w line)
-    → (after_line plan w line (row_at plan w line.actor line.time)).views ≡ by_event plan line.time line.event (p.changes w.views)
-views_next plan w line p = ap (λ r. let x : World = after_line plan w line r in x.views) p.leads ∙ views_after plan w line p.changes p.next
+    → (after_line plan w line (row_at plan w line.actor line.time)).views ≡ by_event plan line.time line.event (change_views plan line.time p.change w.views)
+views_next plan w line p = ap (λ r. let x : World = after_line plan w line r in x.views) p.leads ∙ views_after plan w line p.change p.next
 
 says_or : {A : Type 0} (o : Option A) (s : A) → unwrap_or o s ≡ (elim o as (λ _. A) [ Some x ↦ x | None ↦ s ])
 says_or (Some x) s = refl
@@ -43,7 +44,7 @@ status_said plan (line ∷ h) d lawful within =
     let w = world plan h in
     let p = permitted plan h line lawful.0 (lawful_holds plan h lawful.2) in
     let now = ap (λ v. let x : Status = (device v d).status in x) (views_next plan w line p) in
-    let turned = status_is plan line.time line.event w.views (p.changes w.views) d (omega (arith, p.keeps.entries.devices)) (p.keeps.still d) in
+    let turned = status_is plan line.time line.event w.views (change_views plan line.time p.change w.views) d (omega (arith, p.beside.entries.devices)) (p.beside.still d) in
     now ∙ turned ∙ ap (unwrap_or (says_status d line.event)) (status_said plan h d lawful.2 within) ∙ says_or (says_status d line.event) (status_of h d)
 
 -- the usage and what was given back are what was taken
@@ -54,7 +55,7 @@ usage_counted plan (line ∷ h) d lawful within =
     let w = world plan h in
     let before = lawful_holds plan h lawful.2 in
     let p = permitted plan h line lawful.0 before in
-    let now : (device (world plan (line ∷ h)).views d).usage ≡ (device (by_event plan line.time line.event (p.changes w.views)) d).usage = ap (λ v. let x : ℕ = (device v d).usage in x) (views_next plan w line p) in
+    let now : (device (world plan (line ∷ h)).views d).usage ≡ (device (by_event plan line.time line.event (change_views plan line.time p.change w.views)) d).usage = ap (λ v. let x : ℕ = (device v d).usage in x) (views_next plan w line p) in
     let moves = p.keeps.counting.moves d (others (holds plan d) w line.actor) within (held_top plan w line.actor p.stage d before p.stands within) in
     let was = usage_counted plan h d lawful.2 within in
     let more_puts : puts (λ w. true) (line ∷ h) d ≡ one (gives (λ w. true) d line.event) + puts (λ w. true) h d = sum_by-cons (λ (l : Line). cond (gives (λ w. true) d l.event) 1 0) line h in
@@ -81,8 +82,8 @@ aside_said {A} f says after plan (line ∷ h) d lawful within =
     let w = world plan h in
     let p = permitted plan h line lawful.0 (lawful_holds plan h lawful.2) in
     let now = ap (λ v. let x : A = f (aside_of (device v d)) in x) (views_next plan w line p) in
-    let turned = after plan line.time line.event (p.changes w.views) d (omega (arith, p.keeps.entries.devices)) in
-    let was = ap f (p.keeps.untouched.asides d) ∙ aside_said f says after plan h d lawful.2 within in
+    let turned = after plan line.time line.event (change_views plan line.time p.change w.views) d (omega (arith, p.beside.entries.devices)) in
+    let was = ap f (p.beside.untouched.asides d) ∙ aside_said f says after plan h d lawful.2 within in
     now ∙ turned ∙ ap (unwrap_or (says d line.event)) was ∙ says_or (says d line.event) (last_said (says d) (f (aside_of fresh_device)) h)
 
 pub error_said : (plan : Plan) (h : List Line) (d : DevId) → IsLawful plan h → d.0 < length plan.devices
@@ -112,8 +113,8 @@ held_said plan (line ∷ h) l row lawful is =
     let says : Option Bool = says_held row.consumer row.supplier line.event in
     let now = ap (λ v. is_held v l) (views_next plan w line p) in
     let here = slice_get_within plan.links l row is in
-    let turned = held_after plan line.time line.event (p.changes w.views) l row (record { row_is = is; within = omega (arith, p.keeps.entries.held) }) in
-    let was : is_held (p.changes w.views) l ≡ is_held_pair h row.consumer row.supplier = ap (λ (x : List Bool). slice_index_or x l false) p.keeps.untouched.held ∙ held_said plan h l row lawful.2 is in
+    let turned = held_after plan line.time line.event (change_views plan line.time p.change w.views) l row (record { row_is = is; within = omega (arith, p.beside.entries.held) }) in
+    let was : is_held (change_views plan line.time p.change w.views) l ≡ is_held_pair h row.consumer row.supplier = ap (λ (x : List Bool). slice_index_or x l false) p.beside.untouched.held ∙ held_said plan h l row lawful.2 is in
     now ∙ turned ∙ ap (unwrap_or says) was ∙ says_or says (is_held_pair h row.consumer row.supplier)
 
 -- a caller's share is what callers took and didn't give back
@@ -123,9 +124,9 @@ share_counted plan [] d lawful within = omega (arith, ap (λ (a : Aside). a.shar
 share_counted plan (line ∷ h) d lawful within =
     let w = world plan h in
     let p = permitted plan h line lawful.0 (lawful_holds plan h lawful.2) in
-    let same : (device (p.changes w.views) d).share ≡ (device w.views d).share = ap (λ (a : Aside). a.share) (p.keeps.untouched.asides d) in
-    let now : (device (world plan (line ∷ h)).views d).share ≡ (device (by_event plan line.time line.event (p.changes w.views)) d).share = ap (λ v. let x : ℕ = (device v d).share in x) (views_next plan w line p) in
-    let moves = share_after plan line.time line.event (p.changes w.views) d (omega (arith, p.keeps.entries.devices)) (λ g. ap (λ n. nat_eq n 0) same ∙ p.keeps.spends d g) in
+    let same : (device (change_views plan line.time p.change w.views) d).share ≡ (device w.views d).share = ap (λ (a : Aside). a.share) (p.beside.untouched.asides d) in
+    let now : (device (world plan (line ∷ h)).views d).share ≡ (device (by_event plan line.time line.event (change_views plan line.time p.change w.views)) d).share = ap (λ v. let x : ℕ = (device v d).share in x) (views_next plan w line p) in
+    let moves = share_after plan line.time line.event (change_views plan line.time p.change w.views) d (omega (arith, p.beside.entries.devices)) (λ g. ap (λ n. nat_eq n 0) same ∙ p.keeps.spends d g) in
     let was = share_counted plan h d lawful.2 within in
     let more_puts : puts is_caller (line ∷ h) d ≡ one (gives is_caller d line.event) + puts is_caller h d = sum_by-cons (λ (l : Line). cond (gives is_caller d l.event) 1 0) line h in
     let more_gets : gets is_caller (line ∷ h) d ≡ one (takes is_caller d line.event) + gets is_caller h d = sum_by-cons (λ (l : Line). cond (takes is_caller d l.event) 1 0) line h in
@@ -147,7 +148,7 @@ on_said plan (line ∷ h) o lawful within =
     let p = permitted plan h line lawful.0 (lawful_holds plan h lawful.2) in
     let says : Option Bool = says_on plan w.views o line.event in
     let now = ap (λ v. is_on v o) (views_next plan w line p) in
-    let turned = on_after plan line.time line.event (p.changes w.views) o (omega (arith, p.keeps.entries.on)) in
-    let looks = ap (λ s. unwrap_or s (is_on (p.changes w.views) o)) (p.keeps.switching o) in
-    let was : is_on (p.changes w.views) o ≡ is_switched_on plan h o = ap (λ (x : List Bool). slice_index_or x o false) p.keeps.untouched.domains ∙ on_said plan h o lawful.2 within in
+    let turned = on_after plan line.time line.event (change_views plan line.time p.change w.views) o (omega (arith, p.beside.entries.on)) in
+    let looks = ap (λ s. unwrap_or s (is_on (change_views plan line.time p.change w.views) o)) (p.keeps.switching o) in
+    let was : is_on (change_views plan line.time p.change w.views) o ≡ is_switched_on plan h o = ap (λ (x : List Bool). slice_index_or x o false) p.beside.untouched.domains ∙ on_said plan h o lawful.2 within in
     now ∙ turned ∙ looks ∙ ap (unwrap_or says) was ∙ says_or says (is_switched_on plan h o)

@@ -23,6 +23,9 @@ pub record Account : Type 0 where
 abbrev pub account_of : Device → Account
 account_of x = record { usage = x.usage; told = told x }
 
+abbrev pub usage_of : Device → ℕ
+usage_of x = x.usage
+
 abbrev pub status_of : Device → Status
 status_of x = x.status
 

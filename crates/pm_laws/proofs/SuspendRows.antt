@@ -1,5 +1,5 @@
 -- The rows of suspend.
-use Rattle.std.proofs.Common.{ℕ, ◌≡◌, Bool, true, false, not, ◌&&◌, ◌||◌, Option, Some, None, ℤ, pos, if◌then◌else◌, refl, sym, ◌∙◌}
+use Rattle.std.proofs.Common.{ℕ, ◌≡◌, Bool, true, false, not, ◌&&◌, ◌||◌, Option, Some, None, ℤ, pos, if◌then◌else◌, refl, sym}
 use Rattle.std.specs.Ordering.{int_eq}
 use Rattle.std.proofs.lemmas.Bool.{false≢true}
 use Rattle.pm_base.specs.declared.Cb.TheVariants as cb
@@ -12,19 +12,18 @@ use Rattle.pm_model.specs.declared.stage.Stage.TheVariants as stage
 use Rattle.pm_model.specs.declared.stage.SuspendStage.{SuspendStage}
 use Rattle.pm_model.specs.declared.stage.SuspendStage.TheVariants as suspend
 use Rattle.pm_model.specs.declared.stage.Then.{Then}
-use Rattle.pm_model.specs.Changes.{callback_marks, set_deferred}
+use Rattle.pm_model.specs.ChangeViews.{suspend_ended}
 use Rattle.pm_model.specs.Counted.{is_same, only_if, says_status}
 use Rattle.pm_model.specs.Derived.{refusal, has, expiry, is_ahead, is_suspending, is_resuming, is_moving, callback_code, first_held}
 use Rattle.pm_model.specs.Events.{by_event, is_try_again}
 use Rattle.pm_model.specs.PlanRows.{no_callbacks, has_domain}
-use Rattle.pm_model.specs.SuspendTable.{goes_on, may_not_wait, suspend_row, suspend_verdict, suspend_ended, suspend_ends, gives_links, suspend_links, suspend_domain, tells_parent, suspend_parent}
+use Rattle.pm_model.specs.SuspendTable.{goes_on, may_not_wait, suspend_row, suspend_verdict, suspend_ends, gives_links, suspend_links, suspend_domain, tells_parent, suspend_parent}
 use Rattle.pm_model.specs.Views.{Views, pending_of}
 use Rattle.pm_laws.proofs.Accounts.{quiet, turn}
 use Rattle.pm_laws.proofs.Givings.{gave_link}
 use Rattle.pm_laws.proofs.Links.{held_found}
 use Rattle.pm_laws.proofs.Owning.{OwnsNext, none, unturned, stays_still, begins_suspend, ends_suspend}
 use Rattle.pm_laws.proofs.Rows.{Known, Owes, Owning, SameHolds, either, either_next, alike, waiting}
-use Rattle.pm_laws.proofs.Seen.{seen, pending_calm, timer_calm, cancel_calm, marks_calm, either_calm}
 
 verdict_keeps : (plan : Plan) (v : Views) (t : ℕ) (d : DevId) (f : ℕ) → Known plan v
     → Owes plan v t (stage.Suspend (suspend.Verdict d f)) (suspend_verdict plan v d f t)
@@ -32,12 +31,12 @@ unfolding suspend_verdict
 verdict_keeps plan v t d f k =
     either (not (int_eq (refusal plan v d) (pos 0))) (λ _. search quiet) (λ _.
     either (is_resuming v d && not (has f ASYNC)) (λ _. search quiet) (λ not_resuming.
-    either (has f AUTO && not (is_suspending v d) && is_ahead (expiry v d) t) (λ _. search (quiet, pending_calm)) (λ _.
-    either (is_suspending v d && may_not_wait f) (λ _. search (quiet, cancel_calm)) (λ _.
-    either (is_suspending v d) (λ _. search (quiet, cancel_calm)) (λ not_suspending.
-    either (no_callbacks plan d) (λ none. turn k tt (cancel_calm d v) (stays_still d status.Suspended (k.settled d none) refl (λ _. refl) (λ _. (refl, refl)) (λ _. (refl, refl))) (λ _. refl)) (λ has_callbacks.
-    either (has f ASYNC) (λ _. search (quiet, timer_calm)) (λ not_async.
-    turn k tt (cancel_calm d v) (begins_suspend d (stands (is_suspending v d) (is_resuming v d) (has f ASYNC) not_resuming not_suspending not_async) has_callbacks (λ _. refl) (λ _. (refl, refl)) (λ _. (refl, refl))) (λ _. refl))))))))
+    either (has f AUTO && not (is_suspending v d) && is_ahead (expiry v d) t) (λ _. search quiet) (λ _.
+    either (is_suspending v d && may_not_wait f) (λ _. search quiet) (λ _.
+    either (is_suspending v d) (λ _. search quiet) (λ not_suspending.
+    either (no_callbacks plan d) (λ none. turn k tt tt (stays_still d status.Suspended (k.settled d none) refl (λ _. refl) (λ _. (refl, refl)) (λ _. (refl, refl))) (λ _. refl)) (λ has_callbacks.
+    either (has f ASYNC) (λ _. search quiet) (λ not_async.
+    turn k tt tt (begins_suspend d (stands (is_suspending v d) (is_resuming v d) (has f ASYNC) not_resuming not_suspending not_async) has_callbacks (λ _. refl) (λ _. (refl, refl)) (λ _. (refl, refl))) (λ _. refl))))))))
   where
     stands : (a b c : Bool) → b && not c ≡ false → a ≡ false → c ≡ false → a || b ≡ false
     stands true b c p q r = absurd (false≢true (sym q))
@@ -47,10 +46,10 @@ verdict_keeps plan v t d f k =
 
 gives_keep : (plan : Plan) (v : Views) (t : ℕ) (d : DevId) (f : ℕ) → Known plan v → (x : Option (ℕ × DevId)) → first_held plan v d ≡ x
     → Owes plan v t (stage.Suspend (suspend.Links d f)) (gives_links v d f x)
-gives_keep plan v t d f k (Some link) e = gave_link d link.1 k refl (held_found plan v d link e) (λ _. (refl, refl)) (λ _. refl)
+gives_keep plan v t d f k (Some link) e = gave_link d link.1 k tt (held_found plan v d link e) (λ _. (refl, refl)) (λ _. refl)
 gives_keep plan v t d f k None e =
-    either (pending_of v d).deferred (λ _. turn k tt refl (ends_suspend d status.Suspended refl (λ _. refl) (λ _. (refl, refl)) (λ _. (refl, refl))) (λ _. refl))
-    (λ _. turn k tt refl (ends_suspend d status.Suspended refl (λ _. refl) (λ _. (refl, refl)) (λ _. (refl, refl))) (λ _. refl))
+    either (pending_of v d).deferred (λ _. turn k tt tt (ends_suspend d status.Suspended refl (λ _. refl) (λ _. (refl, refl)) (λ _. (refl, refl))) (λ _. refl))
+    (λ _. turn k tt tt (ends_suspend d status.Suspended refl (λ _. refl) (λ _. (refl, refl)) (λ _. (refl, refl))) (λ _. refl))
 
 links_keep : (plan : Plan) (v : Views) (t : ℕ) (d : DevId) (f : ℕ) → Known plan v
     → Owes plan v t (stage.Suspend (suspend.Links d f)) (suspend_links plan v d f)
@@ -68,15 +67,6 @@ parent_keeps : (plan : Plan) (v : Views) (t : ℕ) (d : DevId) (f : ℕ) → Kno
     → Owes plan v t (stage.Suspend (suspend.Parent d f)) (suspend_parent plan v d f)
 unfolding suspend_parent
 parent_keeps plan v t d f k = either (tells_parent plan v d) (λ _. search quiet) (λ _. search quiet)
-
--- what a suspend's end changes beside the event's own
-ended_calm : (plan : Plan) (d : DevId) (c : ℤ) (t : ℕ) (v : Views) → seen (suspend_ended plan d c t v) ≡ seen v
-unfolding suspend_ended
-ended_calm plan d c t v =
-    let marked : Views = callback_marks plan d t v in
-    let calm : seen marked ≡ seen v = marks_calm plan d t v in
-    either_calm (int_eq c (pos 0)) v _ _ calm
-    (either_calm (is_try_again c) v _ _ (pending_calm marked d _ ∙ calm) (cancel_calm d (set_deferred false d marked) ∙ pending_calm marked d _ ∙ calm))
 
 -- where it goes on
 abbrev after_end : DevId → ℕ → ℤ → Bool → Then
@@ -115,7 +105,7 @@ ends_keep plan v t d f since k =
     let c = callback_code plan v cb.Suspend d in
     let after = by_event plan t (event.End d cb.Suspend c) (suspend_ended plan d c t v) in
     let again = is_try_again c && has f AUTO && is_ahead (expiry after d) t in
-    turn k tt (ended_calm plan d c t v) (ended_owning plan v d f since c again) (ended_holds plan d f since c again)
+    turn k tt tt (ended_owning plan v d f since c again) (ended_holds plan d f since c again)
 
 pub suspend_keeps : (plan : Plan) (v : Views) (t : ℕ) (s : SuspendStage) → Known plan v → Owes plan v t (stage.Suspend s) (suspend_row plan v s t)
 suspend_keeps plan v t (suspend.Enter d f) k = search quiet

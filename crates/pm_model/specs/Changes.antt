@@ -8,11 +8,8 @@ use Rattle.pm_base.specs.declared.Req.{Req}
 use Rattle.pm_base.specs.declared.Req.TheVariants.{Nothing}
 use Rattle.pm_model.specs.declared.plan.Plan.{Plan}
 use Rattle.pm_model.specs.PlanRows.{marks_busy, is_of_pair}
+use Rattle.pm_model.specs.Derived.{is_active}
 use Rattle.pm_model.specs.Views.{Views, device, pending_of, timer, with_device, with_pending, with_timer}
-
--- no change beside the event's own
-abbrev pub same : Views → Views
-same v = v
 
 abbrev pub set_request : Req → DevId → Views → Views
 set_request r d v = with_pending v d (record (pending_of v d) { request = r })
@@ -57,6 +54,18 @@ set_last b d v = with_device v d (record (device v d) { last_active = b })
 
 abbrev pub disables : DevId → Views → Views
 disables d v = set_depth ((device v d).depth + 1) d v
+
+-- the depth rises and nothing stays pending
+abbrev pub disables_busy : DevId → Views → Views
+disables_busy d v = cancel_all d (disables d v)
+
+-- what the status was is kept
+abbrev pub keeps_status : DevId → Views → Views
+keeps_status d v = set_last (is_active v d) d v
+
+-- the depth rises, nothing stays pending, and what the status was is kept
+abbrev pub disabled_at_once : DevId → Views → Views
+disabled_at_once d v = set_last (is_active v d) d (disables_busy d v)
 
 -- the depth falls by one; at 0 the last status is forgotten
 unfoldable pub enables : DevId → Views → Views

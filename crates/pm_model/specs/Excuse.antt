@@ -115,7 +115,7 @@ denies_back l rest None = false
 denies_back l rest (Some c) = denies l rest c
 
 abbrev pub row_denies : ℕ → List Stage → Option Row → Bool
-row_denies l rest (Some (writes e changes next)) = denies_back l rest next.back
+row_denies l rest (Some (writes e change next)) = denies_back l rest next.back
 row_denies l rest _ = false
 
 -- the line ends the resume of link l's supplier with -13: the supplier is disabled

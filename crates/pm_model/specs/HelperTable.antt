@@ -13,6 +13,7 @@ use Rattle.pm_model.specs.declared.event.TimerAct.TheVariants.{Fire}
 use Rattle.pm_model.specs.declared.event.WorkAct.TheVariants.{Run}
 use Rattle.pm_model.specs.declared.plan.Plan.{Plan}
 use Rattle.pm_model.specs.declared.stage.Await.TheVariants as await
+use Rattle.pm_model.specs.declared.stage.Change.TheVariants as change
 use Rattle.pm_model.specs.declared.stage.ControlStage.TheVariants as control
 use Rattle.pm_model.specs.declared.stage.HelperStage.{HelperStage}
 use Rattle.pm_model.specs.declared.stage.HelperStage.TheVariants as at
@@ -24,7 +25,7 @@ use Rattle.pm_model.specs.declared.stage.Stage.TheVariants as stage
 use Rattle.pm_model.specs.declared.stage.SuspendStage.TheVariants as suspend
 use Rattle.pm_model.specs.declared.stage.Then.{Then}
 use Rattle.pm_model.specs.Views.{Views, device, pending_of}
-use Rattle.pm_model.specs.Changes.{same, has_auto_timer}
+use Rattle.pm_model.specs.Changes.{has_auto_timer}
 use Rattle.pm_model.specs.Derived.{fields, is_active, is_disabled, is_in_use, first_of}
 use Rattle.pm_model.specs.Row.{Row, writes, ret, suspends, goes, calls, back}
 
@@ -89,14 +90,14 @@ returning h d c = goes (stage.Helper (at.Ret h d c))
 abbrev pub gets_if : Views → Command → Bool → Row
 gets_if v c holds =
     first_of (
-    (is_disabled v c.dev, ret c.helper c.dev EINVAL same)
-    ∷ (is_active v c.dev && holds, writes (event.Get c.dev why.Caller) same (returning c.helper c.dev (pos 1)))
-    ∷ []) (ret c.helper c.dev (pos 0) same)
+    (is_disabled v c.dev, ret c.helper c.dev EINVAL change.Same)
+    ∷ (is_active v c.dev && holds, writes (event.Get c.dev why.Caller) change.Same (returning c.helper c.dev (pos 1)))
+    ∷ []) (ret c.helper c.dev (pos 0) change.Same)
 
 -- a put finds a count that a caller took
 abbrev pub puts : Views → Command → Then → Row
 puts v c next =
-    first_of ((nat_eq (device v c.dev).share 0, ret c.helper c.dev EINVAL same) ∷ []) (writes (event.Put c.dev why.Caller) same next)
+    first_of ((nat_eq (device v c.dev).share 0, ret c.helper c.dev EINVAL change.Same) ∷ []) (writes (event.Put c.dev why.Caller) change.Same next)
 
 -- the line after the call line; of the other helpers none comes here
 unfoldable pub helper_starts : Views → Command → Row
@@ -105,9 +106,9 @@ helper_starts v c =
     let d = c.dev in
     let f = flags_of h in
     elim h as (λ _. Row) [
-      | helper.GetSync ↦ writes (event.Get d why.Caller) same (calls (to_resume d f) (await.Return h d))
-      | helper.Get ↦ writes (event.Get d why.Caller) same (calls (to_resume d f) (await.Return h d))
-      | helper.GetNoresume ↦ writes (event.Get d why.Caller) same (returning h d (pos 0))
+      | helper.GetSync ↦ writes (event.Get d why.Caller) change.Same (calls (to_resume d f) (await.Return h d))
+      | helper.Get ↦ writes (event.Get d why.Caller) change.Same (calls (to_resume d f) (await.Return h d))
+      | helper.GetNoresume ↦ writes (event.Get d why.Caller) change.Same (returning h d (pos 0))
       | helper.GetIfInUse ↦ gets_if v c (is_in_use v d)
       | helper.GetIfActive ↦ gets_if v c true
       | helper.Put ↦ puts v c (calls (stage.Idle (idle.Given d f)) (await.Return h d))
@@ -116,14 +117,14 @@ helper_starts v c =
       | helper.PutSyncSuspend ↦ puts v c (goes (stage.Helper (at.Given c)))
       | helper.PutSyncAutosuspend ↦ puts v c (goes (stage.Helper (at.Given c)))
       | helper.PutNoidle ↦ puts v c (returning h d (pos 0))
-      | _ ↦ ret h d (pos 0) same
+      | _ ↦ ret h d (pos 0) change.Same
     ]
 
 -- a put that goes on to suspend where nothing else counts
 unfoldable pub put_suspends : Plan → Views → Command → Row
 put_suspends plan v c =
     let f = flags_of c.helper in
-    first_of ((is_in_use v c.dev, writes (event.Usage c.dev (fields plan v c.dev f)) same (returning c.helper c.dev (pos 0))) ∷ [])
+    first_of ((is_in_use v c.dev, writes (event.Usage c.dev (fields plan v c.dev f)) change.Same (returning c.helper c.dev (pos 0))) ∷ [])
     (suspends plan v c.dev f (stage.Await (await.Return c.helper c.dev) ∷ []))
 
 -- what a work item carries out
@@ -135,13 +136,13 @@ carries_out d req.Autosuspend = goes (to_suspend d 10)
 carries_out d req.Resume = goes (to_resume d 2)
 
 unfoldable pub timer_fires : Views → DevId → Row
-timer_fires v d = writes (event.Timer d (Fire (has_auto_timer v d))) same (goes (to_suspend d (if has_auto_timer v d then 9 else 1)))
+timer_fires v d = writes (event.Timer d (Fire (has_auto_timer v d))) change.Same (goes (to_suspend d (if has_auto_timer v d then 9 else 1)))
 
 abbrev pub helper_row : Plan → Views → HelperStage → ℕ → Row
-helper_row plan v (at.Call c) t = writes (event.Call c) same (begins c t)
-helper_row plan v (at.Work d) t = writes (event.Work d (Run (pending_of v d).request)) same (carries_out d (pending_of v d).request)
+helper_row plan v (at.Call c) t = writes (event.Call c) change.Same (begins c t)
+helper_row plan v (at.Work d) t = writes (event.Work d (Run (pending_of v d).request)) change.Same (carries_out d (pending_of v d).request)
 helper_row plan v (at.Timer d) t = timer_fires v d
 helper_row plan v (at.Start c) t = helper_starts v c
 helper_row plan v (at.Given c) t = put_suspends plan v c
-helper_row plan v (at.Delay ms since) t = ret helper.Delay (record { 0 = 0 }) (pos 0) same
-helper_row plan v (at.Ret h d c) t = ret h d c same
+helper_row plan v (at.Delay ms since) t = ret helper.Delay (record { 0 = 0 }) (pos 0) change.Same
+helper_row plan v (at.Ret h d c) t = ret h d c change.Same

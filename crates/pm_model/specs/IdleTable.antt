@@ -9,6 +9,7 @@ use Rattle.pm_base.specs.declared.codes.TheConstants.{ASYNC, AUTO, EAGAIN, EINPR
 use Rattle.pm_model.specs.declared.event.Event.TheVariants as event
 use Rattle.pm_model.specs.declared.event.WorkAct.TheVariants.{Queue}
 use Rattle.pm_model.specs.declared.plan.Plan.{Plan}
+use Rattle.pm_model.specs.declared.stage.Change.TheVariants as change
 use Rattle.pm_model.specs.declared.stage.IdleStage.{IdleStage}
 use Rattle.pm_model.specs.declared.stage.IdleStage.TheVariants as idle
 use Rattle.pm_model.specs.declared.stage.Stage.TheVariants as stage
@@ -16,7 +17,6 @@ use Rattle.pm_model.specs.declared.stage.SuspendStage.TheVariants as suspend
 use Rattle.pm_model.specs.declared.stage.Then.{Then}
 use Rattle.pm_model.specs.PlanRows.{has_idle}
 use Rattle.pm_model.specs.Views.{Views, device, pending_of}
-use Rattle.pm_model.specs.Changes.{same, set_request, callback_marks}
 use Rattle.pm_model.specs.Derived.{refusal, has, fields, is_active, is_in_use, callback_code, first_of}
 use Rattle.pm_model.specs.Row.{Row, writes, returns, idles, goes, back}
 
@@ -34,28 +34,28 @@ then_suspends d f = goes (stage.Suspend (suspend.Enter d (bit_or f AUTO)))
 unfoldable pub idle_verdict : Plan → Views → DevId → ℕ → ℕ → Row
 idle_verdict plan v d f t =
     first_of (
-    (int_lt (refusal plan v d) (pos 0), returns cb.Idle d (refusal plan v d) same)
-    ∷ (not (is_active v d), returns cb.Idle d EAGAIN same)
-    ∷ (is_above_idle (pending_of v d).request, returns cb.Idle d EAGAIN same)
-    ∷ ((device v d).idle_running, returns cb.Idle d EINPROGRESS same)
-    ∷ (not (has_idle plan d), writes (event.Return cb.Idle d (pos 0)) (set_request req.Nothing d) (then_suspends d f))
-    ∷ (has f ASYNC, writes (event.Work d (Queue req.Idle)) same (goes (stage.Idle (idle.Queued d f))))
-    ∷ []) (writes (event.Begin d cb.Idle) (set_request req.Nothing d) (goes (stage.Idle (idle.Running d f t))))
+    (int_lt (refusal plan v d) (pos 0), returns cb.Idle d (refusal plan v d) change.Same)
+    ∷ (not (is_active v d), returns cb.Idle d EAGAIN change.Same)
+    ∷ (is_above_idle (pending_of v d).request, returns cb.Idle d EAGAIN change.Same)
+    ∷ ((device v d).idle_running, returns cb.Idle d EINPROGRESS change.Same)
+    ∷ (not (has_idle plan d), writes (event.Return cb.Idle d (pos 0)) (change.CancelRequest d) (then_suspends d f))
+    ∷ (has f ASYNC, writes (event.Work d (Queue req.Idle)) change.Same (goes (stage.Idle (idle.Queued d f))))
+    ∷ []) (writes (event.Begin d cb.Idle) (change.CancelRequest d) (goes (stage.Idle (idle.Running d f t))))
 
 -- I2
 unfoldable pub idle_ends : Plan → Views → DevId → ℕ → ℕ → Row
 idle_ends plan v d f t =
     let c = callback_code plan v cb.Idle d in
-    writes (event.End d cb.Idle c) (callback_marks plan d t) (goes (stage.Idle (idle.Done d f c)))
+    writes (event.End d cb.Idle c) (change.CallbackMarks d) (goes (stage.Idle (idle.Done d f c)))
 
 -- T
 unfoldable pub given : Plan → Views → DevId → ℕ → Row
-given plan v d f = first_of ((is_in_use v d, writes (event.Usage d (fields plan v d f)) same (back (pos 0))) ∷ []) (idles plan v d f same [])
+given plan v d f = first_of ((is_in_use v d, writes (event.Usage d (fields plan v d f)) change.Same (back (pos 0))) ∷ []) (idles plan v d f change.Same [])
 
 abbrev pub idle_row : Plan → Views → IdleStage → ℕ → Row
-idle_row plan v (idle.Enter d f) t = idles plan v d f same []
+idle_row plan v (idle.Enter d f) t = idles plan v d f change.Same []
 idle_row plan v (idle.Verdict d f) t = idle_verdict plan v d f t
 idle_row plan v (idle.Running d f since) t = idle_ends plan v d f t
-idle_row plan v (idle.Done d f c) t = writes (event.Return cb.Idle d c) same (if int_eq c (pos 0) then then_suspends d f else back c)
-idle_row plan v (idle.Queued d f) t = returns cb.Idle d (pos 0) same
+idle_row plan v (idle.Done d f c) t = writes (event.Return cb.Idle d c) change.Same (if int_eq c (pos 0) then then_suspends d f else back c)
+idle_row plan v (idle.Queued d f) t = returns cb.Idle d (pos 0) change.Same
 idle_row plan v (idle.Given d f) t = given plan v d f

@@ -4,6 +4,7 @@ use Rattle.std.specs.Prelude.{ℕ, ◌≡◌, ◌<◌, ◌≤◌, Bool, true, no
 use Rattle.std.specs.List.{enumerate_from, list_all}
 use Rattle.pm_model.specs.declared.event.Line.{Line}
 use Rattle.pm_model.specs.declared.plan.Plan.{Plan}
+use Rattle.pm_model.specs.declared.stage.Change.{Change}
 use Rattle.pm_model.specs.declared.stage.Move.TheVariants.{Write}
 use Rattle.pm_model.specs.declared.stage.Stage.{Stage}
 use Rattle.pm_model.specs.declared.stage.Then.{Then}
@@ -18,8 +19,9 @@ last_time (line ∷ h) = line.time
 pub record Permits (plan : Plan) (h : List Line) (line : Line) : Type 0 where
   pub stage : Stage
   pub stands : stage_at plan (world plan h) line.actor ≡ Some stage
+  pub change : Change
   pub next : Then
-  pub gives : move plan (world plan h).views stage line.time ≡ Some (Write line.event next)
+  pub gives : move plan (world plan h).views stage line.time ≡ Some (Write line.event change next)
   pub in_time : last_time h ≤ line.time
 
 -- each line may come after those before it, and there are no more lines than the plan allows

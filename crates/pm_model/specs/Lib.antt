@@ -8,6 +8,7 @@ pub mod PlanRows
 pub mod Changes
 pub mod Derived
 pub mod Events
+pub mod ChangeViews
 pub mod Row
 pub mod IdleTable
 pub mod SuspendTable

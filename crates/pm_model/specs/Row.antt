@@ -7,6 +7,8 @@ use Rattle.pm_model.specs.declared.event.Event.TheVariants as event
 use Rattle.pm_model.specs.declared.event.Helper.{Helper}
 use Rattle.pm_model.specs.declared.plan.Plan.{Plan}
 use Rattle.pm_model.specs.declared.stage.Await.{Await}
+use Rattle.pm_model.specs.declared.stage.Change.{Change}
+use Rattle.pm_model.specs.declared.stage.Change.TheVariants.{Same}
 use Rattle.pm_model.specs.declared.stage.IdleStage.TheVariants as idle
 use Rattle.pm_model.specs.declared.stage.Move.{Move}
 use Rattle.pm_model.specs.declared.stage.Move.TheVariants.{Write, Late, Wait}
@@ -17,22 +19,22 @@ use Rattle.pm_model.specs.declared.stage.Stage.TheVariants as stage
 use Rattle.pm_model.specs.declared.stage.SuspendStage.TheVariants as suspend
 use Rattle.pm_model.specs.declared.stage.Then.{Then}
 use Rattle.pm_model.specs.Views.{Views}
-use Rattle.pm_model.specs.Changes.{same}
+use Rattle.pm_model.specs.ChangeViews.{change_views}
 use Rattle.pm_model.specs.Derived.{fields}
 use Rattle.pm_model.specs.Events.{by_event}
 
--- a line's event, the changes that the row names beside the event's own, and what takes the stage's place;
+-- a line's event, the change that the row names beside the event's own, and what takes the stage's place;
 -- or the device that is waited for
 pub data Row : Type 0 where
-  writes : Event → (Views → Views) → Then → Row
+  writes : Event → Change → Then → Row
   waits : DevId → Row
 
 abbrev pub after_of : Plan → ℕ → Views → Row → Views
-after_of plan t v (writes e changes next) = by_event plan t e (changes v)
+after_of plan t v (writes e change next) = by_event plan t e (change_views plan t change v)
 after_of plan t v (waits d) = v
 
 abbrev pub move_of : Row → Move
-move_of (writes e changes next) = Write e next
+move_of (writes e change next) = Write e change next
 move_of (waits d) = Wait d
 
 -- the move at t of a stage whose line is due at a moment
@@ -55,21 +57,21 @@ abbrev pub back : ℤ → Then
 back c = record { push = []; back = Some c }
 
 -- a return line, after which the call ends
-abbrev pub returns : Cb → DevId → ℤ → (Views → Views) → Row
-returns func d c changes = writes (event.Return func d c) changes (back c)
+abbrev pub returns : Cb → DevId → ℤ → Change → Row
+returns func d c change = writes (event.Return func d c) change (back c)
 
 -- the return line of a helper, after which its actor's place is empty
-abbrev pub ret : Helper → DevId → ℤ → (Views → Views) → Row
-ret h d c changes = writes (event.Ret h d c) changes (back c)
+abbrev pub ret : Helper → DevId → ℤ → Change → Row
+ret h d c change = writes (event.Ret h d c) change (back c)
 
 -- the first line of idle, of suspend and of resume, called over these stages
-abbrev pub idles : Plan → Views → DevId → ℕ → (Views → Views) → List Stage → Row
-idles plan v d f changes under = writes (event.Idle d (fields plan v d f)) changes (pushes (stage.Idle (idle.Verdict d f) ∷ under))
+abbrev pub idles : Plan → Views → DevId → ℕ → Change → List Stage → Row
+idles plan v d f change under = writes (event.Idle d (fields plan v d f)) change (pushes (stage.Idle (idle.Verdict d f) ∷ under))
 
 abbrev pub suspends : Plan → Views → DevId → ℕ → List Stage → Row
-suspends plan v d f under = writes (event.Suspend d (fields plan v d f)) same (pushes (stage.Suspend (suspend.Verdict d f) ∷ under))
+suspends plan v d f under = writes (event.Suspend d (fields plan v d f)) Same (pushes (stage.Suspend (suspend.Verdict d f) ∷ under))
 
 abbrev pub resumes : Plan → Views → DevId → ℕ → Purpose → List Stage → Row
 resumes plan v d f purpose under =
-    writes (event.Resume d (fields plan v d f)) same
+    writes (event.Resume d (fields plan v d f)) Same
     (pushes (stage.Resume (resume.Verdict (record { dev = d; flags = f; held = false; purpose = purpose }) false) ∷ under))

@@ -16,7 +16,7 @@ abbrev pub move_at : Plan → World → ℕ → ActorId → Option Move
 move_at plan w t actor = option_and_then (λ s. move plan w.views s t) (stage_at plan w actor)
 
 abbrev pub writes_line : Move → Bool
-writes_line (Write e next) = true
+writes_line (Write e change next) = true
 writes_line (Late at) = false
 writes_line (Wait d) = false
 
@@ -24,7 +24,7 @@ abbrev pub may_write : Plan → World → ℕ → ActorId → Bool
 may_write plan w t actor = option_map_or writes_line (move_at plan w t actor) false
 
 abbrev pub late_moment : Move → Option ℕ
-late_moment (Write e next) = None
+late_moment (Write e change next) = None
 late_moment (Late at) = Some at
 late_moment (Wait d) = None
 
@@ -69,7 +69,7 @@ next_turn plan h = or_later plan h (turn_at plan h (last_time h))
 
 -- the line that an actor writes at t
 abbrev pub written : ActorId → ℕ → Move → Option Line
-written actor t (Write e next) = Some (record { time = t; actor = actor; event = e })
+written actor t (Write e change next) = Some (record { time = t; actor = actor; event = e })
 written actor t (Late at) = None
 written actor t (Wait d) = None
 

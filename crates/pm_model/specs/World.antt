@@ -22,6 +22,7 @@ use Rattle.pm_model.specs.declared.stage.SuspendStage.TheVariants as suspend
 use Rattle.pm_model.specs.PlanRows.{is_kept_on, ms_of}
 use Rattle.pm_model.specs.Views.{Views, fresh_device, fresh_pending, pending_of, timer}
 use Rattle.pm_model.specs.Events.{by_event}
+use Rattle.pm_model.specs.ChangeViews.{change_views}
 use Rattle.pm_model.specs.Row.{Row, writes, timed}
 use Rattle.pm_model.specs.IdleTable.{idle_row}
 use Rattle.pm_model.specs.SuspendTable.{suspend_row}
@@ -97,12 +98,12 @@ abbrev pub counts_call : ActorId → Event → List ℕ → List ℕ
 counts_call (Caller c) (event.Call command) called = slice_set called c (slice_index_or called c 0 + 1)
 counts_call _ _ called = called
 
--- a line's event changes the views of itself; the row at which its actor stands names the other changes and what takes
+-- a line's event changes the views of itself; the row at which its actor stands names the other change and what takes
 -- the stage's place
 abbrev pub after_line : Plan → World → Line → Option Row → World
-after_line plan w line (Some (writes e changes next)) =
+after_line plan w line (Some (writes e change next)) =
     with_place (record w {
-      views = by_event plan line.time line.event (changes w.views);
+      views = by_event plan line.time line.event (change_views plan line.time change w.views);
       called = counts_call line.actor line.event w.called;
     }) line.actor (after_then next (drop 1 (place w line.actor)))
 after_line plan w line _ = record w { views = by_event plan line.time line.event w.views }

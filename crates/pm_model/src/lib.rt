@@ -20,7 +20,7 @@ pub use rows::{
     Name, Script,
 };
 pub use stage::{
-    Await, ControlStage, Handed, HelperStage, IdleStage, Move, Purpose, ResumeCall, ResumeStage,
-    Stage, StageRow, Stages, SuspendStage, Then,
+    Await, Change, ControlStage, Handed, HelperStage, IdleStage, Move, Purpose, ResumeCall,
+    ResumeStage, Stage, StageRow, Stages, SuspendStage, Then,
 };
 pub use views::Device;

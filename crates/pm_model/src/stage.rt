@@ -282,11 +282,88 @@ pub struct Then {
     pub back: Option<i32>,
 }
 
+/// What a row of the call table changes beside what its event changes of itself.
+#[derive(Clone, Copy)]
+pub enum Change {
+    Same,
+    /// The request is cancelled.
+    CancelRequest {
+        dev: DevId,
+    },
+    /// The timer is disarmed.
+    Disarm {
+        dev: DevId,
+    },
+    /// The request is cancelled and the timer disarmed.
+    Cancel {
+        dev: DevId,
+    },
+    /// The same, and nothing stays queued.
+    CancelAll {
+        dev: DevId,
+    },
+    /// What a resume cancels.
+    ResumeCancel {
+        dev: DevId,
+    },
+    /// A callback has ended, which marks a device that the plan calls busy.
+    CallbackMarks {
+        dev: DevId,
+    },
+    /// A suspend callback has ended with this code.
+    SuspendEnded {
+        dev: DevId,
+        code: i32,
+    },
+    /// The device is marked busy.
+    MarkBusy {
+        dev: DevId,
+    },
+    /// The depth falls by one.
+    Enable {
+        dev: DevId,
+    },
+    /// The depth rises by one.
+    Disable {
+        dev: DevId,
+    },
+    /// The same, and nothing stays pending.
+    DisableBusy {
+        dev: DevId,
+    },
+    /// The same, and what the status was is kept.
+    DisableAtOnce {
+        dev: DevId,
+    },
+    /// What the status was is kept.
+    KeepStatus {
+        dev: DevId,
+    },
+    /// Whether autosuspend is in use, and its delay.
+    Set {
+        dev: DevId,
+        use_auto: bool,
+        delay: i64,
+    },
+    /// Whether the device's children don't count.
+    Ignore {
+        dev: DevId,
+        ignores: bool,
+    },
+    /// Whether the links of a pair are present.
+    Link {
+        consumer: DevId,
+        supplier: DevId,
+        present: bool,
+    },
+}
+
 /// What an actor may do at a stage.
 #[derive(Clone, Copy)]
 pub enum Move {
-    /// The only event that the call table permits, and what takes the stage's place.
-    Write(Event, Then),
+    /// The only event that the call table permits, what the row changes beside it, and what takes the
+    /// stage's place.
+    Write(Event, Change, Then),
     /// The line is due at this moment.
     Late(u64),
     /// The stage waits on this device.

@@ -9,10 +9,10 @@ ghost use Rattle.pm_model.specs.declared.event.Word.TheVariants as word;
 ghost use Rattle.pm_base.specs.declared.Why.TheVariants as why;
 ghost use Rattle.pm_model.specs.declared.stage.Await.TheVariants as await;
 ghost use Rattle.pm_model.specs.declared.stage.IdleStage.TheVariants as idle;
+ghost use Rattle.pm_model.specs.declared.stage.Change.TheVariants as change;
 ghost use Rattle.pm_model.specs.declared.stage.Move.TheVariants as move;
 ghost use Rattle.pm_model.specs.declared.stage.ResumeStage.TheVariants as resume;
 ghost use Rattle.pm_model.specs.declared.stage.Stage.TheVariants as the_stage;
-ghost use Rattle.pm_model.specs.Changes.{same};
 ghost use Rattle.pm_model.specs.Derived.{begun, first_of, has, is_moving, is_resuming, is_suspending, minds_parent};
 ghost use Rattle.pm_model.specs.PlanRows.{has_parent, ms_of, parent_of};
 ghost use Rattle.pm_model.specs.ResumeTable.{goes_on, leaves, resume_begins, resume_domain, resume_ends, resume_links, resume_row, resume_unwinds, resume_verdict, returns_from};
@@ -28,8 +28,8 @@ use pm_device::{
     parent_of, supplier_call,
 };
 use pm_model::{
-    Await, Event, IdleStage, Move, Plan, Purpose, ResumeCall, ResumeStage, Stage, Then, Word,
-    WorkAct, is_supplied,
+    Await, Change, Event, IdleStage, Move, Plan, Purpose, ResumeCall, ResumeStage, Stage, Then,
+    Word, WorkAct, is_supplied,
 };
 
 // A stage of resume takes the place.
@@ -53,9 +53,9 @@ fn leaves(plan: &Plan, call: ResumeCall, code: i32) -> Then
 }
 
 // The return line.
-fn returns_from(plan: &Plan, call: ResumeCall, code: i32) -> Move
+fn returns_from(plan: &Plan, call: ResumeCall, code: i32, change: Change) -> Move
     requires { call.dev.0 < length plan.now.devices }
-    ensures { result ≡ move_of (returns_from plan.now call code same) }
+    ensures { result ≡ move_of (returns_from plan.now call code change) }
 {
     Move::Write(
         Event::Return {
@@ -63,6 +63,7 @@ fn returns_from(plan: &Plan, call: ResumeCall, code: i32) -> Move
             dev: call.dev,
             code,
         },
+        change,
         leaves(plan, call, code),
     )
 }
@@ -116,17 +117,18 @@ fn verdict(plan: &Plan, parts: &Parts, call: ResumeCall, tried: bool) -> Move
 {
     let dev = call.dev;
     let flags = call.flags;
+    let cancel = Change::ResumeCancel { dev };
     if parts.has_error(dev) {
-        return returns_from(plan, call, EINVAL);
+        return returns_from(plan, call, EINVAL, Change::Same);
     }
     if parts.was_active(dev) {
-        return returns_from(plan, call, 1);
+        return returns_from(plan, call, 1, Change::Same);
     }
     if parts.is_disabled(dev) {
-        return returns_from(plan, call, EACCES);
+        return returns_from(plan, call, EACCES, Change::Same);
     }
     if parts.is_active(dev) {
-        return returns_from(plan, call, 1);
+        return returns_from(plan, call, 1, cancel);
     }
     if defers(parts, dev, flags) {
         let code = deferred_code(flags);
@@ -135,15 +137,17 @@ fn verdict(plan: &Plan, parts: &Parts, call: ResumeCall, tried: bool) -> Move
                 dev,
                 act: WorkAct::Defer,
             },
+            cancel,
             goes_on(ResumeStage::Done { call, code }),
         );
     }
     if is_under_way(parts, dev, flags) {
-        return returns_from(plan, call, EINPROGRESS);
+        return returns_from(plan, call, EINPROGRESS, cancel);
     }
     if parts.is_moving(dev) {
         return Move::Write(
             Event::Wait { dev },
+            cancel,
             goes_on(ResumeStage::Waiting { call, tried }),
         );
     }
@@ -153,6 +157,7 @@ fn verdict(plan: &Plan, parts: &Parts, call: ResumeCall, tried: bool) -> Move
                 dev,
                 act: WorkAct::Queue(Req::Resume),
             },
+            cancel,
             goes_on(ResumeStage::Done { call, code: 0 }),
         );
     }
@@ -164,6 +169,7 @@ fn verdict(plan: &Plan, parts: &Parts, call: ResumeCall, tried: bool) -> Move
                 dev: parent,
                 why: Why::Child(dev),
             },
+            cancel,
             goes_on(ResumeStage::Verdict { call, tried }),
         );
     }
@@ -171,7 +177,7 @@ fn verdict(plan: &Plan, parts: &Parts, call: ResumeCall, tried: bool) -> Move
         return parts.calls_resume(parent, 0, Purpose::Child, Await::ResumeParent { call });
     }
     if parts.awaits_parent(plan, dev) {
-        return returns_from(plan, call, EBUSY);
+        return returns_from(plan, call, EBUSY, cancel);
     }
     if no_callbacks(plan, dev) {
         return Move::Write(
@@ -179,6 +185,7 @@ fn verdict(plan: &Plan, parts: &Parts, call: ResumeCall, tried: bool) -> Move
                 dev,
                 word: Word::Active,
             },
+            cancel,
             goes_on(ResumeStage::Idle { call }),
         );
     }
@@ -187,6 +194,7 @@ fn verdict(plan: &Plan, parts: &Parts, call: ResumeCall, tried: bool) -> Move
             dev,
             word: Word::Resuming,
         },
+        cancel,
         goes_on(ResumeStage::Links { call }),
     )
 }
@@ -213,6 +221,7 @@ fn begins(call: ResumeCall, time: u64) -> Move
             dev: call.dev,
             cb: Cb::Resume,
         },
+        Change::Same,
         goes_on(ResumeStage::Running { call, since: time }),
     )
 }
@@ -231,6 +240,7 @@ fn links(plan: &Plan, parts: &Parts, call: ResumeCall, time: u64) -> Move
                 dev: supplier,
                 why: Why::Link(dev),
             },
+            Change::Same,
             calls(
                 supplier_call(link, supplier),
                 Await::ResumeSupplier { call, link },
@@ -244,6 +254,7 @@ fn links(plan: &Plan, parts: &Parts, call: ResumeCall, time: u64) -> Move
                         up: true,
                         count: parts.up_count(plan, dev),
                     },
+                    Change::Same,
                     goes_on(ResumeStage::Callback { call }),
                 )
             } else {
@@ -267,6 +278,7 @@ fn unwinds(plan: &Plan, parts: &Parts, call: ResumeCall, code: i32) -> Move
                 dev: supplier,
                 why: Why::Link(dev),
             },
+            Change::Same,
             calls(
                 Stage::Idle(IdleStage::Given {
                     dev: supplier,
@@ -280,6 +292,7 @@ fn unwinds(plan: &Plan, parts: &Parts, call: ResumeCall, code: i32) -> Move
                 dev,
                 word: Word::Suspended,
             },
+            Change::Same,
             goes_on(ResumeStage::Done { call, code }),
         ),
     }
@@ -300,6 +313,7 @@ fn domain(plan: &Plan, parts: &Parts, call: ResumeCall, code: i32) -> Move
                 up: false,
                 count: parts.down_count(plan, dev),
             },
+            Change::Same,
             goes_on(ResumeStage::Unwind { call, code }),
         );
     }
@@ -335,9 +349,13 @@ fn ends(plan: &Plan, parts: &Parts, call: ResumeCall) -> Move
         code,
     };
     if code == 0 {
-        Move::Write(ended, goes_on(ResumeStage::Resumed { call }))
+        Move::Write(ended, Change::Same, goes_on(ResumeStage::Resumed { call }))
     } else {
-        Move::Write(ended, goes_on(ResumeStage::Domain { call, code }))
+        Move::Write(
+            ended,
+            Change::Cancel { dev },
+            goes_on(ResumeStage::Domain { call, code }),
+        )
     }
 }
 
@@ -360,7 +378,7 @@ fn running(plan: &Plan, parts: &Parts, call: ResumeCall, since: u64, time: u64) 
 // R7
 fn gives_parent(plan: &Plan, call: ResumeCall, code: i32) -> Move
     requires { call.dev.0 < length plan.now.devices }
-    ensures { result ≡ move.Write (event.Put (parent_of plan.now call.dev) (why.Child call.dev)) (calls (the_stage.Idle (idle.Given (parent_of plan.now call.dev) 5)) (await.ResumeGiven call code)) }
+    ensures { result ≡ move.Write (event.Put (parent_of plan.now call.dev) (why.Child call.dev)) change.Same (calls (the_stage.Idle (idle.Given (parent_of plan.now call.dev) 5)) (await.ResumeGiven call code)) }
 {
     let parent = parent_of(plan, call.dev);
     Move::Write(
@@ -368,6 +386,7 @@ fn gives_parent(plan: &Plan, call: ResumeCall, code: i32) -> Move
             dev: parent,
             why: Why::Child(call.dev),
         },
+        Change::Same,
         calls(
             Stage::Idle(IdleStage::Given {
                 dev: parent,
@@ -380,13 +399,14 @@ fn gives_parent(plan: &Plan, call: ResumeCall, code: i32) -> Move
 
 // R4c
 fn resumed(call: ResumeCall) -> Move
-    ensures { result ≡ move.Write (event.State call.dev word.Active) (goes_on (resume.Idle call)) }
+    ensures { result ≡ move.Write (event.State call.dev word.Active) change.Same (goes_on (resume.Idle call)) }
 {
     Move::Write(
         Event::State {
             dev: call.dev,
             word: Word::Active,
         },
+        Change::Same,
         goes_on(ResumeStage::Idle { call }),
     )
 }
@@ -409,8 +429,10 @@ pub fn next(plan: &Plan, parts: &Parts, stage: ResumeStage, time: u64) -> Move
         ResumeStage::Callback { call } => begins(call, time),
         ResumeStage::Running { call, since } => running(plan, parts, call, since, time),
         ResumeStage::Resumed { call } => resumed(call),
-        ResumeStage::Idle { call } => { parts.calls_idle(call.dev, 1, Await::ResumeIdle { call }) }
-        ResumeStage::Done { call, code } => returns_from(plan, call, code),
+        ResumeStage::Idle { call } => {
+            parts.calls_idle(call.dev, 1, Change::Same, Await::ResumeIdle { call })
+        }
+        ResumeStage::Done { call, code } => returns_from(plan, call, code, Change::Same),
         ResumeStage::Parent { call, code } => gives_parent(plan, call, code),
         ResumeStage::Domain { call, code } => domain(plan, parts, call, code),
         ResumeStage::Unwind { call, code } => unwinds(plan, parts, call, code),

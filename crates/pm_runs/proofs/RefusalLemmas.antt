@@ -22,7 +22,7 @@ use Rattle.pm_model.specs.Text.{names_of}
 
 -- the event that a move writes
 abbrev event_of : Move → Option Event
-event_of (Write event next) = Some event
+event_of (Write event change next) = Some event
 event_of (Late at) = None
 event_of (Wait d) = None
 

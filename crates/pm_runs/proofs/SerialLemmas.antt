@@ -20,7 +20,7 @@ later_by_test :
     (t at moment : ℕ) (r : Row) (b : Bool) → nat_lt t moment ≡ b
     → late_moment (if b then Late moment else move_of r) ≡ Some at → t < at
 later_by_test t at moment r true test e = subst (λ (m : ℕ). t < m) (same_Some moment at e) (ltb-true t moment test)
-later_by_test t at moment (writes event changes next) false test e = cc
+later_by_test t at moment (writes event change next) false test e = cc
 later_by_test t at moment (waits d) false test e = cc
 
 later_by_row :
@@ -104,10 +104,10 @@ permits_written plan h actor t line late (Some s) stands e = go (move plan (worl
     go None gives e = cc
     go (Some (Late at)) gives e = cc
     go (Some (Wait d)) gives e = cc
-    go (Some (Write event next)) gives e =
+    go (Some (Write event change next)) gives e =
         let its_line : Line = record { time = t; actor = actor; event = event } in
         subst (λ (l : Line). Permits plan h l) (same_Some its_line line e)
-        (record { stage = s; stands = stands; next = next; gives = gives; in_time = late })
+        (record { stage = s; stands = stands; change = change; next = next; gives = gives; in_time = late })
 
 -- and so may the line of serial's turn
 permits_next : (plan : Plan) (h : List Line) (line : Line) → next_line plan h ≡ Some line → Permits plan h line

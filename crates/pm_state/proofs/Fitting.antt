@@ -12,15 +12,18 @@ use Rattle.pm_model.specs.declared.event.Event.TheVariants as event
 use Rattle.pm_model.specs.declared.event.Word.{Word}
 use Rattle.pm_model.specs.declared.event.Word.TheVariants as word
 use Rattle.pm_model.specs.declared.plan.Plan.{Plan}
+use Rattle.pm_model.specs.declared.stage.Change.{Change}
+use Rattle.pm_model.specs.declared.stage.Change.TheVariants as change
 use Rattle.pm_model.specs.declared.stage.Stage.{Stage}
 use Rattle.pm_model.specs.Derived.{begun}
 use Rattle.pm_model.specs.Lawful.{is_empty_place}
 use Rattle.pm_model.specs.LineOf.{is_event_of}
 use Rattle.pm_model.specs.World.{World, with_place}
 use Rattle.pm_model.specs.Views.{Views, device}
+use Rattle.pm_apply.specs.Fits.{CanChange}
 use Rattle.pm_apply.specs.Happening.{CanGive, CanHappen, CanTake, CanWrite}
 use Rattle.pm_state.specs.Standing.{CanFreeAny}
-use Rattle.pm_state.specs.Tests.{fits, fits_call, fits_event, fits_get, fits_put, fits_stage, has_room}
+use Rattle.pm_state.specs.Tests.{fits, fits_call, fits_change, fits_event, fits_get, fits_put, has_room}
 use Rattle.pm_state.proofs.Told.{below, first_of_two, second_of_two}
 
 room : (n : ℕ) → has_room n ≡ true → n + 1 < 2 ^ 32
@@ -75,11 +78,37 @@ can_happen plan v (event.Domain d is_up n) h frees = tt
 can_happen plan v (event.Work d act) h frees = tt
 can_happen plan v (event.Timer d act) h frees = tt
 
-pub event_fits : (plan : Plan) (w : World) (actor : ActorId) (s : Stage) (e : Event) → fits plan w actor s e ≡ true → fits_event (length plan.devices) w.views e ≡ true
-event_fits plan w actor s e h =
+-- a change that has passed the test can be made
+pub can_change : (n : ℕ) (v : Views) (c : Change) → fits_change n v c ≡ true → CanChange n v c
+can_change n v change.Same h = tt
+can_change n v (change.Link consumer supplier present) h = tt
+can_change n v (change.Enable d) h = (below _ _ (first_of_two (nat_lt d.0 n) _ h), below _ _ (second_of_two (nat_lt d.0 n) _ h))
+can_change n v (change.Disable d) h = (below _ _ (first_of_two (nat_lt d.0 n) _ h), room _ (second_of_two (nat_lt d.0 n) _ h))
+can_change n v (change.DisableBusy d) h = (below _ _ (first_of_two (nat_lt d.0 n) _ h), room _ (second_of_two (nat_lt d.0 n) _ h))
+can_change n v (change.DisableAtOnce d) h = (below _ _ (first_of_two (nat_lt d.0 n) _ h), room _ (second_of_two (nat_lt d.0 n) _ h))
+can_change n v (change.Set d use_auto delay) h = grind (arith, common_steps)
+can_change n v (change.CancelRequest d) h = below _ _ h
+can_change n v (change.Disarm d) h = below _ _ h
+can_change n v (change.Cancel d) h = below _ _ h
+can_change n v (change.CancelAll d) h = below _ _ h
+can_change n v (change.ResumeCancel d) h = below _ _ h
+can_change n v (change.CallbackMarks d) h = below _ _ h
+can_change n v (change.SuspendEnded d c) h = below _ _ h
+can_change n v (change.MarkBusy d) h = below _ _ h
+can_change n v (change.KeepStatus d) h = below _ _ h
+can_change n v (change.Ignore d ignores) h = below _ _ h
+
+pub change_fits : (plan : Plan) (w : World) (actor : ActorId) (c : Change) (e : Event) → fits plan w actor c e ≡ true → fits_change (length plan.devices) w.views c ≡ true
+change_fits plan w actor c e h =
     let n = length plan.devices in
-    second_of_two (fits_stage n w.views s) (fits_event n w.views e)
-    (first_of_two (fits_stage n w.views s && fits_event n w.views e) (fits_call w actor e) (first_of_two _ (is_event_of n e) h))
+    first_of_two (fits_change n w.views c) (fits_event n w.views e)
+    (first_of_two (fits_change n w.views c && fits_event n w.views e) (fits_call w actor e) (first_of_two _ (is_event_of n e) h))
+
+pub event_fits : (plan : Plan) (w : World) (actor : ActorId) (c : Change) (e : Event) → fits plan w actor c e ≡ true → fits_event (length plan.devices) w.views e ≡ true
+event_fits plan w actor c e h =
+    let n = length plan.devices in
+    second_of_two (fits_change n w.views c) (fits_event n w.views e)
+    (first_of_two (fits_change n w.views c && fits_event n w.views e) (fits_call w actor e) (first_of_two _ (is_event_of n e) h))
 
 -- a place that isn't empty is open
 pub is_open : (stages : List Stage) → not (is_empty_place stages) ≡ true → 0 < length stages

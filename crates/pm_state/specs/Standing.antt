@@ -5,13 +5,13 @@ use Rattle.pm_base.specs.declared.ActorId.TheVariants.{Caller, Work, Timer}
 use Rattle.pm_base.specs.declared.DevId.{DevId}
 use Rattle.pm_model.specs.declared.event.Line.{Line}
 use Rattle.pm_model.specs.declared.plan.Plan.{Plan}
-use Rattle.pm_model.specs.declared.stage.Stage.{Stage}
+use Rattle.pm_model.specs.declared.stage.Change.{Change}
 use Rattle.pm_model.specs.declared.stage.Then.{Then}
+use Rattle.pm_model.specs.ChangeViews.{change_views}
 use Rattle.pm_model.specs.Events.{by_event}
 use Rattle.pm_model.specs.Handing.{after_then}
 use Rattle.pm_model.specs.Views.{Views}
 use Rattle.pm_model.specs.World.{World, counts_call, place, with_place}
-use Rattle.pm_apply.specs.Changing.{changed}
 use Rattle.pm_device.specs.Fitting.{CanFree}
 use Rattle.pm_device.specs.Parts.{Counters, IsFor, Shape}
 
@@ -39,11 +39,11 @@ pub record IsOf (plan : Plan) (s : Standing) : Type 0 where
   pub timers : length s.world.timers ≡ length plan.devices
   pub called : length s.world.called ≡ length plan.callers
 
--- where the run stands once the line of a stage is written and this takes the stage's place
-abbrev pub after_write : Plan → World → Stage → Line → Then → World
-after_write plan w stage line next =
+-- where the run stands once a line is written whose row names this change, and this takes its stage's place
+abbrev pub after_write : Plan → World → Change → Line → Then → World
+after_write plan w c line next =
     with_place (record w {
-      views = by_event plan line.time line.event (changed plan w.views stage line.time);
+      views = by_event plan line.time line.event (change_views plan line.time c w.views);
       called = counts_call line.actor line.event w.called;
     }) line.actor (after_then next (drop 1 (place w line.actor)))
 

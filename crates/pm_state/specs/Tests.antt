@@ -1,16 +1,19 @@
 -- What is tested before a line is written, as long as no law over whole runs says it (this project's own): that the line
 -- of a stage can be told, and that the counters can take it.
-use Rattle.std.specs.Prelude.{◌+◌, ◌^◌, ℕ, Bool, true, false, ◌&&◌, int_le, length, nat_abs, nat_lt, pos, slice_index_or}
+use Rattle.std.specs.Prelude.{◌+◌, ◌^◌, ℕ, Bool, true, false, ◌&&◌, int_le, length, nat_abs, nat_lt, neg_ℤ, pos, slice_index_or}
 use Rattle.pm_base.specs.declared.ActorId.{ActorId}
 use Rattle.pm_base.specs.declared.ActorId.TheVariants.{Caller}
 use Rattle.pm_base.specs.declared.Cb.{Cb}
 use Rattle.pm_base.specs.declared.Cb.TheVariants as cb
 use Rattle.pm_base.specs.declared.DevId.{DevId}
+use Rattle.pm_base.specs.declared.limits.TheConstants.{MAX_MS}
 use Rattle.pm_base.specs.declared.Why.{Why}
 use Rattle.pm_base.specs.declared.Why.TheVariants as why
 use Rattle.pm_model.specs.declared.event.Event.{Event}
 use Rattle.pm_model.specs.declared.event.Event.TheVariants as event
 use Rattle.pm_model.specs.declared.plan.Plan.{Plan}
+use Rattle.pm_model.specs.declared.stage.Change.{Change}
+use Rattle.pm_model.specs.declared.stage.Change.TheVariants as change
 use Rattle.pm_model.specs.declared.stage.ControlStage.{ControlStage}
 use Rattle.pm_model.specs.declared.stage.ControlStage.TheVariants as control
 use Rattle.pm_model.specs.declared.stage.HelperStage.{HelperStage}
@@ -84,11 +87,25 @@ tells plan v (stage.Await s) = false
 abbrev pub has_room : ℕ → Bool
 has_room n = nat_lt (n + 1) (2 ^ 32)
 
--- one more disabling can be counted
-abbrev pub fits_stage : ℕ → Views → Stage → Bool
-fits_stage n v (stage.Control (control.Start c)) = is_in n c.dev && has_room (device v c.dev).depth
-fits_stage n v (stage.Control (control.Disable d)) = is_in n d && has_room (device v d).depth
-fits_stage n v _ = true
+-- the counters can take the change that a row names
+abbrev pub fits_change : ℕ → Views → Change → Bool
+fits_change n v change.Same = true
+fits_change n v (change.Link consumer supplier present) = true
+fits_change n v (change.Enable d) = is_in n d && nat_lt 0 (device v d).depth
+fits_change n v (change.Disable d) = is_in n d && has_room (device v d).depth
+fits_change n v (change.DisableBusy d) = is_in n d && has_room (device v d).depth
+fits_change n v (change.DisableAtOnce d) = is_in n d && has_room (device v d).depth
+fits_change n v (change.Set d use_auto delay) = is_in n d && int_le (neg_ℤ (pos MAX_MS)) delay && int_le delay (pos MAX_MS)
+fits_change n v (change.CancelRequest d) = is_in n d
+fits_change n v (change.Disarm d) = is_in n d
+fits_change n v (change.Cancel d) = is_in n d
+fits_change n v (change.CancelAll d) = is_in n d
+fits_change n v (change.ResumeCancel d) = is_in n d
+fits_change n v (change.CallbackMarks d) = is_in n d
+fits_change n v (change.SuspendEnded d c) = is_in n d
+fits_change n v (change.MarkBusy d) = is_in n d
+fits_change n v (change.KeepStatus d) = is_in n d
+fits_change n v (change.Ignore d ignores) = is_in n d
 
 abbrev pub fits_get : Views → DevId → Why → Bool
 fits_get v d why.Caller = has_room (device v d).usage && has_room (device v d).share
@@ -115,7 +132,7 @@ abbrev pub fits_call : World → ActorId → Event → Bool
 fits_call w (Caller c) (event.Call command) = has_room (slice_index_or w.called c 0)
 fits_call w _ _ = true
 
--- the counters can take the line of a stage, and its event is one of the plan's
-abbrev pub fits : Plan → World → ActorId → Stage → Event → Bool
-fits plan w actor s e =
-    fits_stage (length plan.devices) w.views s && fits_event (length plan.devices) w.views e && fits_call w actor e && is_event_of (length plan.devices) e
+-- the counters can take the change and the event of a line, and its event is one of the plan's
+abbrev pub fits : Plan → World → ActorId → Change → Event → Bool
+fits plan w actor c e =
+    fits_change (length plan.devices) w.views c && fits_event (length plan.devices) w.views e && fits_call w actor e && is_event_of (length plan.devices) e

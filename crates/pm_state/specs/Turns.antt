@@ -28,7 +28,7 @@ running_due plan _ = None
 
 -- what the move at a stage lets its actor do
 abbrev pub by_move : Stage → Option Move → Turn
-by_move s (Some (Write e next)) = turn.Writes s e next
+by_move s (Some (Write e c next)) = turn.Writes s e c next
 by_move s (Some (Late at)) = turn.Early at
 by_move s (Some (Wait d)) = turn.Blocked d
 by_move s None = turn.Stuck
@@ -64,7 +64,7 @@ is_running plan w actor = runs_at plan (stage_at plan w actor)
 
 -- a line that is to be written has passed the tests
 abbrev pub HasPassed : Plan → World → ActorId → Turn → Type 0
-HasPassed plan w actor (turn.Writes s e next) = (tells plan w.views s ≡ true) × (fits plan w actor s e ≡ true)
+HasPassed plan w actor (turn.Writes s e c next) = fits plan w actor c e ≡ true
 HasPassed plan w actor _ = Unit {0}
 
 -- the stage ends or at most one takes its place, and the actor's place is open
@@ -73,16 +73,16 @@ pub record EndsLevel (w : World) (actor : ActorId) (next : Then) : Type 0 where
   pub open_place : 0 < length (place w actor)
 
 abbrev pub TurnEndsLevel : World → ActorId → Turn → Type 0
-TurnEndsLevel w actor (turn.Writes s e next) = EndsLevel w actor next
+TurnEndsLevel w actor (turn.Writes s e c next) = EndsLevel w actor next
 TurnEndsLevel w actor _ = Unit {0}
 
 -- a line that would be written fails the tests
-abbrev pub fails_move : Plan → World → ActorId → Stage → Option Move → Bool
-fails_move plan w actor s (Some (Write e next)) = not (fits plan w actor s e)
-fails_move plan w actor s _ = not true
+abbrev pub fails_move : Plan → World → ActorId → Option Move → Bool
+fails_move plan w actor (Some (Write e c next)) = not (fits plan w actor c e)
+fails_move plan w actor _ = not true
 
 abbrev pub fails_stage : Plan → World → ActorId → ℕ → Option Stage → Bool
-fails_stage plan w actor t (Some s) = not (tells plan w.views s) || fails_move plan w actor s (move plan w.views s t)
+fails_stage plan w actor t (Some s) = not (tells plan w.views s) || fails_move plan w actor (move plan w.views s t)
 fails_stage plan w actor t None = not true
 
 -- what an actor would do at t fails the tests

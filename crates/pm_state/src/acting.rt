@@ -14,7 +14,7 @@ use crate::state::State;
 use crate::tests_of_stages::tells;
 use pm_base::{ActorId, Cb, DevId};
 use pm_device::{Parts, ms_of};
-use pm_model::{Event, IdleStage, Move, Plan, ResumeStage, Stage, SuspendStage, Then};
+use pm_model::{Change, Event, IdleStage, Move, Plan, ResumeStage, Stage, SuspendStage, Then};
 use pm_place::is_level;
 
 /// What an actor does at a moment, in milliseconds of the run.
@@ -28,10 +28,12 @@ pub enum Turn {
     Blocked(DevId),
     /// Its line is due at this later moment.
     Early(u64),
-    /// It writes a line with this event at this stage, and this takes the stage's place.
+    /// It writes a line with this event at this stage, whose row names this change, and this takes the
+    /// stage's place.
     Writes {
         stage: Stage,
         event: Event,
+        change: Change,
         then: Then,
     },
     /// A test failed that no law over whole runs rules out as yet.
@@ -90,9 +92,14 @@ impl State {
         ensures stuck { result ≡ Turn.Stuck → fails_stage plan.now self.now.world actor time (Some stage) ≡ true }
     {
         match self.next(plan, stage, time) {
-            Some(Move::Write(event, then)) => {
-                if self.fits(plan, actor, stage, event) {
-                    Turn::Writes { stage, event, then }
+            Some(Move::Write(event, change, then)) => {
+                if self.fits(plan, actor, change, event) {
+                    Turn::Writes {
+                        stage,
+                        event,
+                        change,
+                        then,
+                    }
                 } else {
                     Turn::Stuck
                 }
@@ -143,9 +150,19 @@ impl State {
         ensures level { TurnEndsLevel self.now.world actor result }
     {
         match turn {
-            Turn::Writes { stage, event, then } => {
+            Turn::Writes {
+                stage,
+                event,
+                change,
+                then,
+            } => {
                 if self.ends_level(plan, actor, &then) {
-                    Turn::Writes { stage, event, then }
+                    Turn::Writes {
+                        stage,
+                        event,
+                        change,
+                        then,
+                    }
                 } else {
                     Turn::Stuck
                 }

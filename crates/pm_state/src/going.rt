@@ -5,15 +5,15 @@ ghost use Rattle.pm_model.specs.Handing.{after_then};
 ghost use Rattle.pm_model.specs.World.{counts_call, place, with_place};
 ghost use Rattle.pm_state.specs.Standing.{CanFreeAny, IsActor, IsOf, after_write};
 ghost use Rattle.pm_place.specs.Place.{is_level};
-ghost use Rattle.pm_state.specs.Tests.{fits, fits_call, tells};
+ghost use Rattle.pm_state.specs.Tests.{fits, fits_call};
 ghost use Rattle.pm_state.specs.Turns.{EndsLevel};
 
 use crate::state::State;
-use crate::tests_of_events::{fits_event, fits_stage, has_room};
+use crate::tests_of_events::{fits_change, fits_event, has_room};
 use crate::tests_of_lines::is_event_of;
 use pm_apply::apply;
 use pm_base::{ActorId, NoMemory};
-use pm_model::{Event, Line, Plan, Stage, Then};
+use pm_model::{Change, Event, Line, Plan, Then};
 
 impl State {
     // One more call of a caller can be counted.
@@ -31,13 +31,13 @@ impl State {
         }
     }
 
-    /// Whether the counters can take the line of a stage. It takes no memory.
-    pub fn fits(&self, plan: &Plan, actor: ActorId, stage: Stage, event: Event) -> bool
+    /// Whether the counters can take a line with this change and this event. It takes no memory.
+    pub fn fits(&self, plan: &Plan, actor: ActorId, change: Change, event: Event) -> bool
         requires is_of { IsOf plan.now self.now }
         requires in_range { IsActor plan.now actor }
-        ensures { result ≡ fits plan.now self.now.world actor stage event }
+        ensures { result ≡ fits plan.now self.now.world actor change event }
     {
-        fits_stage(plan, &self.parts, stage)
+        fits_change(plan, &self.parts, change)
             && fits_event(plan, &self.parts, event)
             && self.fits_call(plan, actor, event)
             && is_event_of(plan.devices.len(), event)
@@ -90,36 +90,40 @@ impl State {
     /// Writes the line of a stage: its effects, and what takes the stage's place. After `NoMemory`
     /// nothing is changed.
     #[tactic(auto, using(crate::proofs::Fitting::can_happen, crate::proofs::Told::first_of_two, crate::proofs::Told::second_of_two))]
-    pub fn go(&mut self, plan: &Plan, stage: Stage, line: &Line, then: Then) -> Result<(), NoMemory>
+    pub fn go(
+        &mut self,
+        plan: &Plan,
+        change: Change,
+        line: &Line,
+        then: Then,
+    ) -> Result<(), NoMemory>
         requires is_of { IsOf plan.now self.old }
         requires in_range { IsActor plan.now line.now.actor }
-        requires told { tells plan.now self.old.world.views stage ≡ true }
-        requires fits { fits plan.now self.old.world line.now.actor stage line.now.event ≡ true }
+        requires fits { fits plan.now self.old.world line.now.actor change line.now.event ≡ true }
         requires frees { CanFreeAny plan.now self.old.world.views }
         requires in_time { line.now.time < 2 ^ 63 }
-        ensures ok { OnOk result (self.new ≡ record self.old { world = after_write plan.now self.old.world stage line.now then }) }
+        ensures ok { OnOk result (self.new ≡ record self.old { world = after_write plan.now self.old.world change line.now then }) }
         ensures err { OnErr result (self.new ≡ self.old) }
     {
         self.give_way(plan, line.actor, then)?;
         self.count_call(plan, line.actor, line.event);
-        apply(&mut self.parts, plan, stage, line);
+        apply(&mut self.parts, plan, change, line);
         Ok(())
     }
 
     /// The same where the stack takes no more room. It takes no memory.
     #[tactic(auto, using(crate::proofs::Fitting::can_happen, crate::proofs::Told::first_of_two, crate::proofs::Told::second_of_two))]
-    pub fn go_level(&mut self, plan: &Plan, stage: Stage, line: &Line, then: Then)
+    pub fn go_level(&mut self, plan: &Plan, change: Change, line: &Line, then: Then)
         requires is_of { IsOf plan.now self.old }
         requires in_range { IsActor plan.now line.now.actor }
-        requires told { tells plan.now self.old.world.views stage ≡ true }
-        requires fits { fits plan.now self.old.world line.now.actor stage line.now.event ≡ true }
+        requires fits { fits plan.now self.old.world line.now.actor change line.now.event ≡ true }
         requires level { EndsLevel self.old.world line.now.actor then }
         requires frees { CanFreeAny plan.now self.old.world.views }
         requires in_time { line.now.time < 2 ^ 63 }
-        ensures { self.new ≡ record self.old { world = after_write plan.now self.old.world stage line.now then } }
+        ensures { self.new ≡ record self.old { world = after_write plan.now self.old.world change line.now then } }
     {
         self.give_way_level(plan, line.actor, then);
         self.count_call(plan, line.actor, line.event);
-        apply(&mut self.parts, plan, stage, line);
+        apply(&mut self.parts, plan, change, line);
     }
 }

@@ -1,13 +1,14 @@
 //! Whether the counters can take a line. No law over whole runs says so as yet, so it is tested.
 
-ghost use Rattle.std.specs.Prelude.{◌≡◌, ◌<◌, length};
+ghost use Rattle.std.specs.Prelude.{◌≡◌, ◌<◌, ◌&&◌, length, nat_lt};
 ghost use Rattle.pm_device.specs.Parts.{IsFor};
-ghost use Rattle.pm_state.specs.Tests.{fits_event, fits_get, fits_put, fits_stage, has_room};
+ghost use Rattle.pm_state.specs.Tests.{fits_change, fits_event, fits_get, fits_put, has_room, is_in};
+ghost use Rattle.pm_model.specs.Views.{device};
 
 use crate::tests_of_stages::is_in;
-use pm_base::{DevId, Why};
+use pm_base::{DevId, MAX_MS, Why};
 use pm_device::Parts;
-use pm_model::{ControlStage, Event, Plan, Stage};
+use pm_model::{Change, Event, Plan};
 
 // One more can be counted.
 pub fn has_room(count: u32) -> bool
@@ -16,23 +17,46 @@ pub fn has_room(count: u32) -> bool
     count < u32::MAX
 }
 
-// One more disabling can be counted.
-pub fn fits_stage(plan: &Plan, parts: &Parts, stage: Stage) -> bool
+// The depth of a device can rise by one.
+fn fits_disabling(plan: &Plan, parts: &Parts, dev: DevId) -> bool
     requires { IsFor plan.now parts.now.shape }
-    ensures { result ≡ fits_stage (length plan.now.devices) parts.now.views stage }
+    ensures { result ≡ (is_in (length plan.now.devices) dev && has_room (device parts.now.views dev).depth) }
+{
+    is_in(plan.devices.len(), dev) && has_room(parts.device(dev).depth)
+}
+
+// The depth of a device can fall by one.
+fn fits_enabling(plan: &Plan, parts: &Parts, dev: DevId) -> bool
+    requires { IsFor plan.now parts.now.shape }
+    ensures { result ≡ (is_in (length plan.now.devices) dev && nat_lt 0 (device parts.now.views dev).depth) }
+{
+    is_in(plan.devices.len(), dev) && parts.device(dev).depth > 0
+}
+
+// The counters can take the change that a row names.
+pub fn fits_change(plan: &Plan, parts: &Parts, change: Change) -> bool
+    requires { IsFor plan.now parts.now.shape }
+    ensures { result ≡ fits_change (length plan.now.devices) parts.now.views change }
 {
     let devices = plan.devices.len();
-    match stage {
-        Stage::Control(stage) => match stage {
-            ControlStage::Start { command } => {
-                is_in(devices, command.dev) && has_room(parts.device(command.dev).depth)
-            }
-            ControlStage::Disable { dev } => {
-                is_in(devices, dev) && has_room(parts.device(dev).depth)
-            }
-            _ => true,
-        },
-        _ => true,
+    match change {
+        Change::Same | Change::Link { .. } => true,
+        Change::Enable { dev } => fits_enabling(plan, parts, dev),
+        Change::Disable { dev } | Change::DisableBusy { dev } | Change::DisableAtOnce { dev } =>
+            fits_disabling(plan, parts, dev),
+        Change::Set { dev, delay, .. } => {
+            is_in(devices, dev) && -i64::from(MAX_MS) <= delay && delay <= i64::from(MAX_MS)
+        }
+        Change::CancelRequest { dev }
+        | Change::Disarm { dev }
+        | Change::Cancel { dev }
+        | Change::CancelAll { dev }
+        | Change::ResumeCancel { dev }
+        | Change::CallbackMarks { dev }
+        | Change::SuspendEnded { dev, .. }
+        | Change::MarkBusy { dev }
+        | Change::KeepStatus { dev }
+        | Change::Ignore { dev, .. } => is_in(devices, dev),
     }
 }
 

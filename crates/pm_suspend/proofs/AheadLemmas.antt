@@ -12,7 +12,7 @@ use Rattle.pm_model.specs.Changes.{callback_marks, cancel, set_deferred, set_las
 use Rattle.pm_model.specs.Derived.{expiry}
 use Rattle.pm_model.specs.Events.{by_event, is_try_again, set_error, set_status, suspend_failed}
 use Rattle.pm_model.specs.PlanRows.{marks_busy}
-use Rattle.pm_model.specs.SuspendTable.{suspend_ended}
+use Rattle.pm_model.specs.ChangeViews.{suspend_ended}
 use Rattle.pm_model.specs.Views.{Views, device, fresh_device, with_device}
 use Rattle.pm_suspend.specs.SuspendMove.{expiry_of, last_mark}
 

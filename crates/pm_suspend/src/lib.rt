@@ -4,15 +4,17 @@
 ghost use Rattle.std.specs.Prelude.{◌≡◌, ◌+◌, ◌<◌, ◌^◌, length};
 ghost use Rattle.pm_base.specs.declared.Cb.TheVariants as cb;
 ghost use Rattle.pm_model.specs.declared.event.Event.TheVariants as event;
+ghost use Rattle.pm_model.specs.declared.stage.Change.TheVariants as change;
 ghost use Rattle.pm_model.specs.declared.stage.Move.TheVariants as move;
 ghost use Rattle.pm_model.specs.declared.stage.Purpose.TheVariants.{Plain};
 ghost use Rattle.pm_model.specs.declared.stage.Stage.TheVariants as the_stage;
 ghost use Rattle.pm_model.specs.declared.stage.SuspendStage.TheVariants as suspend;
+ghost use Rattle.pm_model.specs.ChangeViews.{suspend_ended};
 ghost use Rattle.pm_model.specs.Derived.{begun, expiry, is_ahead};
 ghost use Rattle.pm_model.specs.Events.{by_event};
 ghost use Rattle.pm_model.specs.PlanRows.{ms_of};
 ghost use Rattle.pm_model.specs.Row.{move_of, timed};
-ghost use Rattle.pm_model.specs.SuspendTable.{goes_on, suspend_domain, suspend_ended, suspend_ends, suspend_links, suspend_parent, suspend_request, suspend_row, suspend_verdict};
+ghost use Rattle.pm_model.specs.SuspendTable.{goes_on, suspend_domain, suspend_ends, suspend_links, suspend_parent, suspend_request, suspend_row, suspend_verdict};
 ghost use Rattle.pm_model.specs.Views.{device};
 ghost use Rattle.pm_model.specs.World.{due};
 ghost use Rattle.pm_device.specs.Parts.{IsFor};
@@ -24,8 +26,8 @@ use pm_device::{
     no_callbacks, parent_of, returns,
 };
 use pm_model::{
-    Await, Event, IdleStage, Move, Plan, Purpose, Stage, SuspendStage, Then, TimerAct, Word,
-    WorkAct,
+    Await, Change, Event, IdleStage, Move, Plan, Purpose, Stage, SuspendStage, Then, TimerAct,
+    Word, WorkAct,
 };
 
 // A stage of suspend takes the place.
@@ -55,10 +57,10 @@ fn verdict(plan: &Plan, parts: &Parts, dev: DevId, flags: u8, time: u64) -> Move
 {
     let refusal = parts.refusal(plan, dev);
     if refusal != 0 {
-        return returns(Cb::Suspend, dev, refusal);
+        return returns(Cb::Suspend, dev, refusal, Change::Same);
     }
     if parts.is_resuming(dev) && !has(flags, ASYNC) {
-        return returns(Cb::Suspend, dev, EAGAIN);
+        return returns(Cb::Suspend, dev, EAGAIN, Change::Same);
     }
     if parts.is_early(dev, flags, time) {
         let act = TimerAct::Arm {
@@ -67,6 +69,7 @@ fn verdict(plan: &Plan, parts: &Parts, dev: DevId, flags: u8, time: u64) -> Move
         };
         return Move::Write(
             Event::Timer { dev, act },
+            Change::CancelRequest { dev },
             goes_on(SuspendStage::Done {
                 dev,
                 flags,
@@ -75,11 +78,12 @@ fn verdict(plan: &Plan, parts: &Parts, dev: DevId, flags: u8, time: u64) -> Move
         );
     }
     if parts.is_suspending(dev) && may_not_wait(flags) {
-        return returns(Cb::Suspend, dev, EINPROGRESS);
+        return returns(Cb::Suspend, dev, EINPROGRESS, Change::Cancel { dev });
     }
     if parts.is_suspending(dev) {
         return Move::Write(
             Event::Wait { dev },
+            Change::Cancel { dev },
             goes_on(SuspendStage::Waiting { dev, flags }),
         );
     }
@@ -89,6 +93,7 @@ fn verdict(plan: &Plan, parts: &Parts, dev: DevId, flags: u8, time: u64) -> Move
                 dev,
                 word: Word::Suspended,
             },
+            Change::Cancel { dev },
             goes_on(SuspendStage::Parent { dev, flags }),
         );
     }
@@ -98,6 +103,7 @@ fn verdict(plan: &Plan, parts: &Parts, dev: DevId, flags: u8, time: u64) -> Move
                 dev,
                 act: WorkAct::Queue(suspend_request(flags)),
             },
+            Change::Disarm { dev },
             goes_on(SuspendStage::Done {
                 dev,
                 flags,
@@ -110,6 +116,7 @@ fn verdict(plan: &Plan, parts: &Parts, dev: DevId, flags: u8, time: u64) -> Move
             dev,
             cb: Cb::Suspend,
         },
+        Change::Cancel { dev },
         goes_on(SuspendStage::Running {
             dev,
             flags,
@@ -186,15 +193,16 @@ fn ends(plan: &Plan, parts: &Parts, dev: DevId, flags: u8, time: u64) -> Move
             cb: Cb::Suspend,
             code,
         },
+        Change::SuspendEnded { dev, code },
         goes_on(next),
     )
 }
 
 // The status line with which the device is suspended.
 fn suspended(dev: DevId, word: Word, next: SuspendStage) -> Move
-    ensures { result ≡ move.Write (event.State dev word) (goes_on next) }
+    ensures { result ≡ move.Write (event.State dev word) change.Same (goes_on next) }
 {
-    Move::Write(Event::State { dev, word }, goes_on(next))
+    Move::Write(Event::State { dev, word }, Change::Same, goes_on(next))
 }
 
 // S4
@@ -210,6 +218,7 @@ fn links(plan: &Plan, parts: &Parts, dev: DevId, flags: u8) -> Move
                 dev: supplier,
                 why: Why::Link(dev),
             },
+            Change::Same,
             calls(
                 Stage::Idle(IdleStage::Given {
                     dev: supplier,
@@ -242,6 +251,7 @@ fn domain(plan: &Plan, parts: &Parts, dev: DevId, flags: u8) -> Move
                 up: false,
                 count: parts.down_count(plan, dev),
             },
+            Change::Same,
             goes_on(SuspendStage::Links { dev, flags }),
         );
     }
@@ -256,9 +266,14 @@ fn parent(plan: &Plan, parts: &Parts, dev: DevId, flags: u8) -> Move
     ensures { result ≡ move_of (suspend_parent plan.now parts.now.views dev flags) }
 {
     if !parts.tells_parent(plan, dev) {
-        return returns(Cb::Suspend, dev, 0);
+        return returns(Cb::Suspend, dev, 0, Change::Same);
     }
-    parts.calls_idle(parent_of(plan, dev), 1, Await::SuspendParent { dev, flags })
+    parts.calls_idle(
+        parent_of(plan, dev),
+        1,
+        Change::Same,
+        Await::SuspendParent { dev, flags },
+    )
 }
 
 // S2, once its callback's time has passed.
@@ -319,6 +334,6 @@ pub fn next(plan: &Plan, parts: &Parts, stage: SuspendStage, time: u64) -> Move
             )
         }
         SuspendStage::Parent { dev, flags } => parent(plan, parts, dev, flags),
-        SuspendStage::Done { dev, code, .. } => returns(Cb::Suspend, dev, code),
+        SuspendStage::Done { dev, code, .. } => returns(Cb::Suspend, dev, code, Change::Same),
     }
 }

@@ -6,5 +6,5 @@ use Rattle.pm_apply.proofs.apply.Goals as goal
 
 pub happen-requires-clause-fits : goal.happen-requires-clause-fits
 happen-requires-clause-fits c =
-    subst (λ parts. CanHappen c.args.plan.now parts.views c.args.line.now.event) (sym c.changes.ensures)
-    (can_happen c.args.plan.now c.args.parts.now.views c.args.stage c.args.line.now.time c.args.line.now.event c.requires.happens)
+    subst (λ parts. CanHappen c.args.plan.now parts.views c.args.line.now.event) (sym c.change.ensures)
+    (can_happen c.args.plan.now c.args.parts.now.views c.args.named c.args.line.now.time c.args.line.now.event c.requires.happens)

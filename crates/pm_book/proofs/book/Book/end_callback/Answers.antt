@@ -11,9 +11,9 @@ write_end-requires-clause-may c =
     let at = subst (λ (p : Pages). line.time ≡ moment_from p.lines c.args.now) (sym c.self.view_is) c.moment-time.ensures.moment in
     let free = subst (λ (p : Pages). is_full p ≡ false) (sym c.self.view_is) (sym c.if-is_full.ensures) in
     let writes = sym (c.in-Writes.ensures.turn (λ same. cc same)) in
-    let may = subst (λ (p : Pages). MayWrite p c.in-Writes.stage line c.in-Writes.then) c.self.view_is
-    (may_by_ending b.plan (reverse b.lines.lines) b.state.world c.args.actor c.args.now line.time c.in-Writes.stage c.in-Writes.event c.in-Writes.then c.self.invariant.world_is
-    at c.moment-time.ensures.in_time free writes c.in-Writes.ensures.passed.0 c.in-Writes.ensures.passed.1) in
+    let may = subst (λ (p : Pages). MayWrite p c.in-Writes.stage line c.in-Writes.change c.in-Writes.then) c.self.view_is
+    (may_by_ending b.plan (reverse b.lines.lines) b.state.world c.args.actor c.args.now line.time c.in-Writes.stage c.in-Writes.event c.in-Writes.change c.in-Writes.then c.self.invariant.world_is
+    at c.moment-time.ensures.in_time free writes c.in-Writes.ensures.passed) in
     may
 
 pub returns-then-write_end-clause-writes : goal.returns-then-write_end-clause-writes
@@ -23,8 +23,8 @@ returns-then-write_end-clause-writes c =
     let at = subst (λ (p : Pages). line.time ≡ moment_from p.lines c.args.now) (sym c.self.view_is) c.moment-time.ensures.moment in
     let free = subst (λ (p : Pages). is_full p ≡ false) (sym c.self.view_is) (sym c.if-is_full.ensures) in
     let writes = sym (c.in-Writes.ensures.turn (λ same. cc same)) in
-    let may = subst (λ (p : Pages). MayWrite p c.in-Writes.stage line c.in-Writes.then) c.self.view_is
-    (may_by_ending b.plan (reverse b.lines.lines) b.state.world c.args.actor c.args.now line.time c.in-Writes.stage c.in-Writes.event c.in-Writes.then c.self.invariant.world_is
-    at c.moment-time.ensures.in_time free writes c.in-Writes.ensures.passed.0 c.in-Writes.ensures.passed.1) in
-    λ _. adds c.args.self.now c.write_end.new.self c.in-Writes.stage line c.in-Writes.then (moment_from c.args.self.now.lines c.args.now) may c.moment-time.ensures.moment
+    let may = subst (λ (p : Pages). MayWrite p c.in-Writes.stage line c.in-Writes.change c.in-Writes.then) c.self.view_is
+    (may_by_ending b.plan (reverse b.lines.lines) b.state.world c.args.actor c.args.now line.time c.in-Writes.stage c.in-Writes.event c.in-Writes.change c.in-Writes.then c.self.invariant.world_is
+    at c.moment-time.ensures.in_time free writes c.in-Writes.ensures.passed) in
+    λ _. adds c.args.self.now c.write_end.new.self c.in-Writes.stage line c.in-Writes.change c.in-Writes.then (moment_from c.args.self.now.lines c.args.now) may c.moment-time.ensures.moment
     (c.if-write_end.ensures.written refl)

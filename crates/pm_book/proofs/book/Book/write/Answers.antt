@@ -19,10 +19,10 @@ pub invariant_of-self-2 : goal.invariant_of-self-2
 invariant_of-self-2 c =
     let b = c.self.inside in
     let line = c.args.line in
-    let may = subst (λ (p : Pages). MayWrite p c.args.stage line c.args.then) (sym c.self.view_is) c.requires.may in
+    let may = subst (λ (p : Pages). MayWrite p c.args.stage line c.args.change c.args.then) (sym c.self.view_is) c.requires.may in
     let actor = subst (λ (p : Pages). IsActor p.plan line.actor) (sym c.self.view_is) c.requires.in_range in
-    let kept = kept_step b.plan b.state b.turns (reverse b.lines.lines) c.args.stage line c.args.then c.self.invariant actor may in
-    let after : Standing = record b.state { world = after_write b.plan b.state.world c.args.stage line c.args.then } in
+    let kept = kept_step b.plan b.state b.turns (reverse b.lines.lines) c.args.stage line c.args.change c.args.then c.self.invariant actor may in
+    let after : Standing = record b.state { world = after_write b.plan b.state.world c.args.change line c.args.then } in
     let lines = reverse-push b.lines.lines c.push.new.self.lines line (subst (λ (l : List Line). c.push.new.self.lines ≡ l ++ line ∷ []) c.make_room.ensures.lines c.push.ensures.lines) in
     subst (λ (s : Standing). IsKept b.plan s c.settle.new.self (reverse c.push.new.self.lines)) (sym c.in_ok-go.ensures.ok)
     (subst (λ (seats : Seats). IsKept b.plan after seats (reverse c.push.new.self.lines)) (sym (c.settle.ensures ∙ c.reserve.ensures))
