@@ -94,7 +94,7 @@ fn fire(parts: &mut Parts, dev: DevId, act: TimerAct)
     ensures { parts.new ≡ record parts.old { views = by_timer dev act parts.old.views } }
 {
     match act {
-        TimerAct::Arm { at, auto_on } => parts.arm(dev, at, auto_on),
+        TimerAct::Arm { at, autosuspends } => parts.arm(dev, at, autosuspends),
         TimerAct::Fire { .. } => parts.disarm(dev),
     }
 }

@@ -110,5 +110,5 @@ pub struct Armed {
     /// When it fires, in milliseconds of the run.
     pub deadline: u64,
     /// Whether an autosuspend armed it, and not `schedule_suspend`.
-    pub auto_on: bool,
+    pub autosuspends: bool,
 }

@@ -49,7 +49,7 @@ write_is plan w s line e c next stands gives =
     (after_row plan w line (due plan w.views s) e c next (row plan w.views s line.time) gives)
 
 placed_of : (plan : Plan) (s : Standing) (w : World) (actor : ActorId) (stages : List Stage) → IsOf plan s
-    → w.callers ≡ s.world.callers → w.works ≡ s.world.works → w.timers ≡ s.world.timers → length w.called ≡ length s.world.called
+    → w.caller_places ≡ s.world.caller_places → w.work_places ≡ s.world.work_places → w.timer_places ≡ s.world.timer_places → length w.called ≡ length s.world.called
     → IsOf plan (record s { world = with_place w actor stages })
 placed_of plan s w (Caller c) stages is callers works timers called = record {
   made_for = is.made_for;

@@ -8,7 +8,7 @@ use Rattle.pm_model.specs.IsPlan.{is_command}
 -- the device of a stage
 abbrev pub device_of : ControlStage → DevId
 device_of (control.Start c) = c.dev
-device_of (control.DisableGiven d) = d
+device_of (control.DisablePut d) = d
 device_of (control.Disable d) = d
 device_of (control.Disabled d) = d
 device_of (control.BarrierResume d) = d

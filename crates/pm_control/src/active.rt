@@ -6,9 +6,9 @@ ghost use Rattle.pm_model.specs.ControlTable.{active_links, active_starts, activ
 ghost use Rattle.pm_model.specs.Row.{move_of};
 ghost use Rattle.pm_device.specs.Parts.{IsFor};
 
-use crate::{gives, goes_on, takes, writes_status};
+use crate::{gives, control_goes, takes, writes_status};
 use pm_base::{DevId, EAGAIN, EBUSY, Why};
-use pm_device::{Parts, calls, parent_of, ret, returning, supplier_call};
+use pm_device::{Parts, calls, parent_of, helper_returns, then_returns, supplier_call};
 use pm_model::{Await, Change, ControlStage, Helper, IdleStage, Move, Plan, Stage, Word};
 
 // The device becomes Active.
@@ -18,7 +18,7 @@ fn forces_active(dev: DevId) -> Move
     writes_status(
         dev,
         Word::ForcedActive,
-        returning(Helper::SetActive, dev, 0),
+        then_returns(Helper::SetActive, dev, 0),
     )
 }
 
@@ -30,7 +30,7 @@ pub fn active_starts(plan: &Plan, parts: &Parts, dev: DevId) -> Move
     ensures { result ≡ move_of (active_starts plan.now parts.now.views dev) }
 {
     if parts.may_not_force(dev) {
-        return ret(Helper::SetActive, dev, EAGAIN, Change::Same);
+        return helper_returns(Helper::SetActive, dev, EAGAIN, Change::Same);
     }
     if parts.is_active(dev) {
         return forces_active(dev);
@@ -39,11 +39,11 @@ pub fn active_starts(plan: &Plan, parts: &Parts, dev: DevId) -> Move
         return writes_status(
             dev,
             Word::Resuming,
-            goes_on(ControlStage::ActiveLinks { dev }),
+            control_goes(ControlStage::ActiveLinks { dev }),
         );
     }
     if parts.awaits_parent(plan, dev) {
-        return ret(Helper::SetActive, dev, EBUSY, Change::Same);
+        return helper_returns(Helper::SetActive, dev, EBUSY, Change::Same);
     }
     forces_active(dev)
 }
@@ -57,7 +57,7 @@ pub fn active_unwinds(plan: &Plan, parts: &Parts, dev: DevId, code: i32) -> Move
 {
     match parts.first_held(plan, dev) {
         Some((_, supplier)) => {
-            let given = Stage::Idle(IdleStage::Given {
+            let given = Stage::Idle(IdleStage::AfterPut {
                 dev: supplier,
                 flags: 5,
             });
@@ -70,7 +70,7 @@ pub fn active_unwinds(plan: &Plan, parts: &Parts, dev: DevId, code: i32) -> Move
         None => writes_status(
             dev,
             Word::Suspended,
-            returning(Helper::SetActive, dev, code),
+            then_returns(Helper::SetActive, dev, code),
         ),
     }
 }
@@ -108,10 +108,10 @@ pub fn suspended_starts(parts: &Parts, dev: DevId) -> Move
     ensures { result ≡ move_of (suspended_starts parts.now.views dev) }
 {
     if parts.may_not_force(dev) {
-        return ret(Helper::SetSuspended, dev, EAGAIN, Change::Same);
+        return helper_returns(Helper::SetSuspended, dev, EAGAIN, Change::Same);
     }
     let next = ControlStage::SuppliersIdle { dev, last: None };
-    writes_status(dev, Word::ForcedSuspended, goes_on(next))
+    writes_status(dev, Word::ForcedSuspended, control_goes(next))
 }
 
 /// `set_suspended` tells each supplier in turn, then the parent.
@@ -138,7 +138,7 @@ pub fn suppliers_idle(plan: &Plan, parts: &Parts, dev: DevId, last: Option<DevId
                 };
                 parts.calls_idle(parent_of(plan, dev), 1, Change::Same, under)
             } else {
-                ret(Helper::SetSuspended, dev, 0, Change::Same)
+                helper_returns(Helper::SetSuspended, dev, 0, Change::Same)
             }
         }
     }

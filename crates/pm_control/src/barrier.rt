@@ -5,9 +5,9 @@ ghost use Rattle.pm_model.specs.ControlTable.{barrier_ends, barrier_idles, barri
 ghost use Rattle.pm_model.specs.Row.{move_of};
 ghost use Rattle.pm_device.specs.Parts.{IsFor};
 
-use crate::{gives, goes_on};
+use crate::{gives, control_goes};
 use pm_base::{DevId, Why};
-use pm_device::{Parts, returning};
+use pm_device::{Parts, then_returns};
 use pm_model::{Await, Change, ControlStage, Event, Helper, Move, Plan, Purpose};
 
 /// Once no resume is pending.
@@ -20,7 +20,7 @@ pub fn barrier_idles(parts: &Parts, dev: DevId, code: i32) -> Move
         return Move::Write(
             Event::Wait { dev },
             Change::CancelAll { dev },
-            goes_on(ControlStage::BarrierWait { dev, code }),
+            control_goes(ControlStage::BarrierWait { dev, code }),
         );
     }
     Move::Write(
@@ -29,7 +29,7 @@ pub fn barrier_idles(parts: &Parts, dev: DevId, code: i32) -> Move
             why: Why::Control,
         },
         Change::CancelAll { dev },
-        returning(Helper::Barrier, dev, code),
+        then_returns(Helper::Barrier, dev, code),
     )
 }
 
@@ -55,5 +55,5 @@ pub fn barrier_ends(parts: &Parts, dev: DevId, code: i32) -> Move
     if parts.busy(dev) {
         return Move::Wait(dev);
     }
-    gives(dev, Why::Control, returning(Helper::Barrier, dev, code))
+    gives(dev, Why::Control, then_returns(Helper::Barrier, dev, code))
 }

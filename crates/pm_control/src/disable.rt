@@ -4,9 +4,9 @@ ghost use Rattle.std.specs.Prelude.{◌≡◌, ◌<◌, length};
 ghost use Rattle.pm_model.specs.ControlTable.{disable_ends, disable_starts, disabling, enabling};
 ghost use Rattle.pm_model.specs.Row.{move_of};
 
-use crate::{goes_on, takes};
+use crate::{control_goes, takes};
 use pm_base::{DevId, EINVAL, Why};
-use pm_device::{Parts, calls, ret, to_resume};
+use pm_device::{Parts, calls, helper_returns, to_resume};
 use pm_model::{Await, Change, ControlStage, Event, Helper, Move};
 
 /// `enable`.
@@ -16,9 +16,9 @@ pub fn enabling(parts: &Parts, dev: DevId) -> Move
     ensures { result ≡ move_of (enabling parts.now.views dev) }
 {
     if parts.is_disabled(dev) {
-        ret(Helper::Enable, dev, 0, Change::Enable { dev })
+        helper_returns(Helper::Enable, dev, 0, Change::Enable { dev })
     } else {
-        ret(Helper::Enable, dev, EINVAL, Change::Same)
+        helper_returns(Helper::Enable, dev, EINVAL, Change::Same)
     }
 }
 
@@ -29,16 +29,16 @@ pub fn disabling(parts: &Parts, dev: DevId) -> Move
     ensures { result ≡ move_of (disabling parts.now.views dev) }
 {
     if parts.is_disabled(dev) {
-        return ret(Helper::Disable, dev, 0, Change::Disable { dev });
+        return helper_returns(Helper::Disable, dev, 0, Change::Disable { dev });
     }
     if parts.busy(dev) {
         return Move::Write(
             Event::Wait { dev },
             Change::DisableBusy { dev },
-            goes_on(ControlStage::Disabled { dev }),
+            control_goes(ControlStage::Disabled { dev }),
         );
     }
-    ret(Helper::Disable, dev, 0, Change::DisableAtOnce { dev })
+    helper_returns(Helper::Disable, dev, 0, Change::DisableAtOnce { dev })
 }
 
 /// [X1]
@@ -64,7 +64,7 @@ pub fn disable_ends(parts: &Parts, dev: DevId) -> Move
         return Move::Wait(dev);
     }
     if parts.is_disabled(dev) {
-        return ret(Helper::Disable, dev, 0, Change::KeepStatus { dev });
+        return helper_returns(Helper::Disable, dev, 0, Change::KeepStatus { dev });
     }
-    ret(Helper::Disable, dev, 0, Change::Same)
+    helper_returns(Helper::Disable, dev, 0, Change::Same)
 }

@@ -9,7 +9,7 @@ ghost use Rattle.pm_model.specs.declared.event.Helper.TheVariants as helper;
 ghost use Rattle.pm_model.specs.declared.stage.Change.TheVariants as change;
 ghost use Rattle.pm_model.specs.declared.stage.Move.TheVariants as move;
 ghost use Rattle.pm_model.specs.declared.stage.Stage.TheVariants as the_stage;
-ghost use Rattle.pm_model.specs.ControlTable.{control_row, control_starts, goes_on};
+ghost use Rattle.pm_model.specs.ControlTable.{control_row, control_starts, control_goes};
 ghost use Rattle.pm_model.specs.IsPlan.{is_command};
 ghost use Rattle.pm_model.specs.Row.{move_of, timed};
 ghost use Rattle.pm_model.specs.World.{due};
@@ -23,12 +23,12 @@ mod setting;
 mod topology;
 
 use pm_base::{DevId, Why};
-use pm_device::{Parts, added, goes, removed, ret};
+use pm_device::{Parts, added, goes, removed, helper_returns};
 use pm_model::{Change, Command, ControlStage, Event, Helper, Move, Plan, Stage, Then, Word};
 
 // A stage of a control function takes the place.
-fn goes_on(stage: ControlStage) -> Then
-    ensures { result ≡ goes_on stage }
+fn control_goes(stage: ControlStage) -> Then
+    ensures { result ≡ control_goes stage }
 {
     goes(Stage::Control(stage))
 }
@@ -90,7 +90,7 @@ fn starts(plan: &Plan, parts: &Parts, command: Command, time: u64) -> Move
             takes(
                 dev,
                 Why::Control,
-                goes_on(ControlStage::BarrierResume { dev }),
+                control_goes(ControlStage::BarrierResume { dev }),
             )
         }
         Helper::SetActive => active::active_starts(plan, parts, dev),
@@ -104,8 +104,8 @@ fn starts(plan: &Plan, parts: &Parts, command: Command, time: u64) -> Move
         }
         Helper::LinkAdd => topology::link_adds(plan, parts, dev, added(plan, command)),
         Helper::LinkDel => topology::link_dels(plan, parts, dev, removed(plan, command)),
-        Helper::MarkLastBusy => ret(helper, dev, 0, Change::MarkBusy { dev }),
-        Helper::IgnoreChildren => ret(
+        Helper::MarkLastBusy => helper_returns(helper, dev, 0, Change::MarkBusy { dev }),
+        Helper::IgnoreChildren => helper_returns(
             helper,
             dev,
             0,
@@ -114,7 +114,7 @@ fn starts(plan: &Plan, parts: &Parts, command: Command, time: u64) -> Move
                 ignores: number != 0,
             },
         ),
-        _ => ret(helper, dev, 0, Change::Same),
+        _ => helper_returns(helper, dev, 0, Change::Same),
     }
 }
 
@@ -129,8 +129,8 @@ pub fn next(plan: &Plan, parts: &Parts, stage: ControlStage, time: u64) -> Move
 {
     match stage {
         ControlStage::Start { command } => starts(plan, parts, command, time),
-        ControlStage::DisableGiven { dev } => {
-            gives(dev, Why::Control, goes_on(ControlStage::Disable { dev }))
+        ControlStage::DisablePut { dev } => {
+            gives(dev, Why::Control, control_goes(ControlStage::Disable { dev }))
         }
         ControlStage::Disable { dev } => disable::disabling(parts, dev),
         ControlStage::Disabled { dev } => disable::disable_ends(parts, dev),

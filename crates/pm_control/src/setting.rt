@@ -9,7 +9,7 @@ ghost use Rattle.pm_device.specs.Parts.{IsFor};
 
 use crate::{gives, takes};
 use pm_base::{DevId, Why};
-use pm_device::{Parts, calls, prevented, ret, returning, to_resume};
+use pm_device::{Parts, calls, prevented, helper_returns, then_returns, to_resume};
 use pm_model::{Await, Change, Event, Helper, IdleStage, Move, Plan, Stage, TimerAct};
 
 /// `forbid`.
@@ -19,7 +19,7 @@ pub fn forbidding(parts: &Parts, dev: DevId) -> Move
     ensures { result ≡ move_of (forbidding parts.now.views dev) }
 {
     if !parts.device(dev).auto_on {
-        return ret(Helper::Forbid, dev, 0, Change::Same);
+        return helper_returns(Helper::Forbid, dev, 0, Change::Same);
     }
     let under = Await::ReturnZero {
         helper: Helper::Forbid,
@@ -35,9 +35,9 @@ pub fn allowing(parts: &Parts, dev: DevId) -> Move
     ensures { result ≡ move_of (allowing parts.now.views dev) }
 {
     if parts.device(dev).auto_on {
-        return ret(Helper::Allow, dev, 0, Change::Same);
+        return helper_returns(Helper::Allow, dev, 0, Change::Same);
     }
-    let given = Stage::Idle(IdleStage::Given { dev, flags: 9 });
+    let given = Stage::Idle(IdleStage::AfterPut { dev, flags: 9 });
     let under = Await::ReturnZero {
         helper: Helper::Allow,
         dev,
@@ -71,7 +71,7 @@ pub fn sets(parts: &Parts, helper: Helper, dev: DevId, use_auto: bool, delay: i6
         );
     }
     if was && is {
-        return ret(helper, dev, 0, new);
+        return helper_returns(helper, dev, 0, new);
     }
     if was && !is {
         let idle = Stage::Idle(IdleStage::Enter { dev, flags: 8 });
@@ -101,15 +101,15 @@ pub fn schedules(plan: &Plan, parts: &Parts, dev: DevId, ms: u64, time: u64) -> 
     }
     let refusal = parts.refusal(plan, dev);
     if refusal != 0 {
-        return ret(helper, dev, refusal, Change::Same);
+        return helper_returns(helper, dev, refusal, Change::Same);
     }
     let act = TimerAct::Arm {
         at: time + ms,
-        auto_on: false,
+        autosuspends: false,
     };
     Move::Write(
         Event::Timer { dev, act },
         Change::CancelRequest { dev },
-        returning(helper, dev, 0),
+        then_returns(helper, dev, 0),
     )
 }

@@ -7,7 +7,7 @@ ghost use Rattle.pm_model.specs.Row.{move_of};
 ghost use Rattle.pm_device.specs.Parts.{IsFor};
 
 use pm_base::{DevId, EAGAIN, EINVAL, Why};
-use pm_device::{Parts, calls, ret};
+use pm_device::{Parts, calls, helper_returns};
 use pm_model::{Await, Change, Event, Helper, IdleStage, Move, Plan, Stage};
 
 // No link of the pair can be added now.
@@ -47,11 +47,11 @@ pub fn link_adds(plan: &Plan, parts: &Parts, consumer: DevId, supplier: DevId) -
         present: true,
     };
     if cannot_add(plan, parts, consumer, supplier) {
-        ret(Helper::LinkAdd, consumer, EINVAL, Change::Same)
+        helper_returns(Helper::LinkAdd, consumer, EINVAL, Change::Same)
     } else if is_at_work(parts, consumer) {
-        ret(Helper::LinkAdd, consumer, EAGAIN, Change::Same)
+        helper_returns(Helper::LinkAdd, consumer, EAGAIN, Change::Same)
     } else {
-        ret(Helper::LinkAdd, consumer, 0, change)
+        helper_returns(Helper::LinkAdd, consumer, 0, change)
     }
 }
 
@@ -68,13 +68,13 @@ pub fn link_dels(plan: &Plan, parts: &Parts, consumer: DevId, supplier: DevId) -
         present: false,
     };
     if cannot_remove(plan, parts, consumer, supplier) {
-        return ret(Helper::LinkDel, consumer, EINVAL, Change::Same);
+        return helper_returns(Helper::LinkDel, consumer, EINVAL, Change::Same);
     }
     if parts.busy(consumer) {
-        return ret(Helper::LinkDel, consumer, EAGAIN, Change::Same);
+        return helper_returns(Helper::LinkDel, consumer, EAGAIN, Change::Same);
     }
     if parts.is_held(plan, consumer, supplier) {
-        let given = Stage::Idle(IdleStage::Given {
+        let given = Stage::Idle(IdleStage::AfterPut {
             dev: supplier,
             flags: 5,
         });
@@ -91,5 +91,5 @@ pub fn link_dels(plan: &Plan, parts: &Parts, consumer: DevId, supplier: DevId) -
             calls(given, under),
         );
     }
-    ret(Helper::LinkDel, consumer, 0, change)
+    helper_returns(Helper::LinkDel, consumer, 0, change)
 }

@@ -284,11 +284,11 @@ impl Parts {
     }
 
     /// The timer fires at this moment, in milliseconds of the run.
-    pub fn arm(&mut self, dev: DevId, at: u64, auto_on: bool)
+    pub fn arm(&mut self, dev: DevId, at: u64, autosuspends: bool)
         requires { dev.0 < length self.old.shape.parents }
-        ensures { self.new ≡ record self.old { views = by_timer dev (Arm at auto_on) self.old.views } }
+        ensures { self.new ≡ record self.old { views = by_timer dev (Arm at autosuspends) self.old.views } }
     {
-        self.timers.arm(dev, at, auto_on);
+        self.timers.arm(dev, at, autosuspends);
     }
 
     /// No timer is armed.

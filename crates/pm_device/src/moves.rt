@@ -8,7 +8,7 @@ ghost use Rattle.pm_model.specs.declared.stage.Change.TheVariants.{Same};
 ghost use Rattle.pm_model.specs.declared.stage.Move.TheVariants as move;
 ghost use Rattle.pm_model.specs.declared.stage.ResumeStage.TheVariants as resume;
 ghost use Rattle.pm_model.specs.declared.stage.Stage.TheVariants as the_stage;
-ghost use Rattle.pm_model.specs.HelperTable.{returning, to_resume};
+ghost use Rattle.pm_model.specs.HelperTable.{then_returns, to_resume};
 ghost use Rattle.pm_model.specs.ResumeTable.{resumes_supplier};
 ghost use Rattle.pm_model.specs.Row.{back, calls, goes, idles, move_of, resumes, suspends};
 ghost use Rattle.pm_device.specs.Parts.{IsFor};
@@ -51,22 +51,22 @@ pub fn back(code: i32) -> Then
 }
 
 /// A return line, after which the call ends with its code.
-pub fn returns(func: Cb, dev: DevId, code: i32, change: Change) -> Move
+pub fn call_returns(func: Cb, dev: DevId, code: i32, change: Change) -> Move
     ensures { result ≡ move.Write (event.Return func dev code) change (back code) }
 {
     Move::Write(Event::Return { func, dev, code }, change, back(code))
 }
 
 /// The return line of a helper, after which its actor's place is empty.
-pub fn ret(helper: Helper, dev: DevId, code: i32, change: Change) -> Move
+pub fn helper_returns(helper: Helper, dev: DevId, code: i32, change: Change) -> Move
     ensures { result ≡ move.Write (event.Ret helper dev code) change (back code) }
 {
     Move::Write(Event::Ret { helper, dev, code }, change, back(code))
 }
 
 /// The return line of a helper comes next.
-pub fn returning(helper: Helper, dev: DevId, code: i32) -> Then
-    ensures { result ≡ returning helper dev code }
+pub fn then_returns(helper: Helper, dev: DevId, code: i32) -> Then
+    ensures { result ≡ then_returns helper dev code }
 {
     goes(Stage::Helper(HelperStage::Ret { helper, dev, code }))
 }

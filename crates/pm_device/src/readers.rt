@@ -118,7 +118,7 @@ impl Parts {
         ensures { result ≡ has_auto_timer self.now.views dev }
     {
         match self.timer(dev) {
-            Some(armed) => armed.auto_on,
+            Some(armed) => armed.autosuspends,
             None => false,
         }
     }

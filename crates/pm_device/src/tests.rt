@@ -217,7 +217,7 @@ fn sets(parts: &mut Parts, dev: DevId, change: Change)
         Change::Deferred(deferred) => parts.set_deferred(dev, deferred),
         Change::CancelRequest => parts.cancel_request(dev),
         Change::Clear => parts.clear(dev),
-        Change::Arm(at, auto_on) => parts.arm(dev, at, auto_on),
+        Change::Arm(at, autosuspends) => parts.arm(dev, at, autosuspends),
         Change::Cancel => parts.cancel(dev),
         Change::CancelAll => parts.cancel_all(dev),
         Change::ResumeCancel => parts.rcancel(dev),

@@ -8,7 +8,7 @@ abbrev pub ReadsWithin : ℕ → HelperStage → Type 0
 ReadsWithin n (at.Work d) = d.0 < n
 ReadsWithin n (at.Timer d) = d.0 < n
 ReadsWithin n (at.Start c) = c.dev.0 < n
-ReadsWithin n (at.Given c) = c.dev.0 < n
+ReadsWithin n (at.PutSuspends c) = c.dev.0 < n
 ReadsWithin n _ = Unit {0}
 
 -- the moment at which a delay ends is below 2^64

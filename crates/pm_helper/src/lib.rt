@@ -11,15 +11,15 @@ ghost use Rattle.pm_model.specs.declared.event.WorkAct.TheVariants.{Run};
 ghost use Rattle.pm_model.specs.declared.stage.Change.TheVariants as change;
 ghost use Rattle.pm_model.specs.declared.stage.Move.TheVariants as move;
 ghost use Rattle.pm_model.specs.declared.stage.Stage.TheVariants as the_stage;
-ghost use Rattle.pm_model.specs.HelperTable.{begins, carries_out, flags_of, gets_if, helper_row, helper_starts, put_suspends, puts, timer_fires, to_idle, to_suspend};
-ghost use Rattle.pm_model.specs.Row.{move_of, ret, timed};
+ghost use Rattle.pm_model.specs.HelperTable.{begins, carries_out, flags_of, gets_if, helper_row, helper_starts, put_suspends, callers_put, timer_fires, to_idle, to_suspend};
+ghost use Rattle.pm_model.specs.Row.{move_of, helper_returns, timed};
 ghost use Rattle.pm_model.specs.Views.{pending_of, timer};
 ghost use Rattle.pm_model.specs.World.{due};
 ghost use Rattle.pm_device.specs.Parts.{IsFor};
 ghost use Rattle.pm_helper.specs.HelperMove.{CanTell, ReadsWithin};
 
 use pm_base::{DevId, EINVAL, Req, Why};
-use pm_device::{Parts, back, calls, goes, ret, returning, to_resume};
+use pm_device::{Parts, back, calls, goes, helper_returns, then_returns, to_resume};
 use pm_model::{
     Await, Change, Command, ControlStage, Event, Helper, HelperStage, IdleStage, Move, Plan, Stage,
     SuspendStage, Then, TimerAct, WorkAct,
@@ -112,22 +112,22 @@ fn gets_if(parts: &Parts, command: Command, holds: bool) -> Move
 {
     let Command { helper, dev, .. } = command;
     if parts.is_disabled(dev) {
-        ret(helper, dev, EINVAL, Change::Same)
+        helper_returns(helper, dev, EINVAL, Change::Same)
     } else if parts.is_active(dev) && holds {
-        takes(dev, returning(helper, dev, 1))
+        takes(dev, then_returns(helper, dev, 1))
     } else {
-        ret(helper, dev, 0, Change::Same)
+        helper_returns(helper, dev, 0, Change::Same)
     }
 }
 
 // A put finds a count that a caller took.
-fn puts(parts: &Parts, command: Command, then: Then) -> Move
+fn callers_put(parts: &Parts, command: Command, then: Then) -> Move
     requires { command.dev.0 < length parts.now.shape.parents }
-    ensures { result ≡ move_of (puts parts.now.views command then) }
+    ensures { result ≡ move_of (callers_put parts.now.views command then) }
 {
     let Command { helper, dev, .. } = command;
     if parts.device(dev).share == 0 {
-        return ret(helper, dev, EINVAL, Change::Same);
+        return helper_returns(helper, dev, EINVAL, Change::Same);
     }
     Move::Write(
         Event::Put {
@@ -150,19 +150,19 @@ fn starts(parts: &Parts, command: Command) -> Move
     let its_code = Await::Return { helper, dev };
     match helper {
         Helper::GetSync | Helper::Get => takes(dev, calls(to_resume(dev, flags), its_code)),
-        Helper::GetNoresume => takes(dev, returning(helper, dev, 0)),
+        Helper::GetNoresume => takes(dev, then_returns(helper, dev, 0)),
         Helper::GetIfInUse => gets_if(parts, command, parts.is_in_use(dev)),
         Helper::GetIfActive => gets_if(parts, command, true),
         Helper::Put | Helper::PutSync => {
-            let given = Stage::Idle(IdleStage::Given { dev, flags });
-            puts(parts, command, calls(given, its_code))
+            let given = Stage::Idle(IdleStage::AfterPut { dev, flags });
+            callers_put(parts, command, calls(given, its_code))
         }
         Helper::PutAutosuspend | Helper::PutSyncSuspend | Helper::PutSyncAutosuspend => {
-            let given = Stage::Helper(HelperStage::Given { command });
-            puts(parts, command, goes(given))
+            let given = Stage::Helper(HelperStage::PutSuspends { command });
+            callers_put(parts, command, goes(given))
         }
-        Helper::PutNoidle => puts(parts, command, returning(helper, dev, 0)),
-        _ => ret(helper, dev, 0, Change::Same),
+        Helper::PutNoidle => callers_put(parts, command, then_returns(helper, dev, 0)),
+        _ => helper_returns(helper, dev, 0, Change::Same),
     }
 }
 
@@ -182,7 +182,7 @@ fn put_suspends(plan: &Plan, parts: &Parts, command: Command) -> Move
                 fields: parts.fields(dev, flags),
             },
             Change::Same,
-            returning(helper, dev, 0),
+            then_returns(helper, dev, 0),
         );
     }
     parts.calls_suspend(dev, flags, Await::Return { helper, dev })
@@ -223,12 +223,12 @@ fn fires(parts: &Parts, dev: DevId) -> Move
     requires { dev.0 < length parts.now.shape.parents }
     ensures { result ≡ move_of (timer_fires parts.now.views dev) }
 {
-    let auto_on = parts.has_auto_timer(dev);
-    let flags = if auto_on { 9 } else { 1 };
+    let autosuspends = parts.has_auto_timer(dev);
+    let flags = if autosuspends { 9 } else { 1 };
     Move::Write(
         Event::Timer {
             dev,
-            act: TimerAct::Fire { auto_on },
+            act: TimerAct::Fire { autosuspends },
         },
         Change::Same,
         goes(to_suspend(dev, flags)),
@@ -255,13 +255,13 @@ fn timer(parts: &Parts, dev: DevId, time: u64) -> Move
 fn delay(ms: i64, since: u64, time: u64) -> Move
     requires positive { pos 0 ≤ℤ ms }
     requires reckons { since + nat_abs ms < 2 ^ 64 }
-    ensures { result ≡ timed (since + nat_abs ms) time (ret helper.Delay (record { 0 = 0 }) (pos 0) change.Same) }
+    ensures { result ≡ timed (since + nat_abs ms) time (helper_returns helper.Delay (record { 0 = 0 }) (pos 0) change.Same) }
 {
     let due = since + ms.unsigned_abs();
     if time < due {
         Move::Late(due)
     } else {
-        ret(Helper::Delay, DevId(0), 0, Change::Same)
+        helper_returns(Helper::Delay, DevId(0), 0, Change::Same)
     }
 }
 
@@ -281,8 +281,8 @@ pub fn next(plan: &Plan, parts: &Parts, stage: HelperStage, time: u64) -> Move
         HelperStage::Work { dev } => works(parts, dev),
         HelperStage::Timer { dev } => timer(parts, dev, time),
         HelperStage::Start { command } => starts(parts, command),
-        HelperStage::Given { command } => put_suspends(plan, parts, command),
+        HelperStage::PutSuspends { command } => put_suspends(plan, parts, command),
         HelperStage::Delay { ms, since } => delay(ms, since, time),
-        HelperStage::Ret { helper, dev, code } => ret(helper, dev, code, Change::Same),
+        HelperStage::Ret { helper, dev, code } => helper_returns(helper, dev, code, Change::Same),
     }
 }

@@ -16,7 +16,7 @@ device_of (idle.Verdict d f) = d
 device_of (idle.Running d f since) = d
 device_of (idle.Done d f c) = d
 device_of (idle.Queued d f) = d
-device_of (idle.Given d f) = d
+device_of (idle.AfterPut d f) = d
 
 -- where a callback runs, it has begun, and the moment at which it ends is below 2^64
 abbrev pub CanTell : Plan → Views → IdleStage → Type 0

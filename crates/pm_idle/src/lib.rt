@@ -9,7 +9,7 @@ ghost use Rattle.pm_model.specs.declared.stage.Change.TheVariants as change;
 ghost use Rattle.pm_model.specs.declared.stage.Move.TheVariants as move;
 ghost use Rattle.pm_model.specs.declared.stage.Stage.TheVariants as the_stage;
 ghost use Rattle.pm_model.specs.Derived.{begun};
-ghost use Rattle.pm_model.specs.IdleTable.{given, idle_ends, idle_row, idle_verdict, then_suspends};
+ghost use Rattle.pm_model.specs.IdleTable.{after_put, idle_ends, idle_row, idle_verdict, then_suspends};
 ghost use Rattle.pm_model.specs.PlanRows.{ms_of};
 ghost use Rattle.pm_model.specs.Row.{back, move_of, timed};
 ghost use Rattle.pm_model.specs.World.{due};
@@ -17,7 +17,7 @@ ghost use Rattle.pm_device.specs.Parts.{IsFor};
 ghost use Rattle.pm_idle.specs.IdleMove.{CanTell, device_of};
 
 use pm_base::{ASYNC, AUTO, Cb, DevId, EAGAIN, EINPROGRESS, Req};
-use pm_device::{Parts, back, goes, has, has_idle, is_above_idle, ms_of, returns};
+use pm_device::{Parts, back, goes, has, has_idle, is_above_idle, ms_of, call_returns};
 use pm_model::{Change, Event, IdleStage, Move, Plan, Stage, SuspendStage, Then, WorkAct};
 
 // An idle that answers 0 goes on to suspend by the autosuspend rule.
@@ -39,16 +39,16 @@ fn verdict(plan: &Plan, parts: &Parts, dev: DevId, flags: u8, time: u64) -> Move
 {
     let refusal = parts.refusal(plan, dev);
     if refusal < 0 {
-        return returns(Cb::Idle, dev, refusal, Change::Same);
+        return call_returns(Cb::Idle, dev, refusal, Change::Same);
     }
     if !parts.is_active(dev) {
-        return returns(Cb::Idle, dev, EAGAIN, Change::Same);
+        return call_returns(Cb::Idle, dev, EAGAIN, Change::Same);
     }
     if is_above_idle(parts.pending(dev).request) {
-        return returns(Cb::Idle, dev, EAGAIN, Change::Same);
+        return call_returns(Cb::Idle, dev, EAGAIN, Change::Same);
     }
     if parts.device(dev).idle_running {
-        return returns(Cb::Idle, dev, EINPROGRESS, Change::Same);
+        return call_returns(Cb::Idle, dev, EINPROGRESS, Change::Same);
     }
     if !has_idle(plan, dev) {
         return Move::Write(
@@ -139,11 +139,11 @@ fn done(dev: DevId, flags: u8, code: i32) -> Move
 }
 
 // T
-#[tactic(auto, unfolding(pm_model::specs::IdleTable::given))]
-fn given(plan: &Plan, parts: &Parts, dev: DevId, flags: u8) -> Move
+#[tactic(auto, unfolding(pm_model::specs::IdleTable::after_put))]
+fn after_put(plan: &Plan, parts: &Parts, dev: DevId, flags: u8) -> Move
     requires made_for { IsFor plan.now parts.now.shape }
     requires in_range { dev.0 < length plan.now.devices }
-    ensures { result ≡ move_of (given plan.now parts.now.views dev flags) }
+    ensures { result ≡ move_of (after_put plan.now parts.now.views dev flags) }
 {
     if parts.is_in_use(dev) {
         return Move::Write(
@@ -172,7 +172,7 @@ pub fn next(plan: &Plan, parts: &Parts, stage: IdleStage, time: u64) -> Move
         IdleStage::Verdict { dev, flags } => verdict(plan, parts, dev, flags, time),
         IdleStage::Running { dev, flags, since } => running(plan, parts, dev, flags, since, time),
         IdleStage::Done { dev, flags, code } => done(dev, flags, code),
-        IdleStage::Queued { dev, .. } => returns(Cb::Idle, dev, 0, Change::Same),
-        IdleStage::Given { dev, flags } => given(plan, parts, dev, flags),
+        IdleStage::Queued { dev, .. } => call_returns(Cb::Idle, dev, 0, Change::Same),
+        IdleStage::AfterPut { dev, flags } => after_put(plan, parts, dev, flags),
     }
 }

@@ -15,7 +15,7 @@ use Rattle.pm_model.specs.declared.stage.Change.TheVariants as change
 use Rattle.pm_model.specs.declared.stage.Stage.{Stage}
 use Rattle.pm_model.specs.declared.stage.Then.{Then}
 use Rattle.pm_model.specs.ChangeViews.{change_views}
-use Rattle.pm_model.specs.Counted.{takes, gives, frees, is_same, is_caller, says_on}
+use Rattle.pm_model.specs.Counted.{takes, gives, frees, is_same, is_callers, says_on}
 use Rattle.pm_model.specs.Events.{by_event, by_word, by_end, set_status, set_error, is_try_again}
 use Rattle.pm_model.specs.Row.{writes}
 use Rattle.pm_model.specs.Views.{Views, device}
@@ -55,11 +55,11 @@ quiet_counts plan v (event.End x cb.Suspend c) q d = elim q [ ]
 quiet_counts plan v _ q d = (refl, refl, refl)
 
 -- a put by a caller is a put, so an event that puts nothing spends no share
-caller_gives : (d : DevId) (e : Event) → gives is_caller d e ≡ true → gives (λ w. true) d e ≡ true
-caller_gives d (event.Put x w) c = rw (both (is_same d x) (is_caller w) c).0 refl
+caller_gives : (d : DevId) (e : Event) → gives is_callers d e ≡ true → gives (λ w. true) d e ≡ true
+caller_gives d (event.Put x w) c = rw (both (is_same d x) (is_callers w) c).0 refl
 caller_gives d _ c = absurd (false≢true c)
 
-spends_none : {A : Type 0} (d : DevId) (e : Event) → gives (λ w. true) d e ≡ false → gives is_caller d e ≡ true → A
+spends_none : {A : Type 0} (d : DevId) (e : Event) → gives (λ w. true) d e ≡ false → gives is_callers d e ≡ true → A
 spends_none d e none c = absurd (false≢true (sym none ∙ caller_gives d e c))
 
 -- a quiet event; where it is a pm_domain line, its row names no change

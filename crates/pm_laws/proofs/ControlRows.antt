@@ -13,7 +13,7 @@ use Rattle.pm_model.specs.declared.plan.Plan.{Plan}
 use Rattle.pm_model.specs.declared.stage.ControlStage.{ControlStage}
 use Rattle.pm_model.specs.declared.stage.ControlStage.TheVariants as control
 use Rattle.pm_model.specs.declared.stage.Stage.TheVariants as stage
-use Rattle.pm_model.specs.ControlTable.{enabling, disabling, disable_starts, disable_ends, barrier_idles, barrier_resumes, barrier_ends, may_not_force, forces_active, active_starts, gives_links, active_unwinds, takes_links, active_links, suspended_starts, tells_supplier, suppliers_idle, forbidding, allowing, sets, schedules, may_be_absent, is_pair_in, link_adds, link_dels, control_starts, control_row}
+use Rattle.pm_model.specs.ControlTable.{enabling, disabling, disable_starts, disable_ends, barrier_idles, barrier_resumes, barrier_ends, may_not_force, forces_active, active_starts, active_gives, active_unwinds, active_takes, active_links, suspended_starts, tells_supplier, suppliers_idle, forbidding, allowing, sets, schedules, may_be_absent, is_pair_in, link_adds, link_dels, control_starts, control_row}
 use Rattle.pm_model.specs.Derived.{refusal, has_error, is_disabled, is_active, is_suspended, is_moving, asks_resume, awaits_parent, busy, prevented, first_held, first_free, next_supplier, has_link}
 use Rattle.pm_model.specs.SuspendTable.{tells_parent}
 use Rattle.pm_model.specs.Views.{Views, device}
@@ -90,7 +90,7 @@ active_starts_keep plan v t d n k =
     either (awaits_parent plan v d) (λ _. search quiet) (λ _. forces_keep plan v t d n k (may_force v d may)))))
 
 gives_keep : (plan : Plan) (v : Views) (t : ℕ) (d : DevId) (c : ℤ) → Known plan v → (x : Option (ℕ × DevId)) → first_held plan v d ≡ x
-    → Owes plan v t (stage.Control (control.ActiveUnwind d c)) (gives_links d c x)
+    → Owes plan v t (stage.Control (control.ActiveUnwind d c)) (active_gives d c x)
 gives_keep plan v t d c k (Some link) e = gave_link d link.1 k tt (held_found plan v d link e) (λ _. (refl, refl)) (λ _. refl)
 gives_keep plan v t d c k None e = turn k tt tt (ends_resume d status.Suspended refl (λ _. refl) (λ _. (refl, refl)) (λ _. (refl, refl))) (λ _. refl)
 
@@ -100,7 +100,7 @@ unfolding active_unwinds
 unwinds_keep plan v t d c k = gives_keep plan v t d c k (first_held plan v d) refl
 
 takes_keep : (plan : Plan) (v : Views) (t : ℕ) (d : DevId) → Known plan v → (x : Option (ℕ × DevId)) → first_free plan v d ≡ x
-    → Owes plan v t (stage.Control (control.ActiveLinks d)) (takes_links plan v d x)
+    → Owes plan v t (stage.Control (control.ActiveLinks d)) (active_takes plan v d x)
 takes_keep plan v t d k (Some link) e = took_link d link.1 k (free_found plan v d link e) (λ _. (refl, refl)) (λ _. refl)
 takes_keep plan v t d k None e =
     either (awaits_parent plan v d) (λ _. alike (stage.Control (control.ActiveUnwind d EBUSY)) (λ _. (refl, refl)) (λ _. refl) (unwinds_keep plan v t d EBUSY k))
@@ -209,7 +209,7 @@ starts_keep plan v t _ d n k = search quiet
 
 pub control_keeps : (plan : Plan) (v : Views) (t : ℕ) (s : ControlStage) → Known plan v → Owes plan v t (stage.Control s) (control_row plan v s t)
 control_keeps plan v t (control.Start c) k = starts_keep plan v t c.helper c.dev c.number k
-control_keeps plan v t (control.DisableGiven d) k = gave_stages d why.Control k tt tt (λ _. (refl, refl)) (λ _. omega arith)
+control_keeps plan v t (control.DisablePut d) k = gave_stages d why.Control k tt tt (λ _. (refl, refl)) (λ _. omega arith)
 control_keeps plan v t (control.Disable d) k = disabling_keeps plan v t d k
 control_keeps plan v t (control.Disabled d) k = disable_ends_keep plan v t d k
 control_keeps plan v t (control.BarrierResume d) k = barrier_resumes_keep plan v t d k

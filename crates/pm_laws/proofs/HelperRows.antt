@@ -15,7 +15,7 @@ use Rattle.pm_model.specs.declared.stage.HelperStage.TheVariants as at
 use Rattle.pm_model.specs.declared.stage.Stage.TheVariants as stage
 use Rattle.pm_model.specs.declared.stage.Then.{Then}
 use Rattle.pm_model.specs.Derived.{is_active, is_disabled, is_in_use}
-use Rattle.pm_model.specs.HelperTable.{begins, gets_if, puts, helper_starts, put_suspends, carries_out, timer_fires, helper_row}
+use Rattle.pm_model.specs.HelperTable.{begins, gets_if, callers_put, helper_starts, put_suspends, carries_out, timer_fires, helper_row}
 use Rattle.pm_model.specs.Row.{writes}
 use Rattle.pm_model.specs.Views.{Views, device, pending_of}
 use Rattle.pm_laws.specs.Counts.{holds}
@@ -48,7 +48,7 @@ gets_if_keep plan v t c holds k =
     either (is_active v c.dev && holds) (λ _. search took_share) (λ _. search quiet))
 
 puts_keep : (plan : Plan) (v : Views) (t : ℕ) (c : Command) (next : Then) → Known plan v → SameOwners (stage.Helper (at.Start c)) next
-    → SameHolds plan (stage.Helper (at.Start c)) next → Owes plan v t (stage.Helper (at.Start c)) (puts v c next)
+    → SameHolds plan (stage.Helper (at.Start c)) next → Owes plan v t (stage.Helper (at.Start c)) (callers_put v c next)
 puts_keep plan v t c next k o h = either (nat_eq (device v c.dev).share 0) (λ _. search quiet) (λ some. gave_share c.dev k some o h)
 
 starts_keep : (plan : Plan) (v : Views) (t : ℕ) (h : Helper) (d : DevId) (n : ℤ) → Known plan v
@@ -67,7 +67,7 @@ starts_keep plan v t helper.PutSyncAutosuspend d n k = search puts_keep
 starts_keep plan v t helper.PutNoidle d n k = search puts_keep
 starts_keep plan v t _ d n k = search quiet
 
-put_suspends_keep : (plan : Plan) (v : Views) (t : ℕ) (c : Command) → Known plan v → Owes plan v t (stage.Helper (at.Given c)) (put_suspends plan v c)
+put_suspends_keep : (plan : Plan) (v : Views) (t : ℕ) (c : Command) → Known plan v → Owes plan v t (stage.Helper (at.PutSuspends c)) (put_suspends plan v c)
 unfolding put_suspends
 put_suspends_keep plan v t c k = either (is_in_use v c.dev) (λ _. search quiet) (λ _. search quiet)
 
@@ -76,6 +76,6 @@ helper_keeps plan v t (at.Call c) k = calls_keep plan v t c.helper c.dev c.numbe
 helper_keeps plan v t (at.Work d) k = works_keep plan v t d (pending_of v d).request k
 helper_keeps plan v t (at.Timer d) k = fires_keep plan v t d k
 helper_keeps plan v t (at.Start c) k = starts_keep plan v t c.helper c.dev c.number k
-helper_keeps plan v t (at.Given c) k = put_suspends_keep plan v t c k
+helper_keeps plan v t (at.PutSuspends c) k = put_suspends_keep plan v t c k
 helper_keeps plan v t (at.Delay ms since) k = search quiet
 helper_keeps plan v t (at.Ret h d c) k = search quiet

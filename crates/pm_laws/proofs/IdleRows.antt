@@ -8,7 +8,7 @@ use Rattle.pm_model.specs.declared.stage.IdleStage.{IdleStage}
 use Rattle.pm_model.specs.declared.stage.IdleStage.TheVariants as idle
 use Rattle.pm_model.specs.declared.stage.Stage.TheVariants as stage
 use Rattle.pm_model.specs.Derived.{refusal, is_active, is_in_use, has}
-use Rattle.pm_model.specs.IdleTable.{idle_row, idle_verdict, idle_ends, given, is_above_idle, then_suspends}
+use Rattle.pm_model.specs.IdleTable.{idle_row, idle_verdict, idle_ends, after_put, is_above_idle, then_suspends}
 use Rattle.pm_model.specs.PlanRows.{has_idle}
 use Rattle.pm_model.specs.Row.{back}
 use Rattle.pm_model.specs.Views.{Views, device, pending_of}
@@ -32,9 +32,9 @@ ends_keeps : (plan : Plan) (v : Views) (t : ℕ) (d : DevId) (f since : ℕ) →
 unfolding idle_ends
 ends_keeps plan v t d f since k = search quiet
 
-given_keeps : (plan : Plan) (v : Views) (t : ℕ) (d : DevId) (f : ℕ) → Known plan v → Owes plan v t (stage.Idle (idle.Given d f)) (given plan v d f)
-unfolding given
-given_keeps plan v t d f k = either (is_in_use v d) (λ _. search quiet) (λ _. search quiet)
+after_put_keeps : (plan : Plan) (v : Views) (t : ℕ) (d : DevId) (f : ℕ) → Known plan v → Owes plan v t (stage.Idle (idle.AfterPut d f)) (after_put plan v d f)
+unfolding after_put
+after_put_keeps plan v t d f k = either (is_in_use v d) (λ _. search quiet) (λ _. search quiet)
 
 done_keeps : (plan : Plan) (v : Views) (t : ℕ) (d : DevId) (f : ℕ) (c : ℤ) → Known plan v
     → Owes plan v t (stage.Idle (idle.Done d f c)) (idle_row plan v (idle.Done d f c) t)
@@ -49,4 +49,4 @@ idle_keeps plan v t (idle.Verdict d f) k = verdict_keeps plan v t d f k
 idle_keeps plan v t (idle.Running d f since) k = ends_keeps plan v t d f since k
 idle_keeps plan v t (idle.Done d f c) k = done_keeps plan v t d f c k
 idle_keeps plan v t (idle.Queued d f) k = search quiet
-idle_keeps plan v t (idle.Given d f) k = given_keeps plan v t d f k
+idle_keeps plan v t (idle.AfterPut d f) k = after_put_keeps plan v t d f k

@@ -67,9 +67,9 @@ then_keeps f is next rest = go next.back next.push
 
 -- the actor's place is among the places
 abbrev pub IsPlaced : World → ActorId → Type 0
-IsPlaced w (Caller c) = c < length w.callers
-IsPlaced w (Work d) = d < length w.works
-IsPlaced w (Timer d) = d < length w.timers
+IsPlaced w (Caller c) = c < length w.caller_places
+IsPlaced w (Work d) = d < length w.work_places
+IsPlaced w (Timer d) = d < length w.timer_places
 
 -- the sum over three lists of stacks
 pub tally_joined : (f : Stage → ℕ) (xs ys zs : List (List Stage)) → tally f (xs ++ ys ++ zs) ≡ tally f xs + tally f ys + tally f zs
@@ -78,17 +78,17 @@ tally_joined f xs ys zs = omega (arith, tally-append f (xs ++ ys) zs, tally-appe
 pub tally_placed : (f : Stage → ℕ) (w : World) (a : ActorId) (stack : List Stage) → IsPlaced w a
     → tally f (places (with_place w a stack)) + sum_by f (place w a) ≡ tally f (places w) + sum_by f stack
 tally_placed f w (Caller c) stack is =
-    let old = tally_joined f w.callers w.works w.timers in
-    let new = tally_joined f (slice_set w.callers c stack) w.works w.timers in
-    omega (arith, tally-set f w.callers c stack is)
+    let old = tally_joined f w.caller_places w.work_places w.timer_places in
+    let new = tally_joined f (slice_set w.caller_places c stack) w.work_places w.timer_places in
+    omega (arith, tally-set f w.caller_places c stack is)
 tally_placed f w (Work d) stack is =
-    let old = tally_joined f w.callers w.works w.timers in
-    let new = tally_joined f w.callers (slice_set w.works d stack) w.timers in
-    omega (arith, tally-set f w.works d stack is)
+    let old = tally_joined f w.caller_places w.work_places w.timer_places in
+    let new = tally_joined f w.caller_places (slice_set w.work_places d stack) w.timer_places in
+    omega (arith, tally-set f w.work_places d stack is)
 tally_placed f w (Timer d) stack is =
-    let old = tally_joined f w.callers w.works w.timers in
-    let new = tally_joined f w.callers w.works (slice_set w.timers d stack) in
-    omega (arith, tally-set f w.timers d stack is)
+    let old = tally_joined f w.caller_places w.work_places w.timer_places in
+    let new = tally_joined f w.caller_places w.work_places (slice_set w.timer_places d stack) in
+    omega (arith, tally-set f w.timer_places d stack is)
 
 -- where the actor is placed
 none_some : {A : Type 0} {P : Type 0} (x : A) → None ≡ Some x → P
@@ -97,31 +97,31 @@ none_some x e = cc
 within : {A : Type 0} (l : List A) (i : ℕ) (d : A) → (length l ≤ i → ⊥) → i < length l
 within l i d refuted = elim (cases_lt i (length l)) [ inl lt ↦ lt | inr le ↦ absurd (refuted le) ]
 
-past_caller : (plan : Plan) (w : World) (c : ℕ) (s : Stage) → HasPlaces plan w → length w.callers ≤ c → stage_at plan w (Caller c) ≡ Some s → ⊥
+past_caller : (plan : Plan) (w : World) (c : ℕ) (s : Stage) → HasPlaces plan w → length w.caller_places ≤ c → stage_at plan w (Caller c) ≡ Some s → ⊥
 past_caller plan w c s h past e =
     let none : slice_get plan.callers c ≡ None = slice_get_past plan.callers c (omega (arith, h.callers)) in
-    let empty : slice_index_or w.callers c [] ≡ [] = get_or_past w.callers c [] past in
+    let empty : slice_index_or w.caller_places c [] ≡ [] = get_or_past w.caller_places c [] past in
     let k : None ≡ Some s = rw (empty, none) at e in none_some s k
 
-past_work : (plan : Plan) (w : World) (d : ℕ) (s : Stage) → HasEntries plan w.views → HasPlaces plan w → length w.works ≤ d
+past_work : (plan : Plan) (w : World) (d : ℕ) (s : Stage) → HasEntries plan w.views → HasPlaces plan w → length w.work_places ≤ d
     → stage_at plan w (Work d) ≡ Some s → ⊥
 past_work plan w d s g h past e =
-    let empty : slice_index_or w.works d [] ≡ [] = get_or_past w.works d [] past in
+    let empty : slice_index_or w.work_places d [] ≡ [] = get_or_past w.work_places d [] past in
     let fresh = get_or_past w.views.pending d (record { request = Nothing; queued = false; deferred = false }) (omega (arith, g.pending, h.works)) in
     let k : None ≡ Some s = rw (empty, fresh) at e in none_some s k
 
-past_timer : (plan : Plan) (w : World) (d : ℕ) (s : Stage) → HasEntries plan w.views → HasPlaces plan w → length w.timers ≤ d
+past_timer : (plan : Plan) (w : World) (d : ℕ) (s : Stage) → HasEntries plan w.views → HasPlaces plan w → length w.timer_places ≤ d
     → stage_at plan w (Timer d) ≡ Some s → ⊥
 past_timer plan w d s g h past e =
-    let empty : slice_index_or w.timers d [] ≡ [] = get_or_past w.timers d [] past in
+    let empty : slice_index_or w.timer_places d [] ≡ [] = get_or_past w.timer_places d [] past in
     let none = get_or_past w.views.timers d None (omega (arith, g.timers, h.timers)) in
     let k : None ≡ Some s = rw (empty, none) at e in none_some s k
 
 pub is_placed : (plan : Plan) (w : World) (a : ActorId) (s : Stage) → HasEntries plan w.views → HasPlaces plan w → stage_at plan w a ≡ Some s
     → IsPlaced w a
-is_placed plan w (Caller c) s g h e = within w.callers c [] (λ past. past_caller plan w c s h past e)
-is_placed plan w (Work d) s g h e = within w.works d [] (λ past. past_work plan w d s g h past e)
-is_placed plan w (Timer d) s g h e = within w.timers d [] (λ past. past_timer plan w d s g h past e)
+is_placed plan w (Caller c) s g h e = within w.caller_places c [] (λ past. past_caller plan w c s h past e)
+is_placed plan w (Work d) s g h e = within w.work_places d [] (λ past. past_work plan w d s g h past e)
+is_placed plan w (Timer d) s g h e = within w.timer_places d [] (λ past. past_timer plan w d s g h past e)
 
 -- the stage at which an actor stands is the top of its stack, or a stage with no weight above an empty one
 ready_weighs : (f : Stage → ℕ) → IsWeight f → (plan : Plan) (w : World) (a : ActorId) (s : Stage) → ready plan w a ≡ Some s → f s ≡ 0
@@ -158,6 +158,6 @@ tally_goes f is plan w a s next placed e =
     omega (arith, tally_placed f w a (after_then next (drop 1 (place w a))) placed, then_keeps f is next (drop 1 (place w a)), stands_weighs f is plan w a s e)
 
 pub places_kept : (plan : Plan) (w : World) (a : ActorId) (stack : List Stage) → HasPlaces plan w → HasPlaces plan (with_place w a stack)
-places_kept plan w (Caller c) stack h = record { callers = length-set w.callers c stack ∙ h.callers; works = h.works; timers = h.timers }
-places_kept plan w (Work d) stack h = record { callers = h.callers; works = length-set w.works d stack ∙ h.works; timers = h.timers }
-places_kept plan w (Timer d) stack h = record { callers = h.callers; works = h.works; timers = length-set w.timers d stack ∙ h.timers }
+places_kept plan w (Caller c) stack h = record { callers = length-set w.caller_places c stack ∙ h.callers; works = h.works; timers = h.timers }
+places_kept plan w (Work d) stack h = record { callers = h.callers; works = length-set w.work_places d stack ∙ h.works; timers = h.timers }
+places_kept plan w (Timer d) stack h = record { callers = h.callers; works = h.works; timers = length-set w.timer_places d stack ∙ h.timers }

@@ -17,7 +17,7 @@ use Rattle.pm_model.specs.declared.stage.Stage.TheVariants as stage
 use Rattle.pm_model.specs.Counted.{is_same}
 use Rattle.pm_model.specs.Derived.{has, has_error, is_disabled, is_active, is_suspending, is_resuming, is_moving, minds_parent, awaits_parent, callback_code, first_held, first_free}
 use Rattle.pm_model.specs.PlanRows.{no_callbacks, has_domain, has_parent, parent_of}
-use Rattle.pm_model.specs.ResumeTable.{goes_on, leaves, returns_from, resume_verdict, resume_begins, takes_links, resume_links, gives_links, resume_unwinds, is_supplied, resume_ends, resume_domain, resume_row}
+use Rattle.pm_model.specs.ResumeTable.{resume_goes, leaves, resume_returns, resume_verdict, resume_begins, resume_takes, resume_links, resume_gives, resume_unwinds, is_supplied, resume_ends, resume_domain, resume_row}
 use Rattle.pm_model.specs.Row.{back}
 use Rattle.pm_model.specs.SuspendTable.{may_not_wait}
 use Rattle.pm_model.specs.Views.{Views, device}
@@ -36,17 +36,17 @@ leaves_holds : (plan : Plan) (r : ResumeCall) (c : ℤ) (x : DevId) → weigh (h
 unfolding leaves
 leaves_holds plan r c x = go (r.held && has_parent plan r.dev)
   where
-    go : (b : Bool) → weigh (holds plan x) (shown (if b then goes_on (resume.Parent r c) else back c)) ≡ one (b && is_same x (parent_of plan r.dev))
+    go : (b : Bool) → weigh (holds plan x) (shown (if b then resume_goes (resume.Parent r c) else back c)) ≡ one (b && is_same x (parent_of plan r.dev))
     go true = refl
     go false = refl
 
 returns_keep : {plan : Plan} {v : Views} {t : ℕ} {s : Stage} (r : ResumeCall) (c : ℤ) (x : Change) → Known plan v
     → IsCalm v x → Owns s none none → ((d : DevId) → holds plan d s ≡ one (has_mark plan d r))
-    → Owes plan v t s (returns_from plan r c x)
+    → Owes plan v t s (resume_returns plan r c x)
 unfolding leaves
 returns_keep {plan} {v} {t} {s} r c x k calm o h =
     let nothing : SameOwners s (back c) = λ x. (sym (o x).0, sym (o x).1) in
-    quiet k tt calm (either_next (SameOwners s) (r.held && has_parent plan r.dev) (goes_on (resume.Parent r c)) (back c) nothing nothing)
+    quiet k tt calm (either_next (SameOwners s) (r.held && has_parent plan r.dev) (resume_goes (resume.Parent r c)) (back c) nothing nothing)
     (λ x. leaves_holds plan r c x ∙ sym (h x))
 
 -- the mark held is set
@@ -79,7 +79,7 @@ begins_keep : (plan : Plan) (v : Views) (t : ℕ) (r : ResumeCall) → Known pla
 begins_keep plan v t r k = search quiet
 
 takes_keep : (plan : Plan) (v : Views) (t : ℕ) (r : ResumeCall) → Known plan v → (x : Option (ℕ × DevId)) → first_free plan v r.dev ≡ x
-    → Owes plan v t (stage.Resume (resume.Links r)) (takes_links plan v r t x)
+    → Owes plan v t (stage.Resume (resume.Links r)) (resume_takes plan v r t x)
 takes_keep plan v t r k (Some link) e = took_link r.dev link.1 k (free_found plan v r.dev link e) (λ _. (refl, refl)) (λ _. refl)
 takes_keep plan v t r k None e = either (has_domain plan r.dev) (λ _. search quiet) (λ _. alike (stage.Resume (resume.Callback r)) (λ _. (refl, refl)) (λ _. refl) (begins_keep plan v t r k))
 
@@ -89,7 +89,7 @@ unfolding resume_links
 links_keep plan v t r k = takes_keep plan v t r k (first_free plan v r.dev) refl
 
 gives_keep : (plan : Plan) (v : Views) (t : ℕ) (r : ResumeCall) (c : ℤ) → Known plan v → (x : Option (ℕ × DevId)) → first_held plan v r.dev ≡ x
-    → Owes plan v t (stage.Resume (resume.Unwind r c)) (gives_links v r c x)
+    → Owes plan v t (stage.Resume (resume.Unwind r c)) (resume_gives v r c x)
 gives_keep plan v t r c k (Some link) e = gave_link r.dev link.1 k tt (held_found plan v r.dev link e) (λ _. (refl, refl)) (λ _. refl)
 gives_keep plan v t r c k None e = turn k tt tt (ends_resume r.dev status.Suspended refl (λ _. refl) (λ _. (refl, refl)) (λ _. (refl, refl))) (λ _. refl)
 

@@ -13,7 +13,7 @@ use Rattle.pm_model.specs.declared.rows.DeviceRow.{DeviceRow}
 use Rattle.pm_model.specs.declared.rows.DomainRow.{DomainRow}
 use Rattle.pm_model.specs.declared.rows.LinkRow.{LinkRow}
 use Rattle.pm_model.specs.ChangeViews.{change_views}
-use Rattle.pm_model.specs.Counted.{gives, takes, frees, gets, puts, freed, says_status, status_of, last_said, says_error, error_of, says_auto, is_allowed, says_idle, idle_runs, says_held, is_held_pair, is_caller, says_on, is_switched_on}
+use Rattle.pm_model.specs.Counted.{gives, takes, frees, gets, puts, freed, says_status, status_of, last_said, says_error, error_of, says_auto, is_allowed, says_idle, idle_runs, says_held, is_held_pair, is_callers, says_on, is_switched_on}
 use Rattle.pm_model.specs.Events.{by_event}
 use Rattle.pm_model.specs.Lawful.{IsLawful}
 use Rattle.pm_model.specs.PlanRows.{is_kept_on}
@@ -119,7 +119,7 @@ held_said plan (line ∷ h) l row lawful is =
 
 -- a caller's share is what callers took and didn't give back
 pub share_counted : (plan : Plan) (h : List Line) (d : DevId) → IsLawful plan h → d.0 < length plan.devices
-    → (device (world plan h).views d).share + puts is_caller h d ≡ gets is_caller h d
+    → (device (world plan h).views d).share + puts is_callers h d ≡ gets is_callers h d
 share_counted plan [] d lawful within = omega (arith, ap (λ (a : Aside). a.share) (start_aside plan.devices d.0))
 share_counted plan (line ∷ h) d lawful within =
     let w = world plan h in
@@ -128,8 +128,8 @@ share_counted plan (line ∷ h) d lawful within =
     let now : (device (world plan (line ∷ h)).views d).share ≡ (device (by_event plan line.time line.event (change_views plan line.time p.change w.views)) d).share = ap (λ v. let x : ℕ = (device v d).share in x) (views_next plan w line p) in
     let moves = share_after plan line.time line.event (change_views plan line.time p.change w.views) d (omega (arith, p.beside.entries.devices)) (λ g. ap (λ n. nat_eq n 0) same ∙ p.keeps.spends d g) in
     let was = share_counted plan h d lawful.2 within in
-    let more_puts : puts is_caller (line ∷ h) d ≡ one (gives is_caller d line.event) + puts is_caller h d = sum_by-cons (λ (l : Line). cond (gives is_caller d l.event) 1 0) line h in
-    let more_gets : gets is_caller (line ∷ h) d ≡ one (takes is_caller d line.event) + gets is_caller h d = sum_by-cons (λ (l : Line). cond (takes is_caller d l.event) 1 0) line h in
+    let more_puts : puts is_callers (line ∷ h) d ≡ one (gives is_callers d line.event) + puts is_callers h d = sum_by-cons (λ (l : Line). cond (gives is_callers d l.event) 1 0) line h in
+    let more_gets : gets is_callers (line ∷ h) d ≡ one (takes is_callers d line.event) + gets is_callers h d = sum_by-cons (λ (l : Line). cond (takes is_callers d l.event) 1 0) line h in
     omega arith
 
 -- before any line a domain is on where the plan keeps it on

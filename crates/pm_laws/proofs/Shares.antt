@@ -10,7 +10,7 @@ use Rattle.pm_model.specs.declared.event.Event.TheVariants as event
 use Rattle.pm_model.specs.declared.plan.Plan.{Plan}
 use Rattle.pm_model.specs.declared.views.Device.{Device}
 use Rattle.pm_model.specs.Changes.{set_held}
-use Rattle.pm_model.specs.Counted.{is_same, is_caller, takes, gives}
+use Rattle.pm_model.specs.Counted.{is_same, is_callers, takes, gives}
 use Rattle.pm_model.specs.Events.{by_event, got, gave, set_usage}
 use Rattle.pm_model.specs.Views.{Views, device}
 use Rattle.pm_sums.specs.Sums.{one}
@@ -23,7 +23,7 @@ abbrev share_of : Device → ℕ
 share_of x = x.share
 
 got_share : (plan : Plan) (e d : DevId) (w : Why) (v : Views) → d.0 < length v.devices
-    → share_of (device (got plan e w v) d) ≡ share_of (device v d) + one (is_same d e && is_caller w)
+    → share_of (device (got plan e w v) d) ≡ share_of (device v d) + one (is_same d e && is_callers w)
 unfolding set_held
 got_share plan e d why.Caller v within =
     omega (arith, raised share_of v e d (record (device v e) { share = (device v e).share + 1 }) within (λ _. refl), counts_true (is_same d e))
@@ -37,8 +37,8 @@ one_less (suc n) e = omega arith
 
 -- a caller's put spends a share
 gave_share : (plan : Plan) (e d : DevId) (w : Why) (v : Views) → d.0 < length v.devices
-    → (is_same d e && is_caller w ≡ true → nat_eq (share_of (device v d)) 0 ≡ false)
-    → share_of (device (gave plan e w v) d) + one (is_same d e && is_caller w) ≡ share_of (device v d)
+    → (is_same d e && is_callers w ≡ true → nat_eq (share_of (device v d)) 0 ≡ false)
+    → share_of (device (gave plan e w v) d) + one (is_same d e && is_callers w) ≡ share_of (device v d)
 unfolding set_held
 gave_share plan e d why.Caller v within spends =
     let low : is_same d e ≡ true → share_of (device v e) - 1 + 1 ≡ share_of (device v e) = λ b. one_less _ (ap (λ n. nat_eq n 0) (at_self share_of v d e b) ∙ spends (rw b refl)) in
@@ -53,8 +53,8 @@ unshared x y e = omega arith
 
 -- the shares rise by the callers' gets and fall by their puts
 pub share_after : (plan : Plan) (t : ℕ) (e : Event) (v : Views) (d : DevId) → d.0 < length v.devices
-    → (gives is_caller d e ≡ true → nat_eq (device v d).share 0 ≡ false)
-    → (device (by_event plan t e v) d).share + one (gives is_caller d e) ≡ (device v d).share + one (takes is_caller d e)
+    → (gives is_callers d e ≡ true → nat_eq (device v d).share 0 ≡ false)
+    → (device (by_event plan t e v) d).share + one (gives is_callers d e) ≡ (device v d).share + one (takes is_callers d e)
 unfolding by_event
 share_after plan t (event.Get x w) v d within spends =
     omega (arith, got_share plan x d w (set_usage ((device v x).usage + 1) x v) (within_set v x d _ within), entry_kept share_of v x d (record (device v x) { usage = (device v x).usage + 1 }) refl)

@@ -17,7 +17,7 @@ use Rattle.pm_model.specs.Counted.{is_same, only_if, says_status}
 use Rattle.pm_model.specs.Derived.{refusal, has, expiry, is_ahead, is_suspending, is_resuming, is_moving, callback_code, first_held}
 use Rattle.pm_model.specs.Events.{by_event, is_try_again}
 use Rattle.pm_model.specs.PlanRows.{no_callbacks, has_domain}
-use Rattle.pm_model.specs.SuspendTable.{goes_on, may_not_wait, suspend_row, suspend_verdict, suspend_ends, gives_links, suspend_links, suspend_domain, tells_parent, suspend_parent}
+use Rattle.pm_model.specs.SuspendTable.{suspend_goes, may_not_wait, suspend_row, suspend_verdict, suspend_ends, suspend_gives, suspend_links, suspend_domain, tells_parent, suspend_parent}
 use Rattle.pm_model.specs.Views.{Views, pending_of}
 use Rattle.pm_laws.proofs.Accounts.{quiet, turn}
 use Rattle.pm_laws.proofs.Givings.{gave_link}
@@ -45,7 +45,7 @@ verdict_keeps plan v t d f k =
     stands false false c p q r = refl
 
 gives_keep : (plan : Plan) (v : Views) (t : ℕ) (d : DevId) (f : ℕ) → Known plan v → (x : Option (ℕ × DevId)) → first_held plan v d ≡ x
-    → Owes plan v t (stage.Suspend (suspend.Links d f)) (gives_links v d f x)
+    → Owes plan v t (stage.Suspend (suspend.Links d f)) (suspend_gives v d f x)
 gives_keep plan v t d f k (Some link) e = gave_link d link.1 k tt (held_found plan v d link e) (λ _. (refl, refl)) (λ _. refl)
 gives_keep plan v t d f k None e =
     either (pending_of v d).deferred (λ _. turn k tt tt (ends_suspend d status.Suspended refl (λ _. refl) (λ _. (refl, refl)) (λ _. (refl, refl))) (λ _. refl))
@@ -70,7 +70,7 @@ parent_keeps plan v t d f k = either (tells_parent plan v d) (λ _. search quiet
 
 -- where it goes on
 abbrev after_end : DevId → ℕ → ℤ → Bool → Then
-after_end d f c again = if int_eq c (pos 0) then goes_on (suspend.Domain d f) else if again then goes_on (suspend.Verdict d f) else goes_on (suspend.Done d f c)
+after_end d f c again = if int_eq c (pos 0) then suspend_goes (suspend.Domain d f) else if again then suspend_goes (suspend.Verdict d f) else suspend_goes (suspend.Done d f c)
 
 -- the suspend goes on, or it has failed and the device is active
 ended_owning : (plan : Plan) (v : Views) (d : DevId) (f since : ℕ) (c : ℤ) (again : Bool)
@@ -87,16 +87,16 @@ ended_owning plan v d f since c again = go (int_eq c (pos 0)) refl
         → Owning plan v (stage.Suspend (suspend.Running d f since)) (event.End d cb.Suspend c) (after_end d f c again)
     go true z = unturned (none_said z) (λ x. rw z (refl, refl))
     go false z =
-        let failed = if again then goes_on (suspend.Verdict d f) else goes_on (suspend.Done d f c) in
-        let light : OwnsNext failed none none = either_next (λ next. OwnsNext next none none) again (goes_on (suspend.Verdict d f)) (goes_on (suspend.Done d f c)) (λ _. (refl, refl)) (λ _. (refl, refl)) in
+        let failed = if again then suspend_goes (suspend.Verdict d f) else suspend_goes (suspend.Done d f c) in
+        let light : OwnsNext failed none none = either_next (λ next. OwnsNext next none none) again (suspend_goes (suspend.Verdict d f)) (suspend_goes (suspend.Done d f c)) (λ _. (refl, refl)) (λ _. (refl, refl)) in
         ends_suspend d status.Active refl (active_said z) (λ _. (refl, refl)) (λ x. rw z (light x))
 
 ended_holds : (plan : Plan) (d : DevId) (f since : ℕ) (c : ℤ) (again : Bool)
     → SameHolds plan (stage.Suspend (suspend.Running d f since)) (after_end d f c again)
 ended_holds plan d f since c again =
     let same = SameHolds plan (stage.Suspend (suspend.Running d f since)) in
-    let failed = if again then goes_on (suspend.Verdict d f) else goes_on (suspend.Done d f c) in
-    either_next same (int_eq c (pos 0)) (goes_on (suspend.Domain d f)) failed (λ _. refl) (either_next same again (goes_on (suspend.Verdict d f)) (goes_on (suspend.Done d f c)) (λ _. refl) (λ _. refl))
+    let failed = if again then suspend_goes (suspend.Verdict d f) else suspend_goes (suspend.Done d f c) in
+    either_next same (int_eq c (pos 0)) (suspend_goes (suspend.Domain d f)) failed (λ _. refl) (either_next same again (suspend_goes (suspend.Verdict d f)) (suspend_goes (suspend.Done d f c)) (λ _. refl) (λ _. refl))
 
 ends_keep : (plan : Plan) (v : Views) (t : ℕ) (d : DevId) (f since : ℕ) → Known plan v
     → Owes plan v t (stage.Suspend (suspend.Running d f since)) (suspend_ends plan v d f t)

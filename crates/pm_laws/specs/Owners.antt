@@ -15,7 +15,7 @@ use Rattle.pm_sums.specs.Sums.{one, tally}
 
 -- the places of all actors
 abbrev pub places : World → List (List Stage)
-places w = w.callers ++ w.works ++ w.timers
+places w = w.caller_places ++ w.work_places ++ w.timer_places
 
 -- 1 at a stage of a suspend of d that has begun its callback and not turned the status. A stage that awaits a call
 -- counts as the stage at which it goes on

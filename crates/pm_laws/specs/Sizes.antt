@@ -15,6 +15,6 @@ pub record HasEntries (plan : Plan) (v : Views) : Type 0 where
 
 -- one place for each actor
 pub record HasPlaces (plan : Plan) (w : World) : Type 0 where
-  pub callers : length w.callers ≡ length plan.callers
-  pub works : length w.works ≡ length plan.devices
-  pub timers : length w.timers ≡ length plan.devices
+  pub callers : length w.caller_places ≡ length plan.callers
+  pub works : length w.work_places ≡ length plan.devices
+  pub timers : length w.timer_places ≡ length plan.devices

@@ -6,7 +6,7 @@ ghost use Rattle.pm_base.specs.declared.DevId.{DevId};
 ghost use Rattle.pm_model.specs.declared.event.Line.{Line};
 ghost use Rattle.pm_model.specs.declared.plan.Plan.{Plan};
 ghost use Rattle.pm_model.specs.declared.rows.LinkRow.{LinkRow};
-ghost use Rattle.pm_model.specs.Counted.{gets, puts, freed, usage, is_caller, share, status_of, error_of, is_allowed, idle_runs, is_held_pair, is_switched_on};
+ghost use Rattle.pm_model.specs.Counted.{gets, puts, freed, usage, is_callers, share, status_of, error_of, is_allowed, idle_runs, is_held_pair, is_switched_on};
 ghost use Rattle.pm_model.specs.Derived.{is_moving};
 ghost use Rattle.pm_model.specs.Events.{held_from};
 ghost use Rattle.pm_model.specs.Lawful.{IsLawful};
@@ -80,7 +80,7 @@ pub fn usage_is_counted()
 /// The share of a device's usage that is the callers' is their gets less their puts; so callers never give back more
 /// than they took.
 pub fn share_is_counted()
-    ensures given_back { (plan : Plan) (h : List Line) (d : DevId) → IsLawful plan h → d.0 < length plan.devices → (device (world plan h).views d).share + puts is_caller h d ≡ gets is_caller h d }
+    ensures given_back { (plan : Plan) (h : List Line) (d : DevId) → IsLawful plan h → d.0 < length plan.devices → (device (world plan h).views d).share + puts is_callers h d ≡ gets is_callers h d }
     ensures left { (plan : Plan) (h : List Line) (d : DevId) → IsLawful plan h → d.0 < length plan.devices → (device (world plan h).views d).share ≡ share h d }
 {}
 

@@ -290,14 +290,14 @@ arm_at bytes = do
   rest ← literal_at (codes "arm ") bytes
   moment ← number_at 10 0 (2 ^ 64 - 1) 32 rest
   rest ← literal_at (codes " ") moment.1
-  auto_on ← timer_kind_at rest
-  Ok (timer.Arm moment.0 auto_on)
+  autosuspends ← timer_kind_at rest
+  Ok (timer.Arm moment.0 autosuspends)
 
 unfoldable pub fire_at : List ℕ → Result TimerAct ℕ
 fire_at bytes = do
   rest ← literal_at (codes "fire ") bytes
-  auto_on ← timer_kind_at rest
-  Ok (timer.Fire auto_on)
+  autosuspends ← timer_kind_at rest
+  Ok (timer.Fire autosuspends)
 
 unfoldable pub timer_at : Names → List ℕ → Result Event ℕ
 timer_at names bytes = do

@@ -460,8 +460,8 @@ fn arm(bytes: &[u8]) -> Result<TimerAct, Left>
     ensures { result ≡ arm_at bytes.now }
 {
     let (at, rest) = number(10, 0, u64::MAX, literal(b"arm ", bytes)?)?;
-    let auto_on = timer_kind(literal(b" ", rest)?)?;
-    Ok(TimerAct::Arm { at, auto_on })
+    let autosuspends = timer_kind(literal(b" ", rest)?)?;
+    Ok(TimerAct::Arm { at, autosuspends })
 }
 
 /// A timer that fires.
@@ -469,8 +469,8 @@ fn arm(bytes: &[u8]) -> Result<TimerAct, Left>
 fn fire(bytes: &[u8]) -> Result<TimerAct, Left>
     ensures { result ≡ fire_at bytes.now }
 {
-    let auto_on = timer_kind(literal(b"fire ", bytes)?)?;
-    Ok(TimerAct::Fire { auto_on })
+    let autosuspends = timer_kind(literal(b"fire ", bytes)?)?;
+    Ok(TimerAct::Fire { autosuspends })
 }
 
 /// A line of a timer.

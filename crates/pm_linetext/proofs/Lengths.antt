@@ -98,7 +98,7 @@ status_word_len : (w : Word) → length (status_word w) ≤ 16
 status_word_len word.Active = omega arith
 status_word_len _ = omega arith
 
-kind_word_len : (auto_on : Bool) → length (kind_word auto_on) ≤ 5
+kind_word_len : (autosuspends : Bool) → length (kind_word autosuspends) ≤ 5
 kind_word_len true = omega arith
 kind_word_len false = omega arith
 
@@ -163,10 +163,10 @@ work_len work.Defer = omega arith
 work_len (work.Run r) = omega (arith, req_word_len r)
 
 timer_len : (act : TimerAct) → is_timer_line act ≡ true → length (timer_text act) ≤ 30
-timer_len (timer.Arm at auto_on) h =
+timer_len (timer.Arm at autosuspends) h =
     let small : at < 2 ^ 64 = ltb-true _ _ h in
-    simp length-append (omega (arith, length-decimal-le 20 at (lit< tt) (omega arith) small, kind_word_len auto_on))
-timer_len (timer.Fire auto_on) h = omega (arith, kind_word_len auto_on)
+    simp length-append (omega (arith, length-decimal-le 20 at (lit< tt) (omega arith) small, kind_word_len autosuspends))
+timer_len (timer.Fire autosuspends) h = omega (arith, kind_word_len autosuspends)
 
 payload_len : (names : Names) → NamesFit names → (d : DevId) (f : Fields) (flags count child : ℕ)
     → length (digits 16 false f.flags) ≤ flags → length (decimal f.cnt) ≤ count → length (decimal f.dep) ≤ count → length (decimal f.child) ≤ child → 2 ≤ count

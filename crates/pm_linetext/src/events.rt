@@ -50,11 +50,11 @@ fn push_status(text: &mut LineText, word: Word)
 }
 
 /// Appends the kind of a timer.
-fn push_kind(text: &mut LineText, auto_on: bool)
-    requires { HasRoom text.old (kind_word auto_on) }
-    ensures { text.new ≡ text.old ++ kind_word auto_on }
+fn push_kind(text: &mut LineText, autosuspends: bool)
+    requires { HasRoom text.old (kind_word autosuspends) }
+    ensures { text.new ≡ text.old ++ kind_word autosuspends }
 {
-    if auto_on {
+    if autosuspends {
         text.push(b"auto");
     } else {
         text.push(b"plain");
@@ -165,15 +165,15 @@ fn push_timer(text: &mut LineText, act: TimerAct)
     ensures { text.new ≡ text.old ++ timer_text act }
 {
     match act {
-        TimerAct::Arm { at, auto_on } => {
+        TimerAct::Arm { at, autosuspends } => {
             text.push(b"arm ");
             text.push_number(at);
             text.push(b" ");
-            push_kind(text, auto_on);
+            push_kind(text, autosuspends);
         }
-        TimerAct::Fire { auto_on } => {
+        TimerAct::Fire { autosuspends } => {
             text.push(b"fire ");
-            push_kind(text, auto_on);
+            push_kind(text, autosuspends);
         }
     }
 }

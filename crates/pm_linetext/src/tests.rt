@@ -184,8 +184,8 @@ static SMALLEST: [Line; 26] = [
     traced!(0 Work 0 Work dev: A, act: WorkAct::Queue(Req::Idle)),
     traced!(0 Work 0 Work dev: A, act: WorkAct::Run(Req::Nothing)),
     traced!(0 Work 0 Work dev: A, act: WorkAct::Defer),
-    traced!(0 Timer 0 Timer dev: A, act: TimerAct::Arm { at: 0, auto_on: false }),
-    traced!(0 Timer 0 Timer dev: A, act: TimerAct::Fire { auto_on: true }),
+    traced!(0 Timer 0 Timer dev: A, act: TimerAct::Arm { at: 0, autosuspends: false }),
+    traced!(0 Timer 0 Timer dev: A, act: TimerAct::Fire { autosuspends: true }),
 ];
 
 #[test]
@@ -245,8 +245,8 @@ static LARGEST: [Line; 20] = [
     traced!(9223372036854775807 Work 1 End dev: B, cb: Cb::Suspend, code: i32::MAX),
     traced!(9223372036854775807 Work 1 Domain dev: B, up: false, count: u32::MAX),
     traced!(9223372036854775807 Work 1 Work dev: B, act: WorkAct::Run(Req::Autosuspend)),
-    traced!(9223372036854775807 Timer 1 Timer dev: B, act: TimerAct::Arm { at: u64::MAX, auto_on: true }),
-    traced!(9223372036854775807 Timer 1 Timer dev: B, act: TimerAct::Fire { auto_on: false }),
+    traced!(9223372036854775807 Timer 1 Timer dev: B, act: TimerAct::Arm { at: u64::MAX, autosuspends: true }),
+    traced!(9223372036854775807 Timer 1 Timer dev: B, act: TimerAct::Fire { autosuspends: false }),
 ];
 
 #[test]
@@ -286,9 +286,9 @@ static TIMED: [Line; 8] = [
     traced!(9 Caller 0 Ret helper: Helper::Delay, dev: A, code: 0),
     traced!(9 Caller 0 Call command: Command { helper: Helper::Autosuspend, dev: A, number: 0 }),
     traced!(9 Caller 0 Suspend dev: A, fields: Fields { flags: 8, cnt: 0, dep: 0, auto_on: true, pending: false, child: 0 }),
-    traced!(10 Timer 0 Timer dev: A, act: TimerAct::Fire { auto_on: true }),
-    traced!(10 Timer 0 Timer dev: A, act: TimerAct::Arm { at: 19, auto_on: true }),
-    traced!(19 Timer 0 Timer dev: A, act: TimerAct::Fire { auto_on: true }),
+    traced!(10 Timer 0 Timer dev: A, act: TimerAct::Fire { autosuspends: true }),
+    traced!(10 Timer 0 Timer dev: A, act: TimerAct::Arm { at: 19, autosuspends: true }),
+    traced!(19 Timer 0 Timer dev: A, act: TimerAct::Fire { autosuspends: true }),
     traced!(9223372036854775807 Work 0 Work dev: A, act: WorkAct::Queue(Req::Autosuspend)),
 ];
 

@@ -33,7 +33,7 @@ cancel_all d v = set_queued false d (cancel d v)
 
 -- an autosuspend is scheduled
 unfoldable pub has_auto_timer : Views → DevId → Bool
-has_auto_timer v d = option_map_or (λ armed. armed.auto_on) (timer v d) false
+has_auto_timer v d = option_map_or (λ armed. armed.autosuspends) (timer v d) false
 
 -- what a resume cancels: the request, and the timer unless it is an autosuspend's (runtime_pm.rst, section 4)
 unfoldable pub rcancel : DevId → Views → Views

@@ -24,9 +24,9 @@ use Rattle.pm_model.specs.World.{world}
 abbrev pub is_same : DevId → DevId → Bool
 is_same d e = nat_eq e.0 d.0
 
-abbrev pub is_caller : Why → Bool
-is_caller why.Caller = true
-is_caller _ = false
+abbrev pub is_callers : Why → Bool
+is_callers why.Caller = true
+is_callers _ = false
 
 -- whether an event takes a count on d, and whether it gives one back; for a caller, or for any reason
 abbrev pub takes : (Why → Bool) → DevId → Event → Bool
@@ -58,7 +58,7 @@ usage plan h d = gets (λ w. true) h d - (puts (λ w. true) h d + freed plan h d
 
 -- the gets of callers less their puts
 abbrev pub share : List Line → DevId → ℕ
-share h d = gets is_caller h d - puts is_caller h d
+share h d = gets is_callers h d - puts is_callers h d
 
 -- what the last line that says anything says, or a default
 abbrev pub last_said : {A : Type 0} → (Event → Option A) → A → List Line → A

@@ -101,8 +101,8 @@ by_work d Defer v = set_deferred true d v
 by_work d (Run r) v = set_queued false d (set_request Nothing d v)
 
 abbrev pub by_timer : DevId → TimerAct → Views → Views
-by_timer d (Arm at auto_on) v = with_timer v d (Some (record { deadline = at; auto_on = auto_on }))
-by_timer d (Fire auto_on) v = disarm d v
+by_timer d (Arm at autosuspends) v = with_timer v d (Some (record { deadline = at; autosuspends = autosuspends }))
+by_timer d (Fire autosuspends) v = disarm d v
 
 -- the views after an event of a line at t
 unfoldable pub by_event : Plan → ℕ → Event → Views → Views

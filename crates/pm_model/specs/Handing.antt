@@ -24,10 +24,10 @@ take_code (await.ResumeParent r) c = handed.Goes (stage.Resume (resume.Verdict r
 take_code (await.ResumeSupplier r link) c = handed.Goes (stage.Resume (resume.Supplied r c))
 take_code (await.ResumeIdle r) c = handed.Goes (stage.Resume (resume.Done r (pos 0)))
 take_code (await.ResumeUnwind r kept) c = handed.Goes (stage.Resume (resume.Unwind r kept))
-take_code (await.ResumeGiven r kept) c = handed.Back kept
+take_code (await.ResumePut r kept) c = handed.Back kept
 take_code (await.Return h d) c = handed.Goes (stage.Helper (at.Ret h d c))
 take_code (await.ReturnZero h d) c = handed.Goes (stage.Helper (at.Ret h d (pos 0)))
-take_code (await.DisableResume d) c = handed.Goes (stage.Control (control.DisableGiven d))
+take_code (await.DisableResume d) c = handed.Goes (stage.Control (control.DisablePut d))
 take_code (await.BarrierResume d) c = handed.Goes (stage.Control (control.BarrierIdle d (pos 1)))
 take_code (await.ActiveSupplier d link) c =
     if is_supplied c then handed.Goes (stage.Control (control.ActiveLinks d)) else handed.Goes (stage.Control (control.ActiveUnwind d c))

@@ -27,7 +27,7 @@ use Rattle.pm_model.specs.declared.stage.Then.{Then}
 use Rattle.pm_model.specs.Views.{Views, device, pending_of}
 use Rattle.pm_model.specs.Changes.{has_auto_timer}
 use Rattle.pm_model.specs.Derived.{fields, is_active, is_disabled, is_in_use, first_of}
-use Rattle.pm_model.specs.Row.{Row, writes, ret, suspends, goes, calls, back}
+use Rattle.pm_model.specs.Row.{Row, writes, helper_returns, suspends, goes, calls, back}
 
 -- the flags of a helper (runtime_pm.rst, section 4; RPM_ASYNC 1, RPM_GET_PUT 4, RPM_AUTO 8)
 abbrev pub flags_of : Helper → ℕ
@@ -83,21 +83,21 @@ begins c t =
       | _ ↦ goes (stage.Control (control.Start c))
     ]
 
-abbrev pub returning : Helper → DevId → ℤ → Then
-returning h d c = goes (stage.Helper (at.Ret h d c))
+abbrev pub then_returns : Helper → DevId → ℤ → Then
+then_returns h d c = goes (stage.Helper (at.Ret h d c))
 
 -- a get that may not resume
 abbrev pub gets_if : Views → Command → Bool → Row
 gets_if v c holds =
     first_of (
-    (is_disabled v c.dev, ret c.helper c.dev EINVAL change.Same)
-    ∷ (is_active v c.dev && holds, writes (event.Get c.dev why.Caller) change.Same (returning c.helper c.dev (pos 1)))
-    ∷ []) (ret c.helper c.dev (pos 0) change.Same)
+    (is_disabled v c.dev, helper_returns c.helper c.dev EINVAL change.Same)
+    ∷ (is_active v c.dev && holds, writes (event.Get c.dev why.Caller) change.Same (then_returns c.helper c.dev (pos 1)))
+    ∷ []) (helper_returns c.helper c.dev (pos 0) change.Same)
 
 -- a put finds a count that a caller took
-abbrev pub puts : Views → Command → Then → Row
-puts v c next =
-    first_of ((nat_eq (device v c.dev).share 0, ret c.helper c.dev EINVAL change.Same) ∷ []) (writes (event.Put c.dev why.Caller) change.Same next)
+abbrev pub callers_put : Views → Command → Then → Row
+callers_put v c next =
+    first_of ((nat_eq (device v c.dev).share 0, helper_returns c.helper c.dev EINVAL change.Same) ∷ []) (writes (event.Put c.dev why.Caller) change.Same next)
 
 -- the line after the call line; of the other helpers none comes here
 unfoldable pub helper_starts : Views → Command → Row
@@ -108,23 +108,23 @@ helper_starts v c =
     elim h as (λ _. Row) [
       | helper.GetSync ↦ writes (event.Get d why.Caller) change.Same (calls (to_resume d f) (await.Return h d))
       | helper.Get ↦ writes (event.Get d why.Caller) change.Same (calls (to_resume d f) (await.Return h d))
-      | helper.GetNoresume ↦ writes (event.Get d why.Caller) change.Same (returning h d (pos 0))
+      | helper.GetNoresume ↦ writes (event.Get d why.Caller) change.Same (then_returns h d (pos 0))
       | helper.GetIfInUse ↦ gets_if v c (is_in_use v d)
       | helper.GetIfActive ↦ gets_if v c true
-      | helper.Put ↦ puts v c (calls (stage.Idle (idle.Given d f)) (await.Return h d))
-      | helper.PutSync ↦ puts v c (calls (stage.Idle (idle.Given d f)) (await.Return h d))
-      | helper.PutAutosuspend ↦ puts v c (goes (stage.Helper (at.Given c)))
-      | helper.PutSyncSuspend ↦ puts v c (goes (stage.Helper (at.Given c)))
-      | helper.PutSyncAutosuspend ↦ puts v c (goes (stage.Helper (at.Given c)))
-      | helper.PutNoidle ↦ puts v c (returning h d (pos 0))
-      | _ ↦ ret h d (pos 0) change.Same
+      | helper.Put ↦ callers_put v c (calls (stage.Idle (idle.AfterPut d f)) (await.Return h d))
+      | helper.PutSync ↦ callers_put v c (calls (stage.Idle (idle.AfterPut d f)) (await.Return h d))
+      | helper.PutAutosuspend ↦ callers_put v c (goes (stage.Helper (at.PutSuspends c)))
+      | helper.PutSyncSuspend ↦ callers_put v c (goes (stage.Helper (at.PutSuspends c)))
+      | helper.PutSyncAutosuspend ↦ callers_put v c (goes (stage.Helper (at.PutSuspends c)))
+      | helper.PutNoidle ↦ callers_put v c (then_returns h d (pos 0))
+      | _ ↦ helper_returns h d (pos 0) change.Same
     ]
 
 -- a put that goes on to suspend where nothing else counts
 unfoldable pub put_suspends : Plan → Views → Command → Row
 put_suspends plan v c =
     let f = flags_of c.helper in
-    first_of ((is_in_use v c.dev, writes (event.Usage c.dev (fields plan v c.dev f)) change.Same (returning c.helper c.dev (pos 0))) ∷ [])
+    first_of ((is_in_use v c.dev, writes (event.Usage c.dev (fields plan v c.dev f)) change.Same (then_returns c.helper c.dev (pos 0))) ∷ [])
     (suspends plan v c.dev f (stage.Await (await.Return c.helper c.dev) ∷ []))
 
 -- what a work item carries out
@@ -143,6 +143,6 @@ helper_row plan v (at.Call c) t = writes (event.Call c) change.Same (begins c t)
 helper_row plan v (at.Work d) t = writes (event.Work d (Run (pending_of v d).request)) change.Same (carries_out d (pending_of v d).request)
 helper_row plan v (at.Timer d) t = timer_fires v d
 helper_row plan v (at.Start c) t = helper_starts v c
-helper_row plan v (at.Given c) t = put_suspends plan v c
-helper_row plan v (at.Delay ms since) t = ret helper.Delay (record { 0 = 0 }) (pos 0) change.Same
-helper_row plan v (at.Ret h d c) t = ret h d c change.Same
+helper_row plan v (at.PutSuspends c) t = put_suspends plan v c
+helper_row plan v (at.Delay ms since) t = helper_returns helper.Delay (record { 0 = 0 }) (pos 0) change.Same
+helper_row plan v (at.Ret h d c) t = helper_returns h d c change.Same

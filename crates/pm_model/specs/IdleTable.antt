@@ -18,7 +18,7 @@ use Rattle.pm_model.specs.declared.stage.Then.{Then}
 use Rattle.pm_model.specs.PlanRows.{has_idle}
 use Rattle.pm_model.specs.Views.{Views, device, pending_of}
 use Rattle.pm_model.specs.Derived.{refusal, has, fields, is_active, is_in_use, callback_code, first_of}
-use Rattle.pm_model.specs.Row.{Row, writes, returns, idles, goes, back}
+use Rattle.pm_model.specs.Row.{Row, writes, call_returns, idles, goes, back}
 
 -- suspend, autosuspend or resume
 abbrev pub is_above_idle : Req → Bool
@@ -34,10 +34,10 @@ then_suspends d f = goes (stage.Suspend (suspend.Enter d (bit_or f AUTO)))
 unfoldable pub idle_verdict : Plan → Views → DevId → ℕ → ℕ → Row
 idle_verdict plan v d f t =
     first_of (
-    (int_lt (refusal plan v d) (pos 0), returns cb.Idle d (refusal plan v d) change.Same)
-    ∷ (not (is_active v d), returns cb.Idle d EAGAIN change.Same)
-    ∷ (is_above_idle (pending_of v d).request, returns cb.Idle d EAGAIN change.Same)
-    ∷ ((device v d).idle_running, returns cb.Idle d EINPROGRESS change.Same)
+    (int_lt (refusal plan v d) (pos 0), call_returns cb.Idle d (refusal plan v d) change.Same)
+    ∷ (not (is_active v d), call_returns cb.Idle d EAGAIN change.Same)
+    ∷ (is_above_idle (pending_of v d).request, call_returns cb.Idle d EAGAIN change.Same)
+    ∷ ((device v d).idle_running, call_returns cb.Idle d EINPROGRESS change.Same)
     ∷ (not (has_idle plan d), writes (event.Return cb.Idle d (pos 0)) (change.CancelRequest d) (then_suspends d f))
     ∷ (has f ASYNC, writes (event.Work d (Queue req.Idle)) change.Same (goes (stage.Idle (idle.Queued d f))))
     ∷ []) (writes (event.Begin d cb.Idle) (change.CancelRequest d) (goes (stage.Idle (idle.Running d f t))))
@@ -49,13 +49,13 @@ idle_ends plan v d f t =
     writes (event.End d cb.Idle c) (change.CallbackMarks d) (goes (stage.Idle (idle.Done d f c)))
 
 -- T
-unfoldable pub given : Plan → Views → DevId → ℕ → Row
-given plan v d f = first_of ((is_in_use v d, writes (event.Usage d (fields plan v d f)) change.Same (back (pos 0))) ∷ []) (idles plan v d f change.Same [])
+unfoldable pub after_put : Plan → Views → DevId → ℕ → Row
+after_put plan v d f = first_of ((is_in_use v d, writes (event.Usage d (fields plan v d f)) change.Same (back (pos 0))) ∷ []) (idles plan v d f change.Same [])
 
 abbrev pub idle_row : Plan → Views → IdleStage → ℕ → Row
 idle_row plan v (idle.Enter d f) t = idles plan v d f change.Same []
 idle_row plan v (idle.Verdict d f) t = idle_verdict plan v d f t
 idle_row plan v (idle.Running d f since) t = idle_ends plan v d f t
 idle_row plan v (idle.Done d f c) t = writes (event.Return cb.Idle d c) change.Same (if int_eq c (pos 0) then then_suspends d f else back c)
-idle_row plan v (idle.Queued d f) t = returns cb.Idle d (pos 0) change.Same
-idle_row plan v (idle.Given d f) t = given plan v d f
+idle_row plan v (idle.Queued d f) t = call_returns cb.Idle d (pos 0) change.Same
+idle_row plan v (idle.AfterPut d f) t = after_put plan v d f

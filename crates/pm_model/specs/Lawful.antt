@@ -38,7 +38,7 @@ is_empty_place (s ∷ rest) = not true
 abbrev pub is_finished : Plan → World → Bool
 is_finished plan w =
     list_all (λ p. nat_le (length p.1.script) (called_by w p.0)) (enumerate_from 0 plan.callers)
-    && list_all is_empty_place w.callers && list_all is_empty_place w.works && list_all is_empty_place w.timers
+    && list_all is_empty_place w.caller_places && list_all is_empty_place w.work_places && list_all is_empty_place w.timer_places
     && list_all (λ pending. not pending.queued) w.views.pending && list_all is_none w.views.timers
 
 abbrev pub IsFinished : Plan → List Line → Type 0

@@ -16,6 +16,8 @@ pub mod ResumeTable
 pub mod HelperTable
 pub mod ControlTable
 pub mod Handing
+pub mod WellFormed
+pub mod CanTake
 pub mod World
 pub mod Lawful
 pub mod Serial

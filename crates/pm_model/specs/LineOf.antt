@@ -69,8 +69,8 @@ is_work_line work.Defer = true
 is_work_line (work.Run r) = true
 
 abbrev pub is_timer_line : TimerAct → Bool
-is_timer_line (timer.Arm at auto_on) = nat_lt at (2 ^ 64)
-is_timer_line (timer.Fire auto_on) = true
+is_timer_line (timer.Arm at autosuspends) = nat_lt at (2 ^ 64)
+is_timer_line (timer.Fire autosuspends) = true
 
 abbrev pub is_event_of : ℕ → Event → Bool
 is_event_of devices (event.Call c) = is_command_line devices c

@@ -57,12 +57,12 @@ abbrev pub back : ℤ → Then
 back c = record { push = []; back = Some c }
 
 -- a return line, after which the call ends
-abbrev pub returns : Cb → DevId → ℤ → Change → Row
-returns func d c change = writes (event.Return func d c) change (back c)
+abbrev pub call_returns : Cb → DevId → ℤ → Change → Row
+call_returns func d c change = writes (event.Return func d c) change (back c)
 
 -- the return line of a helper, after which its actor's place is empty
-abbrev pub ret : Helper → DevId → ℤ → Change → Row
-ret h d c change = writes (event.Ret h d c) change (back c)
+abbrev pub helper_returns : Helper → DevId → ℤ → Change → Row
+helper_returns h d c change = writes (event.Ret h d c) change (back c)
 
 -- the first line of idle, of suspend and of resume, called over these stages
 abbrev pub idles : Plan → Views → DevId → ℕ → Change → List Stage → Row

@@ -32,8 +32,8 @@ late_moment (Wait d) = None
 abbrev pub callers_and_works : Plan → List ActorId
 callers_and_works plan = map (λ p. Caller p.0) (enumerate_from 0 plan.callers) ++ map (λ p. Work p.0) (enumerate_from 0 plan.devices)
 
-abbrev pub timers : Plan → List ActorId
-timers plan = map (λ p. Timer p.0) (enumerate_from 0 plan.devices)
+abbrev pub timer_actors : Plan → List ActorId
+timer_actors plan = map (λ p. Timer p.0) (enumerate_from 0 plan.devices)
 
 -- how many of callers and work items come before the search begins: it begins after the writer of the last line, and
 -- at the first caller where there is none or where it is a timer
@@ -43,7 +43,7 @@ seat plan (line ∷ h) = elim line.actor [ Caller c ↦ c + 1 | Work d ↦ lengt
 
 -- callers and work items once round from that seat, and then the timers
 abbrev pub round : Plan → List Line → List ActorId
-round plan h = drop (seat plan h) (callers_and_works plan) ++ take (seat plan h) (callers_and_works plan) ++ timers plan
+round plan h = drop (seat plan h) (callers_and_works plan) ++ take (seat plan h) (callers_and_works plan) ++ timer_actors plan
 
 -- who writes the next line at t: the first of the round that may
 abbrev pub turn_at : Plan → List Line → ℕ → Option ActorId

@@ -98,7 +98,7 @@ cb_word cb.Resume = codes "resume"
 
 -- the kind of a timer
 abbrev pub kind_word : Bool → List ℕ
-kind_word auto_on = if auto_on then codes "auto" else codes "plain"
+kind_word autosuspends = if autosuspends then codes "auto" else codes "plain"
 
 abbrev pub space : List ℕ
 space = codes " "
@@ -160,8 +160,8 @@ work_text work.Defer = codes "defer"
 work_text (work.Run r) = codes "run " ++ req_word r
 
 abbrev pub timer_text : TimerAct → List ℕ
-timer_text (timer.Arm at auto_on) = codes "arm " ++ decimal at ++ space ++ kind_word auto_on
-timer_text (timer.Fire auto_on) = codes "fire " ++ kind_word auto_on
+timer_text (timer.Arm at autosuspends) = codes "arm " ++ decimal at ++ space ++ kind_word autosuspends
+timer_text (timer.Fire autosuspends) = codes "fire " ++ kind_word autosuspends
 
 -- the event's name, a colon, and the rest
 abbrev pub event_text : Names → Event → List ℕ

@@ -27,10 +27,10 @@ use Rattle.pm_model.specs.Views.{Views, device, pending_of, timer}
 use Rattle.pm_model.specs.ChangeViews.{suspend_ended}
 use Rattle.pm_model.specs.Derived.{refusal, has, expiry, is_ahead, is_suspending, is_resuming, is_moving, callback_code, down, first_held, first_of}
 use Rattle.pm_model.specs.Events.{by_event, is_try_again}
-use Rattle.pm_model.specs.Row.{Row, writes, waits, returns, idles, suspends, resumes, goes, calls}
+use Rattle.pm_model.specs.Row.{Row, writes, waits, call_returns, idles, suspends, resumes, goes, calls}
 
-abbrev pub goes_on : SuspendStage → Then
-goes_on s = goes (stage.Suspend s)
+abbrev pub suspend_goes : SuspendStage → Then
+suspend_goes s = goes (stage.Suspend s)
 
 -- the flags forbid to wait for a transition that is under way
 abbrev pub may_not_wait : ℕ → Bool
@@ -49,17 +49,17 @@ suspend_request f = if has f AUTO then req.Autosuspend else req.Suspend
 unfoldable pub suspend_verdict : Plan → Views → DevId → ℕ → ℕ → Row
 suspend_verdict plan v d f t =
     first_of (
-    (not (int_eq (refusal plan v d) (pos 0)), returns cb.Suspend d (refusal plan v d) change.Same)
-    ∷ (is_resuming v d && not (has f ASYNC), returns cb.Suspend d EAGAIN change.Same)
+    (not (int_eq (refusal plan v d) (pos 0)), call_returns cb.Suspend d (refusal plan v d) change.Same)
+    ∷ (is_resuming v d && not (has f ASYNC), call_returns cb.Suspend d EAGAIN change.Same)
     ∷ (
       has f AUTO && not (is_suspending v d) && is_ahead (expiry v d) t,
-      writes (event.Timer d (Arm (autosuspend_at v d) true)) (change.CancelRequest d) (goes_on (suspend.Done d f (pos 0))),
+      writes (event.Timer d (Arm (autosuspend_at v d) true)) (change.CancelRequest d) (suspend_goes (suspend.Done d f (pos 0))),
     )
-    ∷ (is_suspending v d && may_not_wait f, returns cb.Suspend d EINPROGRESS (change.Cancel d))
-    ∷ (is_suspending v d, writes (event.Wait d) (change.Cancel d) (goes_on (suspend.Waiting d f)))
-    ∷ (no_callbacks plan d, writes (event.State d word.Suspended) (change.Cancel d) (goes_on (suspend.Parent d f)))
-    ∷ (has f ASYNC, writes (event.Work d (Queue (suspend_request f))) (change.Disarm d) (goes_on (suspend.Done d f (pos 0))))
-    ∷ []) (writes (event.Begin d cb.Suspend) (change.Cancel d) (goes_on (suspend.Running d f t)))
+    ∷ (is_suspending v d && may_not_wait f, call_returns cb.Suspend d EINPROGRESS (change.Cancel d))
+    ∷ (is_suspending v d, writes (event.Wait d) (change.Cancel d) (suspend_goes (suspend.Waiting d f)))
+    ∷ (no_callbacks plan d, writes (event.State d word.Suspended) (change.Cancel d) (suspend_goes (suspend.Parent d f)))
+    ∷ (has f ASYNC, writes (event.Work d (Queue (suspend_request f))) (change.Disarm d) (suspend_goes (suspend.Done d f (pos 0))))
+    ∷ []) (writes (event.Begin d cb.Suspend) (change.Cancel d) (suspend_goes (suspend.Running d f t)))
 
 -- S2: where the callback asks to try again and the next expiry is ahead, the tests are made anew
 unfoldable pub suspend_ends : Plan → Views → DevId → ℕ → ℕ → Row
@@ -68,24 +68,24 @@ suspend_ends plan v d f t =
     let ended = event.End d cb.Suspend c in
     let after = by_event plan t ended (suspend_ended plan d c t v) in
     writes ended (change.SuspendEnded d c)
-    (if int_eq c (pos 0) then goes_on (suspend.Domain d f)
-    else if is_try_again c && has f AUTO && is_ahead (expiry after d) t then goes_on (suspend.Verdict d f)
-    else goes_on (suspend.Done d f c))
+    (if int_eq c (pos 0) then suspend_goes (suspend.Domain d f)
+    else if is_try_again c && has f AUTO && is_ahead (expiry after d) t then suspend_goes (suspend.Verdict d f)
+    else suspend_goes (suspend.Done d f c))
 
 -- S4: the held link with the least supplier is given back, until none is held
-abbrev pub gives_links : Views → DevId → ℕ → Option (ℕ × DevId) → Row
-gives_links v d f (Some link) = writes (event.Put link.1 (why.Link d)) change.Same (calls (stage.Idle (idle.Given link.1 5)) (await.SuspendLinks d f))
-gives_links v d f None =
-    if (pending_of v d).deferred then writes (event.State d word.Deferred) change.Same (goes_on (suspend.Deferred d f))
-    else writes (event.State d word.Suspended) change.Same (goes_on (suspend.Parent d f))
+abbrev pub suspend_gives : Views → DevId → ℕ → Option (ℕ × DevId) → Row
+suspend_gives v d f (Some link) = writes (event.Put link.1 (why.Link d)) change.Same (calls (stage.Idle (idle.AfterPut link.1 5)) (await.SuspendLinks d f))
+suspend_gives v d f None =
+    if (pending_of v d).deferred then writes (event.State d word.Deferred) change.Same (suspend_goes (suspend.Deferred d f))
+    else writes (event.State d word.Suspended) change.Same (suspend_goes (suspend.Parent d f))
 
 unfoldable pub suspend_links : Plan → Views → DevId → ℕ → Row
-suspend_links plan v d f = gives_links v d f (first_held plan v d)
+suspend_links plan v d f = suspend_gives v d f (first_held plan v d)
 
 -- S3
 unfoldable pub suspend_domain : Plan → Views → DevId → ℕ → Row
 suspend_domain plan v d f =
-    first_of ((has_domain plan d, writes (event.Domain d false (length (down plan v d))) change.Same (goes_on (suspend.Links d f))) ∷ []) (suspend_links plan v d f)
+    first_of ((has_domain plan d, writes (event.Domain d false (length (down plan v d))) change.Same (suspend_goes (suspend.Links d f))) ∷ []) (suspend_links plan v d f)
 
 -- d has a parent that counts its children
 abbrev pub tells_parent : Plan → Views → DevId → Bool
@@ -95,7 +95,7 @@ tells_parent plan v d = has_parent plan d && not (device v (parent_of plan d)).i
 unfoldable pub suspend_parent : Plan → Views → DevId → ℕ → Row
 suspend_parent plan v d f =
     first_of ((tells_parent plan v d, idles plan v (parent_of plan d) 1 change.Same (stage.Await (await.SuspendParent d f) ∷ [])) ∷ [])
-    (returns cb.Suspend d (pos 0) change.Same)
+    (call_returns cb.Suspend d (pos 0) change.Same)
 
 abbrev pub suspend_row : Plan → Views → SuspendStage → ℕ → Row
 suspend_row plan v (suspend.Enter d f) t = suspends plan v d f []
@@ -106,4 +106,4 @@ suspend_row plan v (suspend.Domain d f) t = suspend_domain plan v d f
 suspend_row plan v (suspend.Links d f) t = suspend_links plan v d f
 suspend_row plan v (suspend.Deferred d f) t = resumes plan v d 0 Plain (stage.Await (await.SuspendDeferred d f) ∷ [])
 suspend_row plan v (suspend.Parent d f) t = suspend_parent plan v d f
-suspend_row plan v (suspend.Done d f c) t = returns cb.Suspend d c change.Same
+suspend_row plan v (suspend.Done d f c) t = call_returns cb.Suspend d c change.Same

@@ -57,20 +57,20 @@ move plan v s t = option_map (timed (due plan v s) t) (row plan v s t)
 -- the views, the place of each actor, the next to write first, and how many commands each caller has called
 pub record World : Type 0 where
   pub views : Views
-  pub callers : List (List Stage)
-  pub works : List (List Stage)
-  pub timers : List (List Stage)
+  pub caller_places : List (List Stage)
+  pub work_places : List (List Stage)
+  pub timer_places : List (List Stage)
   pub called : List ℕ
 
 abbrev pub place : World → ActorId → List Stage
-place w (Caller c) = slice_index_or w.callers c []
-place w (Work d) = slice_index_or w.works d []
-place w (Timer d) = slice_index_or w.timers d []
+place w (Caller c) = slice_index_or w.caller_places c []
+place w (Work d) = slice_index_or w.work_places d []
+place w (Timer d) = slice_index_or w.timer_places d []
 
 abbrev pub with_place : World → ActorId → List Stage → World
-with_place w (Caller c) stages = record w { callers = slice_set w.callers c stages }
-with_place w (Work d) stages = record w { works = slice_set w.works d stages }
-with_place w (Timer d) stages = record w { timers = slice_set w.timers d stages }
+with_place w (Caller c) stages = record w { caller_places = slice_set w.caller_places c stages }
+with_place w (Work d) stages = record w { work_places = slice_set w.work_places d stages }
+with_place w (Timer d) stages = record w { timer_places = slice_set w.timer_places d stages }
 
 abbrev pub called_by : World → ℕ → ℕ
 called_by w c = slice_index_or w.called c 0
@@ -125,9 +125,9 @@ start_views plan = record {
 abbrev pub start : Plan → World
 start plan = record {
   views = start_views plan;
-  callers = map (λ row. []) plan.callers;
-  works = map (λ row. []) plan.devices;
-  timers = map (λ row. []) plan.devices;
+  caller_places = map (λ row. []) plan.callers;
+  work_places = map (λ row. []) plan.devices;
+  timer_places = map (λ row. []) plan.devices;
   called = map (λ row. 0) plan.callers;
 }
 

@@ -112,9 +112,9 @@ pub enum WorkAct {
 #[derive(Clone, Copy, Debug, PartialEq, Eq)]
 pub enum TimerAct {
     /// The timer is armed for this moment, in milliseconds of the run.
-    Arm { at: u64, auto_on: bool },
+    Arm { at: u64, autosuspends: bool },
     /// The timer fires.
-    Fire { auto_on: bool },
+    Fire { autosuspends: bool },
 }
 
 /// What one line of a trace tells. The four payload events are the kernel's; the others are this

@@ -35,14 +35,14 @@ pub fn take_code(stage: Await, code: i32) -> Handed
         Await::ResumeSupplier { call, .. } => Stage::Resume(ResumeStage::Supplied { call, code }),
         Await::ResumeIdle { call } => Stage::Resume(ResumeStage::Done { call, code: 0 }),
         Await::ResumeUnwind { call, code } => Stage::Resume(ResumeStage::Unwind { call, code }),
-        Await::ResumeGiven { code, .. } => return Handed::Back(code),
+        Await::ResumePut { code, .. } => return Handed::Back(code),
         Await::Return { helper, dev } => Stage::Helper(HelperStage::Ret { helper, dev, code }),
         Await::ReturnZero { helper, dev } => Stage::Helper(HelperStage::Ret {
             helper,
             dev,
             code: 0,
         }),
-        Await::DisableResume { dev } => Stage::Control(ControlStage::DisableGiven { dev }),
+        Await::DisableResume { dev } => Stage::Control(ControlStage::DisablePut { dev }),
         Await::BarrierResume { dev } => Stage::Control(ControlStage::BarrierIdle { dev, code: 1 }),
         Await::ActiveSupplier { dev, .. } => Stage::Control(if is_supplied(code) {
             ControlStage::ActiveLinks { dev }

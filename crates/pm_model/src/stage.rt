@@ -23,7 +23,7 @@ pub enum IdleStage {
     /// [I4]
     Queued { dev: DevId, flags: u8 },
     /// [T] A count on the device was given back.
-    Given { dev: DevId, flags: u8 },
+    AfterPut { dev: DevId, flags: u8 },
 }
 
 /// A stage of a suspend.
@@ -121,7 +121,7 @@ pub enum HelperStage {
         command: Command,
     },
     /// After the put line of a put that goes on to suspend.
-    Given {
+    PutSuspends {
         command: Command,
     },
     /// `delay`, called at `since`, with its milliseconds.
@@ -143,7 +143,7 @@ pub enum ControlStage {
     /// The line after the call's: [X1] of `disable`, [A1] of `set_active`.
     Start { command: Command },
     /// `disable` has carried out a pending resume.
-    DisableGiven { dev: DevId },
+    DisablePut { dev: DevId },
     /// [X2]
     Disable { dev: DevId },
     /// [X3]
@@ -180,7 +180,7 @@ pub enum Await {
     /// Then [R9] with the code that is kept.
     ResumeUnwind { call: ResumeCall, code: i32 },
     /// [R7] with its put written: it ends with the code that is kept.
-    ResumeGiven { call: ResumeCall, code: i32 },
+    ResumePut { call: ResumeCall, code: i32 },
     /// Then the helper's return line with the call's code.
     Return { helper: Helper, dev: DevId },
     /// Then the helper's return line with 0.

@@ -15,7 +15,7 @@ ghost use Rattle.pm_model.specs.declared.stage.ResumeStage.TheVariants as resume
 ghost use Rattle.pm_model.specs.declared.stage.Stage.TheVariants as the_stage;
 ghost use Rattle.pm_model.specs.Derived.{begun, first_of, has, is_moving, is_resuming, is_suspending, minds_parent};
 ghost use Rattle.pm_model.specs.PlanRows.{has_parent, ms_of, parent_of};
-ghost use Rattle.pm_model.specs.ResumeTable.{goes_on, leaves, resume_begins, resume_domain, resume_ends, resume_links, resume_row, resume_unwinds, resume_verdict, returns_from};
+ghost use Rattle.pm_model.specs.ResumeTable.{resume_goes, leaves, resume_begins, resume_domain, resume_ends, resume_links, resume_row, resume_unwinds, resume_verdict, resume_returns};
 ghost use Rattle.pm_model.specs.Row.{calls, move_of, timed, waits};
 ghost use Rattle.pm_model.specs.SuspendTable.{may_not_wait};
 ghost use Rattle.pm_model.specs.World.{due};
@@ -33,8 +33,8 @@ use pm_model::{
 };
 
 // A stage of resume takes the place.
-fn goes_on(stage: ResumeStage) -> Then
-    ensures { result ≡ goes_on stage }
+fn resume_goes(stage: ResumeStage) -> Then
+    ensures { result ≡ resume_goes stage }
 {
     goes(Stage::Resume(stage))
 }
@@ -46,16 +46,16 @@ fn leaves(plan: &Plan, call: ResumeCall, code: i32) -> Then
     ensures { result ≡ leaves plan.now call code }
 {
     if call.held && has_parent(plan, call.dev) {
-        goes_on(ResumeStage::Parent { call, code })
+        resume_goes(ResumeStage::Parent { call, code })
     } else {
         back(code)
     }
 }
 
 // The return line.
-fn returns_from(plan: &Plan, call: ResumeCall, code: i32, change: Change) -> Move
+fn resume_returns(plan: &Plan, call: ResumeCall, code: i32, change: Change) -> Move
     requires { call.dev.0 < length plan.now.devices }
-    ensures { result ≡ move_of (returns_from plan.now call code change) }
+    ensures { result ≡ move_of (resume_returns plan.now call code change) }
 {
     Move::Write(
         Event::Return {
@@ -119,16 +119,16 @@ fn verdict(plan: &Plan, parts: &Parts, call: ResumeCall, tried: bool) -> Move
     let flags = call.flags;
     let cancel = Change::ResumeCancel { dev };
     if parts.has_error(dev) {
-        return returns_from(plan, call, EINVAL, Change::Same);
+        return resume_returns(plan, call, EINVAL, Change::Same);
     }
     if parts.was_active(dev) {
-        return returns_from(plan, call, 1, Change::Same);
+        return resume_returns(plan, call, 1, Change::Same);
     }
     if parts.is_disabled(dev) {
-        return returns_from(plan, call, EACCES, Change::Same);
+        return resume_returns(plan, call, EACCES, Change::Same);
     }
     if parts.is_active(dev) {
-        return returns_from(plan, call, 1, cancel);
+        return resume_returns(plan, call, 1, cancel);
     }
     if defers(parts, dev, flags) {
         let code = deferred_code(flags);
@@ -138,17 +138,17 @@ fn verdict(plan: &Plan, parts: &Parts, call: ResumeCall, tried: bool) -> Move
                 act: WorkAct::Defer,
             },
             cancel,
-            goes_on(ResumeStage::Done { call, code }),
+            resume_goes(ResumeStage::Done { call, code }),
         );
     }
     if is_under_way(parts, dev, flags) {
-        return returns_from(plan, call, EINPROGRESS, cancel);
+        return resume_returns(plan, call, EINPROGRESS, cancel);
     }
     if parts.is_moving(dev) {
         return Move::Write(
             Event::Wait { dev },
             cancel,
-            goes_on(ResumeStage::Waiting { call, tried }),
+            resume_goes(ResumeStage::Waiting { call, tried }),
         );
     }
     if has(flags, ASYNC) {
@@ -158,7 +158,7 @@ fn verdict(plan: &Plan, parts: &Parts, call: ResumeCall, tried: bool) -> Move
                 act: WorkAct::Queue(Req::Resume),
             },
             cancel,
-            goes_on(ResumeStage::Done { call, code: 0 }),
+            resume_goes(ResumeStage::Done { call, code: 0 }),
         );
     }
     let parent = parent_of(plan, dev);
@@ -170,14 +170,14 @@ fn verdict(plan: &Plan, parts: &Parts, call: ResumeCall, tried: bool) -> Move
                 why: Why::Child(dev),
             },
             cancel,
-            goes_on(ResumeStage::Verdict { call, tried }),
+            resume_goes(ResumeStage::Verdict { call, tried }),
         );
     }
     if calls_parent(plan, parts, dev, tried) {
         return parts.calls_resume(parent, 0, Purpose::Child, Await::ResumeParent { call });
     }
     if parts.awaits_parent(plan, dev) {
-        return returns_from(plan, call, EBUSY, cancel);
+        return resume_returns(plan, call, EBUSY, cancel);
     }
     if no_callbacks(plan, dev) {
         return Move::Write(
@@ -186,7 +186,7 @@ fn verdict(plan: &Plan, parts: &Parts, call: ResumeCall, tried: bool) -> Move
                 word: Word::Active,
             },
             cancel,
-            goes_on(ResumeStage::Idle { call }),
+            resume_goes(ResumeStage::Idle { call }),
         );
     }
     Move::Write(
@@ -195,7 +195,7 @@ fn verdict(plan: &Plan, parts: &Parts, call: ResumeCall, tried: bool) -> Move
             word: Word::Resuming,
         },
         cancel,
-        goes_on(ResumeStage::Links { call }),
+        resume_goes(ResumeStage::Links { call }),
     )
 }
 
@@ -222,7 +222,7 @@ fn begins(call: ResumeCall, time: u64) -> Move
             cb: Cb::Resume,
         },
         Change::Same,
-        goes_on(ResumeStage::Running { call, since: time }),
+        resume_goes(ResumeStage::Running { call, since: time }),
     )
 }
 
@@ -255,7 +255,7 @@ fn links(plan: &Plan, parts: &Parts, call: ResumeCall, time: u64) -> Move
                         count: parts.up_count(plan, dev),
                     },
                     Change::Same,
-                    goes_on(ResumeStage::Callback { call }),
+                    resume_goes(ResumeStage::Callback { call }),
                 )
             } else {
                 begins(call, time)
@@ -280,7 +280,7 @@ fn unwinds(plan: &Plan, parts: &Parts, call: ResumeCall, code: i32) -> Move
             },
             Change::Same,
             calls(
-                Stage::Idle(IdleStage::Given {
+                Stage::Idle(IdleStage::AfterPut {
                     dev: supplier,
                     flags: 5,
                 }),
@@ -293,7 +293,7 @@ fn unwinds(plan: &Plan, parts: &Parts, call: ResumeCall, code: i32) -> Move
                 word: Word::Suspended,
             },
             Change::Same,
-            goes_on(ResumeStage::Done { call, code }),
+            resume_goes(ResumeStage::Done { call, code }),
         ),
     }
 }
@@ -314,7 +314,7 @@ fn domain(plan: &Plan, parts: &Parts, call: ResumeCall, code: i32) -> Move
                 count: parts.down_count(plan, dev),
             },
             Change::Same,
-            goes_on(ResumeStage::Unwind { call, code }),
+            resume_goes(ResumeStage::Unwind { call, code }),
         );
     }
     unwinds(plan, parts, call, code)
@@ -349,12 +349,12 @@ fn ends(plan: &Plan, parts: &Parts, call: ResumeCall) -> Move
         code,
     };
     if code == 0 {
-        Move::Write(ended, Change::Same, goes_on(ResumeStage::Resumed { call }))
+        Move::Write(ended, Change::Same, resume_goes(ResumeStage::Resumed { call }))
     } else {
         Move::Write(
             ended,
             Change::Cancel { dev },
-            goes_on(ResumeStage::Domain { call, code }),
+            resume_goes(ResumeStage::Domain { call, code }),
         )
     }
 }
@@ -378,7 +378,7 @@ fn running(plan: &Plan, parts: &Parts, call: ResumeCall, since: u64, time: u64) 
 // R7
 fn gives_parent(plan: &Plan, call: ResumeCall, code: i32) -> Move
     requires { call.dev.0 < length plan.now.devices }
-    ensures { result ≡ move.Write (event.Put (parent_of plan.now call.dev) (why.Child call.dev)) change.Same (calls (the_stage.Idle (idle.Given (parent_of plan.now call.dev) 5)) (await.ResumeGiven call code)) }
+    ensures { result ≡ move.Write (event.Put (parent_of plan.now call.dev) (why.Child call.dev)) change.Same (calls (the_stage.Idle (idle.AfterPut (parent_of plan.now call.dev) 5)) (await.ResumePut call code)) }
 {
     let parent = parent_of(plan, call.dev);
     Move::Write(
@@ -388,18 +388,18 @@ fn gives_parent(plan: &Plan, call: ResumeCall, code: i32) -> Move
         },
         Change::Same,
         calls(
-            Stage::Idle(IdleStage::Given {
+            Stage::Idle(IdleStage::AfterPut {
                 dev: parent,
                 flags: 5,
             }),
-            Await::ResumeGiven { call, code },
+            Await::ResumePut { call, code },
         ),
     )
 }
 
 // R4c
 fn resumed(call: ResumeCall) -> Move
-    ensures { result ≡ move.Write (event.State call.dev word.Active) change.Same (goes_on (resume.Idle call)) }
+    ensures { result ≡ move.Write (event.State call.dev word.Active) change.Same (resume_goes (resume.Idle call)) }
 {
     Move::Write(
         Event::State {
@@ -407,7 +407,7 @@ fn resumed(call: ResumeCall) -> Move
             word: Word::Active,
         },
         Change::Same,
-        goes_on(ResumeStage::Idle { call }),
+        resume_goes(ResumeStage::Idle { call }),
     )
 }
 
@@ -432,7 +432,7 @@ pub fn next(plan: &Plan, parts: &Parts, stage: ResumeStage, time: u64) -> Move
         ResumeStage::Idle { call } => {
             parts.calls_idle(call.dev, 1, Change::Same, Await::ResumeIdle { call })
         }
-        ResumeStage::Done { call, code } => returns_from(plan, call, code, Change::Same),
+        ResumeStage::Done { call, code } => resume_returns(plan, call, code, Change::Same),
         ResumeStage::Parent { call, code } => gives_parent(plan, call, code),
         ResumeStage::Domain { call, code } => domain(plan, parts, call, code),
         ResumeStage::Unwind { call, code } => unwinds(plan, parts, call, code),

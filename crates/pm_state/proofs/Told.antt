@@ -39,7 +39,7 @@ idle_in plan v (idle.Enter d f) h = below _ _ h
 idle_in plan v (idle.Verdict d f) h = below _ _ h
 idle_in plan v (idle.Done d f c) h = below _ _ h
 idle_in plan v (idle.Queued d f) h = below _ _ h
-idle_in plan v (idle.Given d f) h = below _ _ h
+idle_in plan v (idle.AfterPut d f) h = below _ _ h
 
 pub idle_can : (plan : Plan) (v : Views) (s : IdleStage) → tells_idle plan v s ≡ true → idles.CanTell plan v s
 idle_can plan v (idle.Running d f since) h = grind (arith, common_steps)
@@ -47,7 +47,7 @@ idle_can plan v (idle.Enter d f) h = tt
 idle_can plan v (idle.Verdict d f) h = tt
 idle_can plan v (idle.Done d f c) h = tt
 idle_can plan v (idle.Queued d f) h = tt
-idle_can plan v (idle.Given d f) h = tt
+idle_can plan v (idle.AfterPut d f) h = tt
 
 pub suspend_in : (plan : Plan) (v : Views) (s : SuspendStage) → tells_suspend plan v s ≡ true → (suspends.device_of s).0 < length plan.devices
 suspend_in plan v (suspend.Running d f since) h = grind (arith, common_steps)
@@ -105,7 +105,7 @@ pub helper_in : (n : ℕ) (s : HelperStage) → tells_helper n s ≡ true → he
 helper_in n (at.Work d) h = below _ _ h
 helper_in n (at.Timer d) h = below _ _ h
 helper_in n (at.Start c) h = below _ _ h
-helper_in n (at.Given c) h = below _ _ h
+helper_in n (at.PutSuspends c) h = below _ _ h
 helper_in n (at.Call c) h = tt
 helper_in n (at.Delay ms since) h = tt
 helper_in n (at.Ret x d c) h = tt
@@ -115,13 +115,13 @@ helper_can n (at.Delay ms since) h = grind (arith, common_steps)
 helper_can n (at.Work d) h = tt
 helper_can n (at.Timer d) h = tt
 helper_can n (at.Start c) h = tt
-helper_can n (at.Given c) h = tt
+helper_can n (at.PutSuspends c) h = tt
 helper_can n (at.Call c) h = tt
 helper_can n (at.Ret x d c) h = tt
 
 pub control_in : (n : ℕ) (s : ControlStage) → tells_control n s ≡ true → (controls.device_of s).0 < n
 control_in n (control.Start c) h = below _ _ (first_of_two (nat_lt c.dev.0 n) _ h)
-control_in n (control.DisableGiven d) h = below _ _ h
+control_in n (control.DisablePut d) h = below _ _ h
 control_in n (control.Disable d) h = below _ _ h
 control_in n (control.Disabled d) h = below _ _ h
 control_in n (control.BarrierResume d) h = below _ _ h
@@ -133,7 +133,7 @@ control_in n (control.SuppliersIdle d last) h = below _ _ h
 
 pub control_has : (n : ℕ) (s : ControlStage) → tells_control n s ≡ true → controls.HasCommand n s
 control_has n (control.Start c) h = second_of_two (nat_lt c.dev.0 n) _ h
-control_has n (control.DisableGiven d) h = tt
+control_has n (control.DisablePut d) h = tt
 control_has n (control.Disable d) h = tt
 control_has n (control.Disabled d) h = tt
 control_has n (control.BarrierResume d) h = tt

@@ -14,7 +14,7 @@ abbrev pub helper_device : HelperStage → Option DevId
 helper_device (at.Work d) = Some d
 helper_device (at.Timer d) = Some d
 helper_device (at.Start c) = Some c.dev
-helper_device (at.Given c) = Some c.dev
+helper_device (at.PutSuspends c) = Some c.dev
 helper_device (at.Ret h d c) = Some d
 helper_device _ = None
 

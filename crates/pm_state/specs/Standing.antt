@@ -34,9 +34,9 @@ IsActor plan (Timer d) = d < length plan.devices
 -- for each caller
 pub record IsOf (plan : Plan) (s : Standing) : Type 0 where
   pub made_for : IsFor plan s.shape
-  pub callers : length s.world.callers ≡ length plan.callers
-  pub works : length s.world.works ≡ length plan.devices
-  pub timers : length s.world.timers ≡ length plan.devices
+  pub callers : length s.world.caller_places ≡ length plan.callers
+  pub works : length s.world.work_places ≡ length plan.devices
+  pub timers : length s.world.timer_places ≡ length plan.devices
   pub called : length s.world.called ≡ length plan.callers
 
 -- where the run stands once a line is written whose row names this change, and this takes its stage's place

@@ -66,7 +66,7 @@ abbrev pub tells_helper : ℕ → HelperStage → Bool
 tells_helper n (at.Work d) = is_in n d
 tells_helper n (at.Timer d) = is_in n d
 tells_helper n (at.Start c) = is_in n c.dev
-tells_helper n (at.Given c) = is_in n c.dev
+tells_helper n (at.PutSuspends c) = is_in n c.dev
 tells_helper n (at.Delay ms since) = int_le (pos 0) ms && is_moment (since + nat_abs ms)
 tells_helper n _ = true
 

@@ -20,7 +20,7 @@ pub(crate) fn idle_device(stage: IdleStage) -> DevId
         | IdleStage::Running { dev, .. }
         | IdleStage::Done { dev, .. }
         | IdleStage::Queued { dev, .. }
-        | IdleStage::Given { dev, .. } => dev,
+        | IdleStage::AfterPut { dev, .. } => dev,
     }
 }
 
@@ -68,7 +68,7 @@ pub(crate) fn control_device(stage: ControlStage) -> DevId
 {
     match stage {
         ControlStage::Start { command } => command.dev,
-        ControlStage::DisableGiven { dev }
+        ControlStage::DisablePut { dev }
         | ControlStage::Disable { dev }
         | ControlStage::Disabled { dev }
         | ControlStage::BarrierResume { dev }
@@ -89,7 +89,7 @@ fn helper_device(stage: HelperStage) -> Option<DevId>
         HelperStage::Work { dev } | HelperStage::Timer { dev } | HelperStage::Ret { dev, .. } => {
             Some(dev)
         }
-        HelperStage::Start { command } | HelperStage::Given { command } => Some(command.dev),
+        HelperStage::Start { command } | HelperStage::PutSuspends { command } => Some(command.dev),
     }
 }
 

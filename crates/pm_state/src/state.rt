@@ -33,9 +33,9 @@ impl Model for State {
       shape = s.parts.shape;
       world = record {
         views = s.parts.views;
-        callers = s.callers.items;
-        works = s.works.items;
-        timers = s.timers.items;
+        caller_places = s.callers.items;
+        work_places = s.works.items;
+        timer_places = s.timers.items;
         called = s.called.items;
       };
     } };

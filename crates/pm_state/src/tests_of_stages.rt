@@ -84,7 +84,7 @@ fn tells_helper(devices: usize, stage: HelperStage) -> bool
 {
     match stage {
         HelperStage::Work { dev } | HelperStage::Timer { dev } => is_in(devices, dev),
-        HelperStage::Start { command } | HelperStage::Given { command } => {
+        HelperStage::Start { command } | HelperStage::PutSuspends { command } => {
             is_in(devices, command.dev)
         }
         HelperStage::Delay { ms, since } => ms >= 0 && has_later(since, ms.unsigned_abs()),

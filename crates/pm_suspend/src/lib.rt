@@ -14,7 +14,7 @@ ghost use Rattle.pm_model.specs.Derived.{begun, expiry, is_ahead};
 ghost use Rattle.pm_model.specs.Events.{by_event};
 ghost use Rattle.pm_model.specs.PlanRows.{ms_of};
 ghost use Rattle.pm_model.specs.Row.{move_of, timed};
-ghost use Rattle.pm_model.specs.SuspendTable.{goes_on, suspend_domain, suspend_ends, suspend_links, suspend_parent, suspend_request, suspend_row, suspend_verdict};
+ghost use Rattle.pm_model.specs.SuspendTable.{suspend_goes, suspend_domain, suspend_ends, suspend_links, suspend_parent, suspend_request, suspend_row, suspend_verdict};
 ghost use Rattle.pm_model.specs.Views.{device};
 ghost use Rattle.pm_model.specs.World.{due};
 ghost use Rattle.pm_device.specs.Parts.{IsFor};
@@ -23,7 +23,7 @@ ghost use Rattle.pm_suspend.specs.SuspendMove.{CanTell, device_of, expiry_of, la
 use pm_base::{ASYNC, AUTO, Cb, DevId, EAGAIN, EINPROGRESS, Req, Why};
 use pm_device::{
     Parts, calls, goes, has, has_domain, is_try_again, marks_busy, may_not_wait, ms_of,
-    no_callbacks, parent_of, returns,
+    no_callbacks, parent_of, call_returns,
 };
 use pm_model::{
     Await, Change, Event, IdleStage, Move, Plan, Purpose, Stage, SuspendStage, Then, TimerAct,
@@ -31,8 +31,8 @@ use pm_model::{
 };
 
 // A stage of suspend takes the place.
-fn goes_on(stage: SuspendStage) -> Then
-    ensures { result ≡ goes_on stage }
+fn suspend_goes(stage: SuspendStage) -> Then
+    ensures { result ≡ suspend_goes stage }
 {
     goes(Stage::Suspend(stage))
 }
@@ -57,20 +57,20 @@ fn verdict(plan: &Plan, parts: &Parts, dev: DevId, flags: u8, time: u64) -> Move
 {
     let refusal = parts.refusal(plan, dev);
     if refusal != 0 {
-        return returns(Cb::Suspend, dev, refusal, Change::Same);
+        return call_returns(Cb::Suspend, dev, refusal, Change::Same);
     }
     if parts.is_resuming(dev) && !has(flags, ASYNC) {
-        return returns(Cb::Suspend, dev, EAGAIN, Change::Same);
+        return call_returns(Cb::Suspend, dev, EAGAIN, Change::Same);
     }
     if parts.is_early(dev, flags, time) {
         let act = TimerAct::Arm {
             at: parts.autosuspend_at(dev),
-            auto_on: true,
+            autosuspends: true,
         };
         return Move::Write(
             Event::Timer { dev, act },
             Change::CancelRequest { dev },
-            goes_on(SuspendStage::Done {
+            suspend_goes(SuspendStage::Done {
                 dev,
                 flags,
                 code: 0,
@@ -78,13 +78,13 @@ fn verdict(plan: &Plan, parts: &Parts, dev: DevId, flags: u8, time: u64) -> Move
         );
     }
     if parts.is_suspending(dev) && may_not_wait(flags) {
-        return returns(Cb::Suspend, dev, EINPROGRESS, Change::Cancel { dev });
+        return call_returns(Cb::Suspend, dev, EINPROGRESS, Change::Cancel { dev });
     }
     if parts.is_suspending(dev) {
         return Move::Write(
             Event::Wait { dev },
             Change::Cancel { dev },
-            goes_on(SuspendStage::Waiting { dev, flags }),
+            suspend_goes(SuspendStage::Waiting { dev, flags }),
         );
     }
     if no_callbacks(plan, dev) {
@@ -94,7 +94,7 @@ fn verdict(plan: &Plan, parts: &Parts, dev: DevId, flags: u8, time: u64) -> Move
                 word: Word::Suspended,
             },
             Change::Cancel { dev },
-            goes_on(SuspendStage::Parent { dev, flags }),
+            suspend_goes(SuspendStage::Parent { dev, flags }),
         );
     }
     if has(flags, ASYNC) {
@@ -104,7 +104,7 @@ fn verdict(plan: &Plan, parts: &Parts, dev: DevId, flags: u8, time: u64) -> Move
                 act: WorkAct::Queue(suspend_request(flags)),
             },
             Change::Disarm { dev },
-            goes_on(SuspendStage::Done {
+            suspend_goes(SuspendStage::Done {
                 dev,
                 flags,
                 code: 0,
@@ -117,7 +117,7 @@ fn verdict(plan: &Plan, parts: &Parts, dev: DevId, flags: u8, time: u64) -> Move
             cb: Cb::Suspend,
         },
         Change::Cancel { dev },
-        goes_on(SuspendStage::Running {
+        suspend_goes(SuspendStage::Running {
             dev,
             flags,
             since: time,
@@ -194,15 +194,15 @@ fn ends(plan: &Plan, parts: &Parts, dev: DevId, flags: u8, time: u64) -> Move
             code,
         },
         Change::SuspendEnded { dev, code },
-        goes_on(next),
+        suspend_goes(next),
     )
 }
 
 // The status line with which the device is suspended.
 fn suspended(dev: DevId, word: Word, next: SuspendStage) -> Move
-    ensures { result ≡ move.Write (event.State dev word) change.Same (goes_on next) }
+    ensures { result ≡ move.Write (event.State dev word) change.Same (suspend_goes next) }
 {
-    Move::Write(Event::State { dev, word }, Change::Same, goes_on(next))
+    Move::Write(Event::State { dev, word }, Change::Same, suspend_goes(next))
 }
 
 // S4
@@ -220,7 +220,7 @@ fn links(plan: &Plan, parts: &Parts, dev: DevId, flags: u8) -> Move
             },
             Change::Same,
             calls(
-                Stage::Idle(IdleStage::Given {
+                Stage::Idle(IdleStage::AfterPut {
                     dev: supplier,
                     flags: 5,
                 }),
@@ -252,7 +252,7 @@ fn domain(plan: &Plan, parts: &Parts, dev: DevId, flags: u8) -> Move
                 count: parts.down_count(plan, dev),
             },
             Change::Same,
-            goes_on(SuspendStage::Links { dev, flags }),
+            suspend_goes(SuspendStage::Links { dev, flags }),
         );
     }
     links(plan, parts, dev, flags)
@@ -266,7 +266,7 @@ fn parent(plan: &Plan, parts: &Parts, dev: DevId, flags: u8) -> Move
     ensures { result ≡ move_of (suspend_parent plan.now parts.now.views dev flags) }
 {
     if !parts.tells_parent(plan, dev) {
-        return returns(Cb::Suspend, dev, 0, Change::Same);
+        return call_returns(Cb::Suspend, dev, 0, Change::Same);
     }
     parts.calls_idle(
         parent_of(plan, dev),
@@ -334,6 +334,6 @@ pub fn next(plan: &Plan, parts: &Parts, stage: SuspendStage, time: u64) -> Move
             )
         }
         SuspendStage::Parent { dev, flags } => parent(plan, parts, dev, flags),
-        SuspendStage::Done { dev, code, .. } => returns(Cb::Suspend, dev, code, Change::Same),
+        SuspendStage::Done { dev, code, .. } => call_returns(Cb::Suspend, dev, code, Change::Same),
     }
 }

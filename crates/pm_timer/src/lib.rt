@@ -45,13 +45,13 @@ impl Timers {
     /// Arms the timer of the device to fire at this moment, in milliseconds of the run, and says
     /// whether an autosuspend arms it. It takes a number of steps that is logarithmic in the number
     /// of devices.
-    pub fn arm(&mut self, dev: DevId, at: u64, auto_on: bool)
+    pub fn arm(&mut self, dev: DevId, at: u64, autosuspends: bool)
         requires { dev.0 < length self.old }
-        ensures { self.new ≡ slice_set self.old dev.0 (Some (record { deadline = at; auto_on = auto_on })) }
+        ensures { self.new ≡ slice_set self.old dev.0 (Some (record { deadline = at; autosuspends = autosuspends })) }
     {
         self.timers[dev.0 as usize] = Some(Armed {
             deadline: at,
-            auto_on,
+            autosuspends,
         });
         self.deadlines.set(dev.0 as usize, Some(at));
     }
@@ -106,7 +106,7 @@ mod tests {
             timers.armed(DevId(3))
                 == Some(Armed {
                     deadline: 7,
-                    auto_on: true
+                    autosuspends: true
                 })
         );
         assert!(rt; timers.armed(DevId(0)) == None);
