@@ -20,7 +20,7 @@ use Rattle.pm_sums.specs.Sums.{one, tally, weigh}
 use Rattle.pm_sums.proofs.Tally.{weigh_is}
 use Rattle.pm_laws.specs.Owners.{places}
 use Rattle.pm_laws.proofs.Places.{shown, shown_of, IsPlaced, tally_placed}
-use Rattle.pm_stacks.specs.Pends.{needs_supplier}
+use Rattle.pm_pends.specs.Pends.{needs_supplier}
 use Rattle.pm_stacks.proofs.Standing.{IsStart, stands, stands_sum}
 
 abbrev pub MayFall : (Stage → ℕ) → Await → Handed → Type 0

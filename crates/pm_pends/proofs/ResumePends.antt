@@ -23,9 +23,9 @@ use Rattle.pm_model.specs.Views.{Views}
 use Rattle.pm_sums.specs.Sums.{one, plus}
 use Rattle.pm_laws.proofs.Rows.{said}
 use Rattle.pm_stacks.specs.Shape.{Fits, resume_call}
-use Rattle.pm_stacks.specs.Pends.{asks, link_of, is_for, is_up, pends}
-use Rattle.pm_stacks.proofs.Falling.{left}
-use Rattle.pm_stacks.proofs.Pending.{same_self}
+use Rattle.pm_pends.specs.Pends.{asks, link_of, is_for, is_up, pends}
+use Rattle.pm_pends.proofs.Falling.{left}
+use Rattle.pm_pends.proofs.Pending.{same_self}
 use Rattle.pm_stacks.proofs.Found.{rear}
 
 -- what a line owes to the links for which resumes of d are called

@@ -43,9 +43,9 @@ use Rattle.pm_model.specs.Views.{Views}
 use Rattle.pm_model.specs.World.{row}
 use Rattle.pm_sums.specs.Sums.{one, plus}
 use Rattle.pm_stacks.specs.Shape.{IsLink}
-use Rattle.pm_stacks.proofs.Falling.{left}
+use Rattle.pm_pends.proofs.Falling.{left}
 use Rattle.pm_stacks.proofs.Found.{free_is, front, rear, same_device}
-use Rattle.pm_stacks.proofs.Pending.{same_self}
+use Rattle.pm_pends.proofs.Pending.{same_self}
 
 -- where an event takes a link, its supplier's resume is pending
 abbrev pub Takes : Plan → Event → Then → Type 0

@@ -9,9 +9,9 @@ use Rattle.pm_model.specs.declared.stage.Await.TheVariants as await
 use Rattle.pm_model.specs.declared.stage.Purpose.TheVariants as purpose
 use Rattle.pm_model.specs.declared.stage.Stage.{Stage}
 use Rattle.pm_model.specs.declared.stage.Stage.TheVariants as stage
-use Rattle.pm_stacks.specs.Pends.{asked_by, link_of, awaits, consumer}
+use Rattle.pm_pends.specs.Pends.{asked_by, link_of, awaits, consumer}
 use Rattle.pm_stacks.specs.Shape.{Call, none, own, lowers, raises, call_of, May, IsLink, IsBottom, Nested}
-use Rattle.pm_stacks.proofs.Pending.{Asked, Each, IsOfConsumer}
+use Rattle.pm_pends.proofs.Pending.{Asked, Each, IsOfConsumer}
 
 bottom_asks : (k : Call) → IsBottom k → asked_by k ≡ None
 bottom_asks (raises d f p) is = ap link_of is

@@ -20,7 +20,7 @@ use Rattle.pm_model.specs.declared.stage.Stage.TheVariants as stage
 use Rattle.pm_model.specs.Handing.{take_code, on_handed, after_code}
 use Rattle.pm_model.specs.ResumeTable.{is_supplied}
 use Rattle.pm_sums.specs.Sums.{one}
-use Rattle.pm_stacks.specs.Pends.{asks, awaits, is_up, is_for, pends, lands_at, lands, is_bad_answer, is_denial, falls_back, consumer}
+use Rattle.pm_pends.specs.Pends.{asks, awaits, is_up, is_for, pends, lands_at, lands, is_bad_answer, is_denial, falls_back, consumer}
 
 -- below what was called for link q stands what awaits it, and so on down
 abbrev pub Asked : Option ℕ → List Stage → Type 0
