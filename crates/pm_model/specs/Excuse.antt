@@ -1,6 +1,7 @@
 -- Which devices are live, and what excuses a live device from a bond (this project's own). Lists have the newest line
 -- first; "at a line" means before it.
 use Rattle.std.specs.Prelude.{ℕ, Bool, true, false, not, ◌&&◌, ◌||◌, List, [], ◌∷◌, Option, Some, None, ℤ, nat_eq, if◌then◌else◌}
+use Rattle.std.specs.Option.{option_map_or}
 use Rattle.std.specs.Ordering.{int_eq}
 use Rattle.pm_base.specs.declared.Cb.{Cb}
 use Rattle.pm_base.specs.declared.Cb.TheVariants as cb
@@ -12,17 +13,14 @@ use Rattle.pm_model.specs.declared.event.Line.{Line}
 use Rattle.pm_model.specs.declared.event.Word.{Word}
 use Rattle.pm_model.specs.declared.event.Word.TheVariants as word
 use Rattle.pm_model.specs.declared.plan.Plan.{Plan}
-use Rattle.pm_model.specs.declared.stage.Await.{Await}
 use Rattle.pm_model.specs.declared.stage.Await.TheVariants as await
-use Rattle.pm_model.specs.declared.stage.Handed.{Handed}
-use Rattle.pm_model.specs.declared.stage.Handed.TheVariants as handed
 use Rattle.pm_model.specs.declared.stage.Stage.{Stage}
 use Rattle.pm_model.specs.declared.stage.Stage.TheVariants as stage
 use Rattle.pm_model.specs.PlanRows.{no_callbacks}
 use Rattle.pm_model.specs.Views.{Views, device}
 use Rattle.pm_model.specs.Derived.{is_active, is_suspended, is_disabled}
 use Rattle.pm_model.specs.Row.{Row, writes}
-use Rattle.pm_model.specs.Handing.{take_code}
+use Rattle.pm_model.specs.Handing.{arrival}
 use Rattle.pm_model.specs.World.{World, place, row_at, world}
 use Rattle.std.specs.Prelude.{drop}
 
@@ -93,29 +91,22 @@ forces x _ = false
 abbrev pub was_forced : Plan → List Line → DevId → DevId → Bool
 was_forced plan h d x = since_suspended plan (λ w line. forces x line.event) h d
 
--- a code comes to the stage that awaits the resume of link l's supplier
-abbrev pub is_answer : ℕ → Await → Bool
-is_answer l (await.ResumeSupplier r link) = nat_eq l link
-is_answer l (await.ActiveSupplier d link) = nat_eq l link
-is_answer l _ = false
+-- this stage awaits the resume of link l's supplier
+abbrev pub awaits_supplier : ℕ → Stage → Bool
+awaits_supplier l (stage.Await (await.ResumeSupplier r link)) = nat_eq l link
+awaits_supplier l (stage.Await (await.ActiveSupplier d link)) = nat_eq l link
+awaits_supplier l _ = false
 
--- what comes of a code that is handed on
-abbrev pub handed_further : Handed → (ℤ → Bool) → Bool
-handed_further (handed.Goes s) further = false
-handed_further (handed.Back k) further = further k
+abbrev pub is_on_top : (Stage → Bool) → List Stage → Bool
+is_on_top test [] = false
+is_on_top test (s ∷ rest) = test s
 
 -- the code that is handed down this stack comes to the resume of link l's supplier as -13
-abbrev pub denies : ℕ → List Stage → ℤ → Bool
-denies l [] c = false
-denies l (stage.Await a ∷ rest) c = (is_answer l a && int_eq c EACCES) || handed_further (take_code a c) (denies l rest)
-denies l (s ∷ rest) c = false
-
-abbrev pub denies_back : ℕ → List Stage → Option ℤ → Bool
-denies_back l rest None = false
-denies_back l rest (Some c) = denies l rest c
+abbrev pub is_denied : ℕ → List Stage → ℤ → Bool
+is_denied l stack c = let come = arrival stack c in is_on_top (awaits_supplier l) come.0 && int_eq come.1 EACCES
 
 abbrev pub row_denies : ℕ → List Stage → Option Row → Bool
-row_denies l rest (Some (writes e change next)) = denies_back l rest next.back
+row_denies l rest (Some (writes e change next)) = option_map_or (is_denied l rest) next.back false
 row_denies l rest _ = false
 
 -- the line ends the resume of link l's supplier with -13: the supplier is disabled
