@@ -1,6 +1,7 @@
 //! A plan of three islands: its numbers, the parts of its islands, and a merge of their runs.
 
-ghost use Rattle.std.specs.Prelude.{◌≡◌, true, false, [], ◌∷◌, Some, None, map, reverse, take};
+ghost use Rattle.std.specs.Prelude.{ℕ, ◌≡◌, ◌<◌, true, false, [], ◌∷◌, Some, None, map, reverse, take};
+ghost use Rattle.pm_model.specs.declared.plan.Plan.{Plan};
 ghost use Rattle.pm_model.specs.Apart.{EachPasses, IsFinishedOn};
 ghost use Rattle.pm_model.specs.Islands.{Connected, IsPart, Node, Numbering, island_of, merged, own, the_caller, the_device, the_domain, touch};
 ghost use Rattle.pm_model.specs.Lawful.{IsFinished, IsLawful};
@@ -38,6 +39,12 @@ pub fn numbered()
         ≡ Some 2 ∷ Some 1 ∷ Some 0 ∷ Some 0 ∷ None ∷ Some 0 ∷ Some 0 ∷ Some 0 ∷ Some 1 ∷ []) }
     ensures timers { (k : Numbering three_islands 3) × (map (island_of k) (timer_actors three_islands)
         ≡ None ∷ Some 0 ∷ Some 0 ∷ Some 0 ∷ Some 1 ∷ []) }
+{}
+
+/// A plan has one count of islands, and each node of an island one number.
+pub fn numbered_once()
+    ensures count { (plan : Plan) (m n : ℕ) → Numbering plan m → Numbering plan n → m ≡ n }
+    ensures number { (plan : Plan) (m n : ℕ) (k : Numbering plan m) (l : Numbering plan n) (a : Node) → k.island a < m → l.island a ≡ k.island a }
 {}
 
 /// Two callers of one island have one part; the whole plan isn't that part.
