@@ -4,6 +4,7 @@ pub mod Texts
 pub mod Rows
 pub mod Walks
 pub mod OneNumbering
+pub mod OnePart
 pub mod Apart
 pub mod Replay
 pub mod Merging

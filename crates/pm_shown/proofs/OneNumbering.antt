@@ -83,8 +83,8 @@ rises :
 rises plan m n k l i j less below =
     elim (cases_order x y) [
       | inl same ↦
-        absurd (one_way (l.first x) (l.first x) (subst (λ z. comes_before (l.first x) (l.first z) ≡ true) (sym same) earlier)
-        (subst (λ z. comes_before (l.first x) (l.first z) ≡ true) (sym same) earlier))
+          absurd (one_way (l.first x) (l.first x) (subst (λ z. comes_before (l.first x) (l.first z) ≡ true) (sym same) earlier)
+          (subst (λ z. comes_before (l.first x) (l.first z) ≡ true) (sym same) earlier))
       | inr (inl rise) ↦ rise
       | inr (inr fall) ↦ absurd (one_way (l.first x) (l.first y) earlier (l.in_order y x fall x_below))
     ]

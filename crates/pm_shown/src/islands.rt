@@ -47,13 +47,14 @@ pub fn numbered_once()
     ensures number { (plan : Plan) (m n : ℕ) (k : Numbering plan m) (l : Numbering plan n) (a : Node) → k.island a < m → l.island a ≡ k.island a }
 {}
 
-/// Two callers of one island have one part; the whole plan isn't that part.
+/// Two callers of one island have one part; the whole plan isn't that part. No island has two.
 pub fn parts()
     ensures of_one { IsPart three_islands numbers (numbers (the_caller 2)) first_part }
     ensures of_another { IsPart three_islands numbers (numbers (the_caller 3)) first_part }
     ensures second { IsPart three_islands numbers (numbers (the_caller 1)) second_part }
     ensures third { IsPart three_islands numbers (numbers (the_caller 0)) third_part }
     ensures whole { ¬ IsPart three_islands numbers 0 three_islands }
+    ensures once { (plan : Plan) (island : Node → ℕ) (n : ℕ) (a b : Plan) → IsPart plan island n a → IsPart plan island n b → a ≡ b }
 {}
 
 /// Each island's list is lawful for its part and finished, and it is the island's own of the merged
