@@ -1,8 +1,8 @@
 -- A plan has one numbering of its islands.
-use Rattle.std.proofs.Common.{ℕ, zero, suc, ◌≡◌, ◌∙◌, ◌<◌, ◌≤◌, Bool, true, false, nat_lt, refl, sym, ap, subst, inl, inr, arith}
-use Rattle.std.proofs.lemmas.Bool.{cases_order, false≢true, lt-ltb, ltb-true}
+use Rattle.std.proofs.Common.{ℕ, zero, suc, ◌≡◌, ◌∙◌, ◌<◌, ◌≤◌, true, false, nat_lt, sym, ap, subst, inl, inr, arith}
+use Rattle.std.proofs.lemmas.Bool.{cases_order, false≢true, ltb-true}
 use Rattle.pm_model.specs.declared.plan.Plan.{Plan}
-use Rattle.pm_model.specs.Islands.{Connected, Node, Numbering, comes_before, the_caller, the_device, the_domain}
+use Rattle.pm_model.specs.Islands.{Node, Numbering, comes_before, the_caller, the_device, the_domain}
 use Rattle.pm_shown.proofs.Walks.{keeps_number}
 
 -- the order of nodes is total and strict
