@@ -25,4 +25,5 @@ pub mod Excuse
 pub mod Counted
 pub mod Promises
 pub mod Islands
+pub mod Apart
 pub mod FirstBad
