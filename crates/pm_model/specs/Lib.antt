@@ -26,3 +26,4 @@ pub mod Counted
 pub mod Promises
 pub mod Islands
 pub mod FirstBad
+pub mod NoWhy
