@@ -2,11 +2,12 @@
 #![tactic(auto)]
 
 ghost use Rattle.std.specs.Prelude.{◌≡◌, ◌+◌, ◌<◌, ◌≤◌, ℕ, List, Some, true, false, length, slice_get};
+ghost use Rattle.pm_base.specs.declared.Cb.TheVariants as cb;
 ghost use Rattle.pm_base.specs.declared.DevId.{DevId};
 ghost use Rattle.pm_model.specs.declared.event.Line.{Line};
 ghost use Rattle.pm_model.specs.declared.plan.Plan.{Plan};
 ghost use Rattle.pm_model.specs.declared.rows.LinkRow.{LinkRow};
-ghost use Rattle.pm_model.specs.Counted.{gets, puts, freed, usage, is_callers, share, status_of, error_of, is_allowed, idle_runs, is_held_pair, is_switched_on};
+ghost use Rattle.pm_model.specs.Counted.{gets, puts, freed, usage, is_callers, share, status_of, error_of, is_allowed, runs, is_held_pair, is_switched_on};
 ghost use Rattle.pm_model.specs.Derived.{is_moving};
 ghost use Rattle.pm_model.specs.Events.{held_from};
 ghost use Rattle.pm_model.specs.Lawful.{IsLawful};
@@ -50,7 +51,7 @@ pub fn auto_is_said()
 
 /// The idle callback of a device runs from its begin to its end.
 pub fn idle_is_said()
-    ensures { (plan : Plan) (h : List Line) (d : DevId) → IsLawful plan h → d.0 < length plan.devices → (device (world plan h).views d).idle_running ≡ idle_runs h d }
+    ensures { (plan : Plan) (h : List Line) (d : DevId) → IsLawful plan h → d.0 < length plan.devices → (device (world plan h).views d).idle_running ≡ runs cb.Idle d h }
 {}
 
 /// A link is held from the get of its supplier for its consumer to the put, or to a forced suspend of its consumer
