@@ -18,6 +18,7 @@ pub mod ControlTable
 pub mod Handing
 pub mod WellFormed
 pub mod CanTake
+pub mod History
 pub mod World
 pub mod Lawful
 pub mod Serial
