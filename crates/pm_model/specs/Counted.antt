@@ -1,6 +1,6 @@
 -- What the views are, in words that name no stage (runtime_pm.rst, sections 3 to 5; device_link.rst): counts over all
--- lines, and what the last line said. Lists have the newest line first.
-use Rattle.std.specs.Prelude.{ℕ, ◌+◌, ◌-◌, Bool, true, false, ◌&&◌, List, [], ◌∷◌, Option, Some, None, ℤ, pos, nat_eq, count_by, if◌then◌else◌}
+-- lines, and what the last line said.
+use Rattle.std.specs.Prelude.{ℕ, ◌+◌, ◌-◌, Bool, true, false, ◌&&◌, [], ◌∷◌, Option, Some, None, ℤ, pos, nat_eq, count_by, if◌then◌else◌}
 use Rattle.std.specs.List.{list_any}
 use Rattle.std.specs.Ordering.{int_eq}
 use Rattle.pm_base.specs.declared.Cb.{Cb}

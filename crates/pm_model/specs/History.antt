@@ -22,9 +22,9 @@ throughout test [] = test []
 throughout test (line ∷ h) = test (line ∷ h) && throughout test h
 
 -- some line begins it, and neither that line nor a later one ends it
-abbrev pub since : (History → Line → Bool) → (History → Line → Bool) → History → Bool
-since begins ends [] = false
-since begins ends (line ∷ h) = not (ends h line) && (begins h line || since begins ends h)
+abbrev pub lasts : (History → Line → Bool) → (History → Line → Bool) → History → Bool
+lasts begins ends [] = false
+lasts begins ends (line ∷ h) = not (ends h line) && (begins h line || lasts begins ends h)
 
 -- what the last line that says anything says, or a default
 abbrev pub last_said : {A : Type 0} → (History → Line → Option A) → A → History → A

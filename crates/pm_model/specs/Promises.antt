@@ -1,6 +1,6 @@
 -- What is promised of every lawful list of lines, in words that name no stage (exclusive: runtime_pm.rst, section 2;
--- safe: sections 2 and 4, and device_link.rst; kept and the rest are this project's own). Each promise is a test, so that
--- it can be computed. Lists have the newest line first.
+-- safe: sections 2 and 4, and device_link.rst; kept and the rest are this project's own). Each is a test, so that it
+-- can be computed, but for "never stuck".
 use Rattle.std.specs.Prelude.{◌<◌, ◌⊎◌, Bool, true, false, not, ◌&&◌, ◌||◌, List, [], ◌∷◌, pos, length, map, nat_eq, if◌then◌else◌}
 use Rattle.std.specs.List.{enumerate_from, filter, list_all}
 use Rattle.std.specs.Option.{option_map_or}
@@ -11,7 +11,6 @@ use Rattle.pm_base.specs.declared.Cb.TheVariants as cb
 use Rattle.pm_base.specs.declared.DevId.{DevId}
 use Rattle.pm_base.specs.declared.Req.{Req}
 use Rattle.pm_base.specs.declared.Req.TheVariants as req
-use Rattle.pm_base.specs.declared.Why.TheVariants as why
 use Rattle.pm_model.specs.declared.event.Event.{Event}
 use Rattle.pm_model.specs.declared.event.Event.TheVariants as event
 use Rattle.pm_model.specs.declared.event.Helper.{Helper}
@@ -22,7 +21,7 @@ use Rattle.pm_model.specs.declared.plan.Plan.{Plan}
 use Rattle.pm_model.specs.PlanRows.{domains_of, has_domain, parent}
 use Rattle.pm_model.specs.Views.{Views, device, pending_of, is_on, is_present}
 use Rattle.pm_model.specs.Derived.{is_active, is_suspended, is_resuming, is_resume_request, is_disabled, children, is_link_of}
-use Rattle.pm_model.specs.History.{History, at_each_line, last_said, since, throughout}
+use Rattle.pm_model.specs.History.{History, at_each_line, last_said, lasts, throughout}
 use Rattle.pm_model.specs.World.{world}
 use Rattle.pm_model.specs.Lawful.{IsFinished, Permits}
 use Rattle.pm_model.specs.Excuse.{forces, is_excused_from_domain, is_excused_from_parent, is_excused_from_supplier, is_live}
@@ -112,11 +111,11 @@ lets_go plan d h line = nat_eq (device (world plan (line ∷ h)).views d).share 
 
 -- this actor took a count on d, and no line has let go of d since
 abbrev pub holds_count : Plan → DevId → ActorId → History → Bool
-holds_count plan d actor h = since (λ g line. is_actor actor line.actor && takes is_callers d line.event) (lets_go plan d) h
+holds_count plan d actor h = lasts (λ g line. is_actor actor line.actor && takes is_callers d line.event) (lets_go plan d) h
 
 -- a get_sync of d returned 0 or 1, and no line has let go of d since its count was taken
 abbrev pub binds : Plan → DevId → History → Bool
-binds plan d h = since (λ g line. got_well d line.event && holds_count plan d line.actor g) (lets_go plan d) h
+binds plan d h = lasts (λ g line. got_well d line.event && holds_count plan d line.actor g) (lets_go plan d) h
 
 -- kept: after every prefix each device that a get_sync binds is Active
 abbrev pub is_kept : Plan → History → Bool

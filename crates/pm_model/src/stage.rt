@@ -223,13 +223,12 @@ pub struct Stages {
 }
 
 impl Model for Stages {
-    ghost use Rattle.std.specs.Prelude.{List};
+    ghost use Rattle.std.specs.Prelude.{◌≡◌, List, refl};
     ghost use Rattle.pm_model.specs.declared.stage.Stage.{Stage};
+    ghost use Rattle.pm_model.specs.declared.stage.StageRow.TheVariants.{Zero, One, Two};
 
     ghost Value = { List Stage };
 
-    ghost use Rattle.std.specs.Prelude.{◌≡◌, refl};
-    ghost use Rattle.pm_model.specs.declared.stage.StageRow.TheVariants.{Zero, One, Two};
     ghost use Rattle.pm_model.specs.StageRows.{stages_of, row_of};
 
     ghost view = { λ s. stages_of s.row };
