@@ -1,0 +1,6 @@
+pub mod OneLine
+pub mod Bytes
+pub mod Formats
+pub mod Lawfulness
+pub mod Deciding
+pub mod Walk
