@@ -22,7 +22,7 @@ use Rattle.pm_model.specs.Spelling.{line_text}
 use Rattle.pm_model.specs.Text.{IsTextBehind, names_of}
 use Rattle.pm_model.specs.World.{move, stage_at, world}
 use Rattle.pm_texts.proofs.Formats.{IsTextIn, line_is, one_line}
-use Rattle.pm_texts.proofs.Lawfulness.{IsNext}
+use Rattle.pm_texts.specs.Next.{IsNext}
 
 abbrev pub Decided : Type 0 → Type 0
 Decided A = A ⊎ (A → ⊥)

@@ -9,6 +9,7 @@ use Rattle.pm_model.specs.Lawful.{IsLawful, Permits, last_time}
 use Rattle.pm_model.specs.NoWhy.{is_within_line}
 use Rattle.pm_model.specs.Spelling.{header, newline}
 use Rattle.pm_model.specs.Text.{IsTextBehind}
+use Rattle.pm_texts.specs.Next.{IsNext}
 use Rattle.pm_texts.proofs.OneLine.{is_inside}
 use Rattle.pm_texts.proofs.Bytes.{IsWhole, Next, cut_not_whole, front_or_all, next_line, none_left, one_piece}
 use Rattle.pm_texts.proofs.Formats.{IsTextIn, format_is, in_line, line_in, no_lines, one_list, one_more, split_text, stands_for, stands_in, text_before, text_by_format, text_in, text_more, text_whole, last_spelled}
@@ -23,13 +24,6 @@ lawful_in plan bytes (h, lawful, stands) = record { h = h; lawful = lawful; text
 
 pub lawful_text : (f : Bool) (plan : Plan) (bytes : List ℕ) → IsLawfulIn f plan bytes → IsLawfulText plan bytes
 lawful_text f plan bytes is = (is.h, is.lawful, stands_for f plan bytes is.h is.text)
-
--- the bytes are the text of a line that may come next
-pub record IsNext (f : Bool) (plan : Plan) (h : List Line) (p : List ℕ) : Type 0 where
-  pub line : Line
-  pub spelled : IsTextBehind f plan (last_time h) line p
-  pub permits : Permits plan h line
-  pub room : length h < plan.lines
 
 pub extends :
     (f : Bool) (plan : Plan) (b p : List ℕ) (h : List Line) → IsLawful plan h → IsTextIn f plan b h → IsNext f plan h p
@@ -117,6 +111,11 @@ front_format bytes n = go (is_format2 bytes) refl n
     go true e m = alike m
     go false e zero = sym e
     go false e (suc m) = alike m
+
+pub in_format : (plan : Plan) (bytes : List ℕ) (n : ℕ) → IsLawfulText plan (front n bytes) → IsLawfulIn (is_format2 bytes) plan (front n bytes)
+in_format plan bytes n found =
+    let P : Bool → Type 0 = λ f. IsLawfulIn f plan (front n bytes) in
+    subst P (front_format bytes n) (lawful_in plan (front n bytes) found)
 
 -- the fronts of lawful text
 fronts :

@@ -4,3 +4,4 @@ pub mod Formats
 pub mod Lawfulness
 pub mod Deciding
 pub mod Walk
+pub mod Numbered

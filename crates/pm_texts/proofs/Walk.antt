@@ -12,8 +12,8 @@ use Rattle.pm_model.specs.Spelling.{header, newline}
 use Rattle.pm_texts.proofs.OneLine.{is_inside}
 use Rattle.pm_texts.proofs.Bytes.{IsWhole, Next, all_lines, cut_not_whole, nothing, piece, rest}
 use Rattle.pm_texts.proofs.Deciding.{Decided, next_decided}
-use Rattle.pm_texts.proofs.Formats.{IsTextIn, format_is, text_in}
-use Rattle.pm_texts.proofs.Lawfulness.{IsLawfulIn, IsNext, counted, extended, extends, front_format, front_is, front_lawful, front_next, lawful_in, lawful_text, lawful_whole}
+use Rattle.pm_texts.proofs.Formats.{IsTextIn}
+use Rattle.pm_texts.proofs.Lawfulness.{IsLawfulIn, extended, extends, front_lawful, front_next, in_format, lawful_text, lawful_whole}
 
 -- the first n lines are lawful text, and so is each front before
 record IsGood (plan : Plan) (bytes : List ℕ) (n : ℕ) : Type 0 where
@@ -42,11 +42,6 @@ start plan bytes = go (is_format2 bytes) refl
     go : (f : Bool) → is_format2 bytes ≡ f → IsLawfulIn f plan (first_lines (if f then 1 else 0) bytes)
     go true e = record { h = []; lawful = tt; text = (refl, tt, first_begun (codes "pm_trace 2") bytes refl e) }
     go false e = record { h = []; lawful = tt; text = (refl, tt, refl) }
-
-in_format : (plan : Plan) (bytes : List ℕ) (n : ℕ) → IsLawfulText plan (front n bytes) → IsLawfulIn (is_format2 bytes) plan (front n bytes)
-in_format plan bytes n found =
-    let P : Bool → Type 0 = λ f. IsLawfulIn f plan (front n bytes) in
-    subst P (front_format bytes n) (lawful_in plan (front n bytes) found)
 
 below : (plan : Plan) (bytes : List ℕ) (n k : ℕ) → k < suc (suc n) → ((j : ℕ) → j < suc n → IsLawfulText plan (front j bytes)) → IsLawfulText plan (front (suc n) bytes) → IsLawfulText plan (front k bytes)
 below plan bytes n k less good last = go (nat_eq k (suc n)) refl
