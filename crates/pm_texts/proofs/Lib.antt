@@ -5,3 +5,4 @@ pub mod Lawfulness
 pub mod Deciding
 pub mod Walk
 pub mod Numbered
+pub mod WhyBad

@@ -7,13 +7,23 @@ use Rattle.pm_model.specs.declared.event.Line.{Line}
 use Rattle.pm_model.specs.declared.plan.Plan.{Plan}
 use Rattle.pm_model.specs.FirstBad.{IsFirstBad, IsLawfulText, first_lines, front, is_format2}
 use Rattle.pm_model.specs.Lawful.{IsLawful}
-use Rattle.pm_model.specs.NoWhy.{is_within_line}
+use Rattle.pm_model.specs.NoWhy.{IsCut, IsPiece, is_within_line}
 use Rattle.pm_model.specs.Spelling.{header, newline}
 use Rattle.pm_texts.proofs.OneLine.{is_inside}
 use Rattle.pm_texts.proofs.Bytes.{IsWhole, Next, all_lines, cut_not_whole, nothing, piece, rest}
 use Rattle.pm_texts.proofs.Deciding.{Decided, next_decided}
 use Rattle.pm_texts.proofs.Formats.{IsTextIn}
 use Rattle.pm_texts.proofs.Lawfulness.{IsLawfulIn, extended, extends, front_lawful, front_next, in_format, lawful_text, lawful_whole}
+
+pub sorted :
+    (bytes : List ℕ) (n : ℕ)
+    → (front (suc n) bytes ≡ front n bytes) ⊎ (((p : List ℕ) × IsPiece bytes (suc n) p) ⊎ ((r : List ℕ) × IsCut bytes (suc n) r))
+sorted bytes n = go (front_next bytes n)
+  where
+    go : Next (front n bytes) (front (suc n) bytes) → (front (suc n) bytes ≡ front n bytes) ⊎ (((p : List ℕ) × IsPiece bytes (suc n) p) ⊎ ((r : List ℕ) × IsCut bytes (suc n) r))
+    go (nothing e) = inl e
+    go (piece p clean e) = inr (inl (p, (clean, e)))
+    go (rest r clean some e) = inr (inr (r, (clean, some, e)))
 
 -- the first n lines are lawful text, and so is each front before
 record IsGood (plan : Plan) (bytes : List ℕ) (n : ℕ) : Type 0 where
