@@ -114,8 +114,8 @@ is_cb _ _ = false
 
 -- a callback's begin and end
 abbrev pub says_runs : Cb → DevId → Event → Option Bool
-says_runs k d (event.Begin e begun) = only_if (is_cb k begun && is_same d e) true
-says_runs k d (event.End e ended c) = only_if (is_cb k ended && is_same d e) false
+says_runs k d (event.Begin e j) = only_if (is_cb k j && is_same d e) true
+says_runs k d (event.End e j c) = only_if (is_cb k j && is_same d e) false
 says_runs k d _ = None
 
 -- the callback of d has begun and not ended
