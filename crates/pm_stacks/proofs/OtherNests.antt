@@ -24,11 +24,10 @@ use Rattle.pm_model.specs.HelperTable.{flags_of, to_idle, to_suspend, to_resume,
 use Rattle.pm_model.specs.IdleTable.{idle_verdict, idle_ends, after_put, idle_row}
 use Rattle.pm_model.specs.ResumeTable.{is_supplied}
 use Rattle.pm_model.specs.Row.{Row}
-use Rattle.pm_model.specs.Spelling.{takes_device}
 use Rattle.pm_model.specs.SuspendTable.{tells_parent}
 use Rattle.pm_model.specs.Views.{Views, pending_of}
 use Rattle.pm_model.specs.WellFormed.{called_for, control_device}
-use Rattle.pm_stacks.specs.Shape.{Fits, none, own, lowers, raises, MayZero, call_of, idle_call, is_odd, lowering, returns_resume, is_put_suspend, helper_call}
+use Rattle.pm_stacks.specs.Shape.{Fits, none, own, lowers, raises, MayZero, call_of, idle_call, is_odd, lowering, returns_resume, is_put_suspend}
 use Rattle.pm_stacks.proofs.Found.{HeldAreRuntime, held_is, free_is, next_is, pair_is}
 use Rattle.pm_stacks.proofs.Nesting.{Gives, Nesting, odd_one, odd_five}
 use Rattle.pm_stacks.proofs.Obeying.{Obeys, ok, waiting, either, both, both_next}
@@ -62,19 +61,6 @@ idle_nests plan v t (idle.AfterPut d f) = after_put_nests plan v d f
 abbrev Nests : Plan → Option DevId → Row → Type 0
 Nests plan d row = Obeys (Nesting plan (own d)) row
 
--- a put that goes on to suspend takes a device, and returns no resume's code
-put_takes : (h : Helper) → is_put_suspend h ≡ true → takes_device h ≡ true
-put_takes helper.PutAutosuspend is = refl
-put_takes helper.PutSyncSuspend is = refl
-put_takes helper.PutSyncAutosuspend is = refl
-put_takes _ is = cc
-
-put_lowers : (h : Helper) (d : DevId) → is_put_suspend h ≡ true → lowering d (flags_of h) ≡ helper_call h d
-put_lowers helper.PutAutosuspend d is = refl
-put_lowers helper.PutSyncSuspend d is = refl
-put_lowers helper.PutSyncAutosuspend d is = refl
-put_lowers _ d is = cc
-
 begins_nest : (plan : Plan) (c : Command) (t : ℕ) → Gives plan (own (called_for c.helper c.dev)) (begins c t)
 begins_nest plan c t = go c.helper
   where
@@ -100,11 +86,11 @@ begins_nest plan c t = go c.helper
     go helper.PutSyncAutosuspend = (tt, (tt, refl))
     go _ = (tt, (refl, refl))
 
-helper_starts_nest : (plan : Plan) (v : Views) (c : Command) → Nests plan (called_for c.helper c.dev) (helper_starts v c)
+helper_starts_nest : (plan : Plan) (v : Views) (c : Command) → Nests plan (Some c.dev) (helper_starts v c)
 unfolding helper_starts
 helper_starts_nest plan v c = go c.helper
   where
-    go : (h : Helper) → Nests plan (called_for h c.dev) (helper_starts v (record c { helper = h }))
+    go : (h : Helper) → Nests plan (Some c.dev) (helper_starts v (record c { helper = h }))
     go helper.GetSync = search ok depth 12
     go helper.Get = search ok depth 12
     go helper.GetNoresume = search ok depth 12
@@ -118,9 +104,15 @@ helper_starts_nest plan v c = go c.helper
     go helper.PutNoidle = search (both, ok) depth 12
     go _ = ok tt
 
-put_suspends_nest : (plan : Plan) (v : Views) (c : Command) → is_put_suspend c.helper ≡ true → Nests plan (called_for c.helper c.dev) (put_suspends plan v c)
+put_suspends_nest : (plan : Plan) (v : Views) (c : Command) → is_put_suspend c.helper ≡ true → Nests plan (Some c.dev) (put_suspends plan v c)
 unfolding put_suspends
-put_suspends_nest plan v c is = search (both, ok, put_takes, put_lowers) depth 12
+put_suspends_nest plan v c is = go c.helper is
+  where
+    go : (h : Helper) → is_put_suspend h ≡ true → Nests plan (Some c.dev) (put_suspends plan v (record c { helper = h }))
+    go helper.PutAutosuspend is = search (both, ok) depth 12
+    go helper.PutSyncSuspend is = search (both, ok) depth 12
+    go helper.PutSyncAutosuspend is = search (both, ok) depth 12
+    go _ is = cc
 
 timer_nests : (plan : Plan) (v : Views) (d : DevId) → Obeys (Nesting plan none) (timer_fires v d)
 unfolding timer_fires
