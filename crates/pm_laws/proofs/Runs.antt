@@ -137,7 +137,7 @@ with_next f is plan w a s next placed stands =
     omega arith
 
 -- the world after a line: its views, and its places
-places_moved : (w : World) (v : Views) (called : List ℕ) (a : ActorId) (stack : List Stage)
+pub places_moved : (w : World) (v : Views) (called : List ℕ) (a : ActorId) (stack : List Stage)
     → places (with_place (record w { views = v; called = called }) a stack) ≡ places (with_place w a stack)
 places_moved w v called (Caller c) stack = refl
 places_moved w v called (Work d) stack = refl

@@ -1,5 +1,5 @@
 -- Every open stage stays sound where an actor's stage gives way.
-use Rattle.std.proofs.Common.{ℕ, ◌≡◌, ◌<◌, ◌≤◌, Bool, true, false, List, [], ◌∷◌, ◌++◌, drop, Option, Some, None, ℤ, length, nat_eq, nat_lt, if◌then◌else◌, refl, sym, ◌∙◌, subst, arith, inl, inr}
+use Rattle.std.proofs.Common.{ℕ, ◌≡◌, ◌<◌, ◌≤◌, Bool, true, false, List, [], ◌∷◌, ◌++◌, drop, Option, Some, None, ℤ, length, nat_eq, nat_lt, if◌then◌else◌, refl, sym, subst, arith, inl, inr}
 use Rattle.std.specs.Option.{option_map_or}
 use Rattle.std.proofs.lemmas.Bool.{lt-ltb, ltb-true}
 use Rattle.pm_base.specs.declared.ActorId.{ActorId}
@@ -15,7 +15,6 @@ use Rattle.pm_model.specs.declared.stage.Await.{Await}
 use Rattle.pm_model.specs.declared.stage.Await.TheVariants as await
 use Rattle.pm_model.specs.declared.stage.Handed.{Handed}
 use Rattle.pm_model.specs.declared.stage.Handed.TheVariants as handed
-use Rattle.pm_model.specs.declared.stage.HelperStage.TheVariants as at
 use Rattle.pm_model.specs.declared.stage.IdleStage.TheVariants as idle
 use Rattle.pm_model.specs.declared.stage.ResumeStage.TheVariants as resume
 use Rattle.pm_model.specs.declared.stage.Stage.{Stage}
@@ -33,7 +32,7 @@ use Rattle.pm_model.specs.World.{World, place, stage_at}
 use Rattle.pm_model.proofs.Arrivals.{on_handed, after_await}
 use Rattle.pm_laws.specs.Sizes.{HasPlaces}
 use Rattle.pm_laws.proofs.Places.{IsPlaced}
-use Rattle.pm_stacks.specs.Fit.{IsTold, is_result}
+use Rattle.pm_stacks.specs.Fit.{is_result}
 use Rattle.pm_stacks.proofs.PlanLaw.{command_lawful}
 use Rattle.pm_stacks.proofs.Readying.{IsReady, stands_ready}
 use Rattle.pm_stacks.proofs.Standing.{Stands}
