@@ -3,3 +3,4 @@ pub mod Stuck
 pub mod Texts
 pub mod Apart
 pub mod Empty
+pub mod BadLines
