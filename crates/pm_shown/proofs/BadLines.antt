@@ -1,8 +1,8 @@
 -- Texts of a few lines: what they stand for, and why the line after them is bad.
-use Rattle.std.proofs.Common.{ℕ, zero, suc, ◌≡◌, ◌≢◌, ◌∙◌, ◌<◌, ◌≤◌, ◌^◌, ◌⊎◌, Bool, true, false, List, [], ◌∷◌, ◌++◌, codes, length, nat_lt, pos, Option, Some, None, Result, Err, reverse, ap, refl, inl, inr, arith, if◌then◌else◌}
+use Rattle.std.proofs.Common.{ℕ, ◌≡◌, ◌∙◌, ◌≤◌, Bool, true, false, List, [], ◌∷◌, codes, nat_lt, pos, Option, Some, ap, refl, inl, inr, arith, if◌then◌else◌}
 use Rattle.std.specs.Fmt.{digits}
 use Rattle.std.specs.Option.{option_and_then}
-use Rattle.pm_lineread.specs.Pieces.{digit_value, literal_at, number_at}
+use Rattle.pm_lineread.specs.Pieces.{digit_value, number_at}
 use Rattle.pm_lineread.specs.Reading.{line_at, some_line_at}
 use Rattle.pm_lineread.proofs.Answered.{from_text1, not_text2}
 use Rattle.pm_base.specs.declared.ActorId.TheVariants.{Caller}
@@ -16,11 +16,10 @@ use Rattle.pm_model.specs.declared.stage.Change.{Change}
 use Rattle.pm_model.specs.declared.stage.Move.TheVariants.{Late, Write}
 use Rattle.pm_model.specs.declared.stage.Stage.{Stage}
 use Rattle.pm_model.specs.declared.stage.Then.{Then}
-use Rattle.pm_model.specs.FirstBad.{IsLawfulText, IsText2, StandsFor}
+use Rattle.pm_model.specs.FirstBad.{IsLawfulText, IsText2}
 use Rattle.pm_model.specs.Lawful.{IsLawful, Permits, last_time}
-use Rattle.pm_model.specs.NoWhy.{AreBefore, Cut, IsLineBehind, IsNeverPermitted, IsNoText, IsPermittedSometime, IsWhy, Limit, NoWhy, Step, Text, Time, at_time}
+use Rattle.pm_model.specs.NoWhy.{Cut, IsNeverPermitted, IsPermittedSometime, IsWhy, Limit, NoWhy, Step, Text, Time, at_time}
 use Rattle.pm_model.specs.Serial.{move_at, written}
-use Rattle.pm_model.specs.Spelling.{newline}
 use Rattle.pm_model.specs.Text.{IsText2Of, IsTextOf}
 use Rattle.pm_model.specs.World.{move, stage_at, world}
 use Rattle.pm_runs.proofs.CallTable.{call_table}
@@ -189,8 +188,7 @@ two_are_lawful = (enabled 0 ∷ enables 0 ∷ [], short_two, inl (refl, refl))
 pub third_is_past : IsBadFor short_plan three_lines 3 Limit
 unfolding digits
 third_is_past =
-    bad_for short_plan three_lines 3 Limit
-    (
+    bad_for short_plan three_lines 3 Limit (
       enabled 0 ∷ enables 0 ∷ [],
       line 0 (Caller 0) (event.Call (call GetSync (dev 0))),
       record { before = (short_two, inl (refl, refl)); piece = codes "0 c pm_call: get_sync a"; is_piece = (refl, refl); spelled = (refl, refl) },

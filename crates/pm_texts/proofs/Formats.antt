@@ -1,16 +1,16 @@
 -- The text of a list in one of the formats: format 2 where that is true. It decides the list, and its first byte the
 -- format.
-use Rattle.std.proofs.Common.{ℕ, zero, suc, ◌≡◌, ◌+◌, ◌-◌, ◌%◌, ◌/◌, ◌<◌, ◌≤◌, ◌⊎◌, inl, inr, Bool, true, false, not, ◌&&◌, List, [], ◌∷◌, ◌++◌, codes, decimal, length, nat_eq, nat_lt, reverse, take, if◌then◌else◌, ap, refl, sym, subst, ◌∙◌, arith}
+use Rattle.std.proofs.Common.{ℕ, zero, suc, ◌≡◌, ◌+◌, ◌-◌, ◌%◌, ◌/◌, ◌<◌, inl, inr, Bool, true, false, not, List, [], ◌∷◌, ◌++◌, codes, decimal, nat_eq, nat_lt, reverse, if◌then◌else◌, ap, refl, sym, subst, ◌∙◌, arith}
 use Rattle.std.specs.Fmt.{digits, digits_onto, digit_glyph}
-use Rattle.std.specs.List.{list_all, starts_with}
-use Rattle.std.proofs.lemmas.Bool.{and_from, and_parts, eqb-true, not-true}
+use Rattle.std.specs.List.{list_all}
+use Rattle.std.proofs.lemmas.Bool.{and_from, and_parts, not-true}
 use Rattle.std.proofs.lemmas.Bool.Decides.{nat_tests}
 use Rattle.std.proofs.lemmas.Grind.{flat_map-append}
 use Rattle.std.proofs.lemmas.List.{reverse-append, append_assoc}
 use Rattle.pm_lineread.proofs.Answered.{distinct1, distinct2}
 use Rattle.pm_model.specs.declared.event.Line.{Line}
 use Rattle.pm_model.specs.declared.plan.Plan.{Plan}
-use Rattle.pm_model.specs.FirstBad.{AreLinesOf, IsText1, IsText2, StandsFor, TimesDontFall, is_format2}
+use Rattle.pm_model.specs.FirstBad.{AreLinesOf, StandsFor, TimesDontFall, is_format2}
 use Rattle.pm_model.specs.Lawful.{last_time}
 use Rattle.pm_model.specs.LineOf.{is_line_of}
 use Rattle.pm_model.specs.NoWhy.{is_within_line}

@@ -1,19 +1,18 @@
 -- A first bad line is bad for exactly one reason, and a line that has one is the first bad line.
-use Rattle.std.proofs.Common.{ℕ, zero, suc, ◌≡◌, ◌≢◌, ◌^◌, ◌<◌, ◌≤◌, ◌⊎◌, inl, inr, Bool, true, false, not, ◌&&◌, List, [], ◌∷◌, ◌++◌, length, nat_eq, nat_lt, if◌then◌else◌, ap, refl, sym, subst, ◌∙◌, arith}
+use Rattle.std.proofs.Common.{ℕ, zero, suc, ◌≡◌, ◌^◌, ◌<◌, ◌≤◌, inl, inr, Bool, true, false, List, [], ◌∷◌, ◌++◌, length, nat_eq, nat_lt, if◌then◌else◌, ap, refl, sym, subst, ◌∙◌, arith}
 use Rattle.std.proofs.lemmas.Bool.{and_parts}
 use Rattle.std.proofs.lemmas.Bool.Decides.{nat_tests}
 use Rattle.std.proofs.lemmas.List.{append_cancel_left, append_cancel_right}
 use Rattle.std.proofs.lemmas.List.Folds.{list_all-append}
 use Rattle.pm_model.specs.declared.event.Line.{Line}
 use Rattle.pm_model.specs.declared.plan.Plan.{Plan}
-use Rattle.pm_model.specs.FirstBad.{IsFirstBad, IsLawfulText, StandsFor, first_lines, front, is_format2}
-use Rattle.pm_model.specs.Lawful.{IsLawful, Permits, last_time}
+use Rattle.pm_model.specs.FirstBad.{IsFirstBad, IsLawfulText, first_lines, front, is_format2}
+use Rattle.pm_model.specs.Lawful.{Permits, last_time}
 use Rattle.pm_model.specs.NoWhy.{AreBefore, Cut, IsCut, IsLineBehind, IsNeverPermitted, IsNoText, IsPermittedSometime, IsPiece, IsWhy, Limit, NoWhy, Step, Text, Time, is_within_line}
 use Rattle.pm_model.specs.Spelling.{newline}
 use Rattle.pm_model.specs.Text.{IsTextBehind}
-use Rattle.pm_texts.specs.Next.{IsNext}
 use Rattle.pm_texts.proofs.OneLine.{is_inside}
-use Rattle.pm_texts.proofs.Bytes.{Next, none_left, nothing, piece, rest}
+use Rattle.pm_texts.proofs.Bytes.{Next, nothing, piece, rest}
 use Rattle.pm_texts.proofs.Deciding.{early, sometime_decided, spelled_decided}
 use Rattle.pm_texts.proofs.Formats.{line_is, one_line, only_list, text_by_format}
 use Rattle.pm_texts.proofs.Lawfulness.{counted, front_format, front_is, front_lawful, front_next}
