@@ -4,10 +4,11 @@
 //! in both formats. An auditor that reads a trace line by line rests on them.
 #![tactic(auto)]
 
-ghost use Rattle.std.specs.Prelude.{◌≡◌, ◌⊎◌, ℕ, suc, true, false, List, ◌∷◌, length};
+ghost use Rattle.std.specs.Prelude.{◌≡◌, ◌≢◌, ◌⊎◌, ℕ, suc, true, false, List, [], ◌∷◌, ◌++◌, length};
 ghost use Rattle.pm_model.specs.FirstBad.{IsFirstBad, IsLawfulText, IsText1, IsText2, StandsFor, front, is_format2};
+ghost use Rattle.pm_model.specs.Lawful.{IsLawful};
 ghost use Rattle.pm_model.specs.NoWhy.{AreBefore, IsCut, IsPiece, IsWhy, NoWhy, is_within_line};
-ghost use Rattle.pm_model.specs.Spelling.{line_text};
+ghost use Rattle.pm_model.specs.Spelling.{header, line_text, newline};
 ghost use Rattle.pm_model.specs.Text.{names_of};
 ghost use Rattle.pm_model.specs.declared.event.Line.{Line};
 ghost use Rattle.pm_model.specs.declared.plan.Plan.{Plan};
@@ -54,6 +55,25 @@ pub fn next_line()
     // So a piece is numbered by the list before it.
     ensures numbered { (plan : Plan) (bytes : List ℕ) (n : ℕ) (h : List Line) (piece : List ℕ)
         → AreBefore plan bytes n h → IsPiece bytes n piece → n ≡ suc (length h) }
+{}
+
+/// Behind whole lines that are the text of a lawful list, the bytes up to the next newline are the next
+/// piece, and bytes without a newline are cut. So lines are read one by one as they come.
+pub fn behind_lines()
+    ensures piece { (plan : Plan) (whole piece more : List ℕ) (h : List Line) → IsLawful plan h → StandsFor plan whole h
+        → is_format2 (whole ++ (piece ++ (newline ++ more))) ≡ is_format2 whole → is_within_line piece ≡ true
+        → AreBefore plan (whole ++ (piece ++ (newline ++ more))) (suc (length h)) h
+        × IsPiece (whole ++ (piece ++ (newline ++ more))) (suc (length h)) piece }
+    ensures cut { (plan : Plan) (whole rest : List ℕ) (h : List Line) → IsLawful plan h → StandsFor plan whole h
+        → is_format2 (whole ++ rest) ≡ is_format2 whole → is_within_line rest ≡ true → rest ≢ []
+        → AreBefore plan (whole ++ rest) (suc (length h)) h × IsCut (whole ++ rest) (suc (length h)) rest }
+
+    // The first line tells the format: only the header begins format 2, and nothing does without its newline.
+    ensures format { (plan : Plan) (whole more : List ℕ) (h : List Line) → StandsFor plan whole h → whole ≢ []
+        → is_format2 (whole ++ more) ≡ is_format2 whole }
+    ensures header { (piece more : List ℕ) → is_within_line piece ≡ true
+        → is_format2 (piece ++ (newline ++ more)) ≡ true → piece ++ newline ≡ header }
+    ensures no_header { (rest : List ℕ) → is_within_line rest ≡ true → is_format2 rest ≡ false }
 {}
 
 /// The first bad line is bad for exactly one reason, and a line that has a reason is the first bad one.
