@@ -27,3 +27,4 @@ pub mod Promises
 pub mod Islands
 pub mod FirstBad
 pub mod NoWhy
+pub mod Verdict

@@ -21,12 +21,13 @@ use Rattle.pm_model.specs.Lawful.{IsLawful, Permits, last_time}
 use Rattle.pm_model.specs.NoWhy.{Cut, IsNeverPermitted, IsPermittedSometime, IsWhy, Limit, NoWhy, Step, Text, Time, at_time}
 use Rattle.pm_model.specs.Serial.{move_at, written}
 use Rattle.pm_model.specs.Text.{IsText2Of, IsTextOf}
+use Rattle.pm_model.specs.Verdict.{IsVerdict, YesFinished, YesOpen}
 use Rattle.pm_model.specs.World.{move, stage_at, world}
 use Rattle.pm_runs.proofs.CallTable.{call_table}
-use Rattle.pm_runs.proofs.SerialLemmas.{permits_written}
-use Rattle.pm_runs.specs.Counts.{first_plan}
+use Rattle.pm_runs.proofs.SerialLemmas.{permits_written, serial_lawful}
+use Rattle.pm_runs.specs.Counts.{first_plan, first_text}
 use Rattle.pm_runs.specs.Refusals.{line}
-use Rattle.pm_runs.specs.Words.{call, dev}
+use Rattle.pm_runs.specs.Words.{call, dev, run_of}
 use Rattle.pm_shown.specs.BadTexts.{IsBadFor, cut_at_end, cut_header, cut_within, early, enabled, enables, falling, latest, puts, short_plan, third_is_wrong, too_late, too_late2, two_headers, wrong_and_early}
 use Rattle.pm_shown.specs.Pieces.{three_lines, two_lines}
 use Rattle.pm_texts.proofs.WhyBad.{reason_first}
@@ -194,3 +195,12 @@ third_is_past =
       record { before = (short_two, inl (refl, refl)); piece = codes "0 c pm_call: get_sync a"; is_piece = (refl, refl); spelled = (refl, refl) },
       omega arith,
     )
+
+-- finished, and not
+pub run_is_finished : IsVerdict first_plan first_text YesFinished
+unfolding call_table
+run_is_finished = (run_of first_plan, serial_lawful first_plan, inl (refl, refl), refl)
+
+pub two_are_open : IsVerdict first_plan two_lines YesOpen
+unfolding call_table
+two_are_open = (enabled 0 ∷ enables 0 ∷ [], two_at_0, inl (refl, refl), λ finished. let no : false ≡ true = finished in cc)

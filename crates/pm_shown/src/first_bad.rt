@@ -3,7 +3,8 @@
 ghost use Rattle.std.specs.Prelude.{List, ℕ};
 ghost use Rattle.pm_model.specs.FirstBad.{IsLawfulText, IsText2};
 ghost use Rattle.pm_model.specs.NoWhy.{Cut, Limit, Step, Text, Time};
-ghost use Rattle.pm_runs.specs.Counts.{first_plan};
+ghost use Rattle.pm_model.specs.Verdict.{IsVerdict, YesFinished, YesOpen};
+ghost use Rattle.pm_runs.specs.Counts.{first_plan, first_text};
 ghost use Rattle.pm_shown.specs.BadTexts.{IsBadFor, cut_at_end, cut_header, cut_within, early, falling, latest, short_plan, third_is_wrong, too_late, too_late2, two_headers, wrong_and_early};
 ghost use Rattle.pm_shown.specs.Pieces.{three_lines, two_lines};
 
@@ -42,4 +43,11 @@ pub fn past_the_limit()
 pub fn step_before_time()
     ensures step { IsBadFor first_plan wrong_and_early 2 Step }
     ensures time { IsBadFor first_plan early 2 Time }
+{}
+
+/// The text of a whole run is that of a finished list, and the text of its first two lines that of an
+/// open one.
+pub fn yes()
+    ensures finished { IsVerdict first_plan first_text YesFinished }
+    ensures open { IsVerdict first_plan two_lines YesOpen }
 {}

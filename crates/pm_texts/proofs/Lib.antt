@@ -7,3 +7,4 @@ pub mod Walk
 pub mod Numbered
 pub mod WhyBad
 pub mod Behind
+pub mod OneVerdict

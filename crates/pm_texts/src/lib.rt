@@ -10,6 +10,7 @@ ghost use Rattle.pm_model.specs.Lawful.{IsLawful};
 ghost use Rattle.pm_model.specs.NoWhy.{AreBefore, IsCut, IsPiece, IsWhy, NoWhy, is_within_line};
 ghost use Rattle.pm_model.specs.Spelling.{header, line_text, newline};
 ghost use Rattle.pm_model.specs.Text.{names_of};
+ghost use Rattle.pm_model.specs.Verdict.{IsVerdict, Verdict};
 ghost use Rattle.pm_model.specs.declared.event.Line.{Line};
 ghost use Rattle.pm_model.specs.declared.plan.Plan.{Plan};
 ghost use Rattle.pm_texts.specs.Next.{IsNext};
@@ -81,4 +82,11 @@ pub fn reasons()
     ensures some { (plan : Plan) (bytes : List ℕ) (n : ℕ) → IsFirstBad plan bytes n → (why : NoWhy) × IsWhy plan bytes n why }
     ensures only { (plan : Plan) (bytes : List ℕ) (n : ℕ) (a b : NoWhy) → IsWhy plan bytes n a → IsWhy plan bytes n b → a ≡ b }
     ensures bad { (plan : Plan) (bytes : List ℕ) (n : ℕ) (why : NoWhy) → IsWhy plan bytes n why → IsFirstBad plan bytes n }
+{}
+
+/// Of all bytes exactly one thing is said: they are the text of a lawful list that is finished, or of one
+/// that isn't, or their first bad line and its reason.
+pub fn one_verdict()
+    ensures some { (plan : Plan) (bytes : List ℕ) → (v : Verdict) × IsVerdict plan bytes v }
+    ensures only { (plan : Plan) (bytes : List ℕ) (a b : Verdict) → IsVerdict plan bytes a → IsVerdict plan bytes b → a ≡ b }
 {}
