@@ -169,11 +169,14 @@ front_front k n bytes less = go (is_format2 bytes) refl
         ∙ (ap (λ x. first_lines (counted f k) x) (front_is f bytes n is)
         ∙ (first_first (counted f k) (counted f n) bytes (fewer f) ∙ sym (front_is f bytes k is)))
 
+pub front_earlier : (plan : Plan) (bytes : List ℕ) (k n : ℕ) → k ≤ n → IsLawfulText plan (front n bytes) → IsLawfulText plan (front k bytes)
+front_earlier plan bytes k n less found =
+    let P : List ℕ → Type 0 = λ x. IsLawfulText plan x in
+    subst P (front_front k n bytes less) (front_lawful plan (front n bytes) found k)
+
 good_before : (plan : Plan) (bytes : List ℕ) (n : ℕ) (h : List Line) → AreBefore plan bytes n h → (k : ℕ) → k < n → IsLawfulText plan (front k bytes)
 good_before plan bytes zero h before k less = absurd before
-good_before plan bytes (suc n) h before k less =
-    let P : List ℕ → Type 0 = λ x. IsLawfulText plan x in
-    subst P (front_front k n bytes (omega (arith, less))) (front_lawful plan (front n bytes) (h, before.0, before.1) k)
+good_before plan bytes (suc n) h before k less = front_earlier plan bytes k n (omega (arith, less)) (h, before.0, before.1)
 
 some_before : (plan : Plan) (bytes : List ℕ) (n : ℕ) (h : List Line) → AreBefore plan bytes n h → 0 < n
 some_before plan bytes zero h before = absurd before

@@ -4,7 +4,7 @@
 //! in both formats. An auditor that reads a trace line by line rests on them.
 #![tactic(auto)]
 
-ghost use Rattle.std.specs.Prelude.{◌≡◌, ◌≢◌, ◌⊎◌, ℕ, suc, true, false, List, [], ◌∷◌, ◌++◌, length};
+ghost use Rattle.std.specs.Prelude.{◌≡◌, ◌≢◌, ◌⊎◌, ◌≤◌, ℕ, suc, true, false, List, [], ◌∷◌, ◌++◌, length};
 ghost use Rattle.pm_model.specs.FirstBad.{IsFirstBad, IsLawfulText, IsText1, IsText2, StandsFor, front, is_format2};
 ghost use Rattle.pm_model.specs.Lawful.{IsLawful};
 ghost use Rattle.pm_model.specs.NoWhy.{AreBefore, IsCut, IsPiece, IsWhy, NoWhy, is_within_line};
@@ -37,6 +37,7 @@ pub fn lawful_or_bad()
     // No lines are lawful text, and so are the first lines of lawful text.
     ensures none { (plan : Plan) (bytes : List ℕ) → IsLawfulText plan (front 0 bytes) }
     ensures fronts { (plan : Plan) (bytes : List ℕ) (n : ℕ) → IsLawfulText plan bytes → IsLawfulText plan (front n bytes) }
+    ensures earlier { (plan : Plan) (bytes : List ℕ) (k n : ℕ) → k ≤ n → IsLawfulText plan (front n bytes) → IsLawfulText plan (front k bytes) }
 {}
 
 /// Behind the first n lines follows nothing, a piece or a rest that is cut. The lines with a piece are
