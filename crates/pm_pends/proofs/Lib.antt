@@ -1,0 +1,9 @@
+pub mod Pending
+pub mod Askings
+pub mod Falling
+pub mod Lessening
+pub mod ResumePends
+pub mod Needing
+pub mod Takings
+pub mod Leavings
+pub mod Supplying
