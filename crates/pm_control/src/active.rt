@@ -6,9 +6,9 @@ ghost use Rattle.pm_model.specs.ControlTable.{active_links, active_starts, activ
 ghost use Rattle.pm_model.specs.Row.{move_of};
 ghost use Rattle.pm_device.specs.Parts.{IsFor};
 
-use crate::{gives, control_goes, takes, writes_status};
+use crate::{control_goes, gives, takes, writes_status};
 use pm_base::{DevId, EAGAIN, EBUSY, Why};
-use pm_device::{Parts, calls, parent_of, helper_returns, then_returns, supplier_call};
+use pm_device::{Parts, calls, helper_returns, parent_of, supplier_call, then_returns};
 use pm_model::{Await, Change, ControlStage, Helper, IdleStage, Move, Plan, Stage, Word};
 
 // The device becomes Active.

@@ -5,7 +5,7 @@ ghost use Rattle.pm_model.specs.ControlTable.{barrier_ends, barrier_idles, barri
 ghost use Rattle.pm_model.specs.Row.{move_of};
 ghost use Rattle.pm_device.specs.Parts.{IsFor};
 
-use crate::{gives, control_goes};
+use crate::{control_goes, gives};
 use pm_base::{DevId, Why};
 use pm_device::{Parts, then_returns};
 use pm_model::{Await, Change, ControlStage, Event, Helper, Move, Plan, Purpose};

@@ -9,7 +9,7 @@ ghost use Rattle.pm_device.specs.Parts.{IsFor};
 
 use crate::{gives, takes};
 use pm_base::{DevId, Why};
-use pm_device::{Parts, calls, prevented, helper_returns, then_returns, to_resume};
+use pm_device::{Parts, calls, helper_returns, prevented, then_returns, to_resume};
 use pm_model::{Await, Change, Event, Helper, IdleStage, Move, Plan, Stage, TimerAct};
 
 /// `forbid`.

@@ -18,6 +18,7 @@ pub mod ControlTable
 pub mod Handing
 pub mod WellFormed
 pub mod CanTake
+pub mod History
 pub mod World
 pub mod Lawful
 pub mod Serial
@@ -25,4 +26,6 @@ pub mod Excuse
 pub mod Counted
 pub mod Promises
 pub mod Islands
+pub mod Apart
 pub mod FirstBad
+pub mod NoWhy

@@ -228,13 +228,15 @@ impl Model for Stages {
 
     ghost Value = { List Stage };
 
-    ghost use Rattle.pm_model.specs.StageRows.{stages_of, row_of, row-stages};
+    ghost use Rattle.std.specs.Prelude.{◌≡◌, refl};
+    ghost use Rattle.pm_model.specs.declared.stage.StageRow.TheVariants.{Zero, One, Two};
+    ghost use Rattle.pm_model.specs.StageRows.{stages_of, row_of};
 
     ghost view = { λ s. stages_of s.row };
 
     ghost inverse = { λ l. record { row = row_of l } };
 
-    ghost inverse_ok = { λ a h. row-stages a };
+    ghost inverse_ok = { λ a h. elim a.row as (λ r. let row : Inside = record { row = r } in let again : Inside = record { row = row_of (stages_of r) } in again ≡ row) [ Zero ↦ refl | One s ↦ refl | Two s t ↦ refl ] };
 }
 
 impl Stages {
