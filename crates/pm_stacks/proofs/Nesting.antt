@@ -11,8 +11,9 @@ use Rattle.pm_model.specs.declared.stage.HelperStage.TheVariants as at
 use Rattle.pm_model.specs.declared.stage.Stage.{Stage}
 use Rattle.pm_model.specs.declared.stage.Stage.TheVariants as stage
 use Rattle.pm_model.specs.declared.stage.Then.{Then}
-use Rattle.pm_model.specs.Handing.{take_code, on_handed, after_code, after_back, after_then}
+use Rattle.pm_model.specs.Handing.{take_code, after_code, after_back, after_then}
 use Rattle.pm_model.specs.ResumeTable.{is_supplied}
+use Rattle.pm_model.proofs.Arrivals.{on_handed, after_await}
 use Rattle.pm_stacks.specs.Shape.{Call, none, lowers, lowering, call_of, May, MayOver, Fits, IsAwake, IsBottom, Nested, IsNested}
 use Rattle.pm_stacks.proofs.Standing.{IsStart, Stands}
 
@@ -46,7 +47,7 @@ nested_handed plan a (handed.Back k) rest is fits nested below = below k
 pub nested_code : (plan : Plan) (k : Call) (rest : List Stage) (c : ℤ) → Nested plan k rest → IsNested plan (after_code rest c)
 nested_code plan k [] c h = tt
 nested_code plan k (stage.Await a ∷ rest) c h =
-    nested_handed plan a (take_code a c) rest (goes_on plan a c) h.1 h.2 (λ kept. nested_code plan (call_of (stage.Await a)) rest kept h.2)
+    subst (IsNested plan) (sym (after_await a c rest)) (nested_handed plan a (take_code a c) rest (goes_on plan a c) h.1 h.2 (λ kept. nested_code plan (call_of (stage.Await a)) rest kept h.2))
 nested_code plan k (s ∷ rest) c h = elim h.0 [ ]
 
 -- the stages that take the place of a stage of this call
