@@ -1,5 +1,6 @@
 -- Which links are present changes only where a link is added or dropped.
-use Rattle.std.proofs.Common.{ℕ, ◌≡◌, Bool, true, false, ℤ, pos, nat_eq, if◌then◌else◌, refl, ◌∙◌}
+use Rattle.std.proofs.Common.{ℕ, ◌≡◌, ◌<◌, Bool, true, false, ◌&&◌, List, Some, ℤ, pos, length, nat_eq, slice_get, slice_index_or, if◌then◌else◌, ap, refl, ◌∙◌}
+use Rattle.std.specs.Option.{unwrap_or}
 use Rattle.std.specs.Ordering.{int_eq}
 use Rattle.pm_base.specs.declared.Cb.TheVariants as cb
 use Rattle.pm_base.specs.declared.DevId.{DevId}
@@ -15,16 +16,18 @@ use Rattle.pm_model.specs.declared.event.Word.TheVariants as word
 use Rattle.pm_model.specs.declared.event.WorkAct.{WorkAct}
 use Rattle.pm_model.specs.declared.event.WorkAct.TheVariants.{Queue, Defer, Run}
 use Rattle.pm_model.specs.declared.plan.Plan.{Plan}
+use Rattle.pm_model.specs.declared.rows.LinkRow.{LinkRow}
 use Rattle.pm_model.specs.declared.stage.Change.{Change}
 use Rattle.pm_model.specs.declared.stage.Change.TheVariants as change
 use Rattle.pm_model.specs.ChangeViews.{change_views, suspend_ended}
-use Rattle.pm_model.specs.Changes.{set_request, cancel, rcancel, has_auto_timer, callback_marks, set_last_busy, set_deferred, set_held, set_present, at_pair, enables, set_last, set_depth}
+use Rattle.pm_model.specs.Changes.{set_request, cancel, rcancel, has_auto_timer, callback_marks, set_last_busy, set_deferred, set_held, set_present, enables, set_last, set_depth}
+use Rattle.pm_model.specs.Counted.{is_same, only_if}
 use Rattle.pm_model.specs.Derived.{up, down}
 use Rattle.pm_model.specs.Events.{by_event, by_word, by_end, by_work, by_timer, got, gave, set_status, set_error, frees_links, is_try_again, switches}
-use Rattle.pm_model.specs.PlanRows.{marks_busy}
-use Rattle.pm_model.specs.Views.{Views, device}
-use Rattle.pm_kinds.specs.Kinds.{Kind, adds_link, drops_link, drops_held, is_of_link, ChangeIs}
-use Rattle.pm_kinds.specs.LineKind.{present_after}
+use Rattle.pm_model.specs.PlanRows.{marks_busy, is_of_pair}
+use Rattle.pm_model.specs.Views.{Views, device, is_present}
+use Rattle.pm_laws.proofs.Switches.{mapped, pair_turned}
+use Rattle.pm_kinds.specs.Kinds.{Kind, adds_link, drops_link, drops_held, shows, is_of_link, ChangeIs}
 
 either_present : (b : Bool) (v x y : Views) → x.present ≡ v.present → y.present ≡ v.present → (if b then x else y).present ≡ v.present
 either_present true v x y p q = p
@@ -59,15 +62,18 @@ other_present plan t (change.Enable d) v is = enables_present d v
 other_present plan t (change.Link c s present) v is = cc
 other_present plan t _ v is = refl
 
-link_present : (plan : Plan) (t : ℕ) (c s : DevId) (b : Bool) (v : Views) → (change_views plan t (change.Link c s b) v).present ≡ at_pair plan c s b v.present
+link_present : (plan : Plan) (t : ℕ) (c s : DevId) (b : Bool) (v : Views) (l : ℕ) (row : LinkRow) → slice_get plan.links l ≡ Some row → l < length v.present
+    → is_present (change_views plan t (change.Link c s b) v) l ≡ unwrap_or (only_if (is_same row.supplier s && is_same row.consumer c) b) (is_present v l)
 unfolding set_present
-link_present plan t c s b v = refl
+link_present plan t c s b v l row is within =
+    mapped (is_of_pair c s) b plan.links v.present l row is within ∙ ap (λ m. unwrap_or (only_if m b) (is_present v l)) (pair_turned c s row)
 
-pub change_present : (plan : Plan) (t : ℕ) (k : Kind) (c : Change) (v : Views) → ChangeIs k c → (change_views plan t c v).present ≡ present_after plan v k
-change_present plan t (adds_link d s) c v is = rw is (link_present plan t d s true v)
-change_present plan t (drops_link d s) c v is = rw is (link_present plan t d s false v)
-change_present plan t (drops_held d s) c v is = rw is (link_present plan t d s false v)
-change_present plan t _ c v is = other_present plan t c v is
+pub change_present : (plan : Plan) (t : ℕ) (k : Kind) (c : Change) (v : Views) (l : ℕ) (row : LinkRow) → ChangeIs k c → slice_get plan.links l ≡ Some row
+    → l < length v.present → is_present (change_views plan t c v) l ≡ unwrap_or (shows k row.consumer row.supplier) (is_present v l)
+change_present plan t (adds_link d s) c v l row is at within = rw is (link_present plan t d s true v l row at within)
+change_present plan t (drops_link d s) c v l row is at within = rw is (link_present plan t d s false v l row at within)
+change_present plan t (drops_held d s) c v l row is at within = rw is (link_present plan t d s false v l row at within)
+change_present plan t _ c v l row is at within = ap (λ (x : List Bool). slice_index_or x l false) (other_present plan t c v is)
 
 -- a line's event of itself
 got_present : (plan : Plan) (e : DevId) (w : Why) (v : Views) → (got plan e w v).present ≡ v.present

@@ -148,6 +148,21 @@ turned (Some s) same = only_if same s
 abbrev pub says : Kind → DevId → Option Status
 says k d = turned (turn k) (is_same d (dev_of k))
 
+-- whether a line of this kind says that consumer c holds its link to supplier s
+abbrev pub holds : Kind → DevId → DevId → Option Bool
+holds (gives_link d t x y) c s = only_if (is_same s t && is_same c d) false
+holds (takes_link d link x) c s = only_if (is_same s link.1 && is_same c d) true
+holds (forces_off d) c s = only_if (is_same c d) false
+holds (drops_held d t) c s = only_if (is_same s t && is_same c d) false
+holds _ c s = None
+
+-- and whether it says that the link is present
+abbrev pub shows : Kind → DevId → DevId → Option Bool
+shows (adds_link d t) c s = only_if (is_same s t && is_same c d) true
+shows (drops_link d t) c s = only_if (is_same s t && is_same c d) false
+shows (drops_held d t) c s = only_if (is_same s t && is_same c d) false
+shows _ c s = None
+
 -- an event that says nothing of a status, of a link, of a domain or of a callback
 abbrev pub is_silent : Event → Bool
 is_silent (event.Get d (why.Link c)) = false
