@@ -1,9 +1,9 @@
 -- Of each trace exactly one thing is said.
-use Rattle.std.proofs.Common.{ℕ, ◌≡◌, ◌⊎◌, inl, inr, Bool, true, false, List, ap, refl, sym, subst, ◌∙◌}
+use Rattle.std.proofs.Common.{ℕ, ◌≡◌, inl, inr, Bool, true, false, List, refl, sym, subst}
 use Rattle.pm_model.specs.declared.event.Line.{Line}
 use Rattle.pm_model.specs.declared.plan.Plan.{Plan}
 use Rattle.pm_model.specs.FirstBad.{IsFirstBad, IsLawfulText, StandsFor}
-use Rattle.pm_model.specs.Lawful.{IsFinished, IsLawful, is_finished}
+use Rattle.pm_model.specs.Lawful.{IsFinished, is_finished}
 use Rattle.pm_model.specs.NoWhy.{IsWhy, NoWhy}
 use Rattle.pm_model.specs.Verdict.{IsVerdict, No, Verdict, YesFinished, YesOpen}
 use Rattle.pm_model.specs.World.{world}
