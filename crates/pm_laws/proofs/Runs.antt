@@ -119,7 +119,7 @@ written due t (Some (writes e' c' next')) e c next h = go (nat_lt t due) h
 pub others : (Stage → ℕ) → World → ActorId → ℕ
 others f w a = tally f (places (with_place w a (drop 1 (place w a))))
 
-with_top : (f : Stage → ℕ) → IsWeight f → (plan : Plan) (w : World) (a : ActorId) (s : Stage) → IsPlaced w a → stage_at plan w a ≡ Some s
+pub with_top : (f : Stage → ℕ) → IsWeight f → (plan : Plan) (w : World) (a : ActorId) (s : Stage) → IsPlaced w a → stage_at plan w a ≡ Some s
     → tally f (places w) ≡ f s + others f w a
 unfolding others
 with_top f is plan w a s placed stands =
@@ -127,7 +127,7 @@ with_top f is plan w a s placed stands =
     let here = stands_weighs f is plan w a s stands in
     omega arith
 
-with_next : (f : Stage → ℕ) → IsWeight f → (plan : Plan) (w : World) (a : ActorId) (s : Stage) (next : Then) → IsPlaced w a
+pub with_next : (f : Stage → ℕ) → IsWeight f → (plan : Plan) (w : World) (a : ActorId) (s : Stage) (next : Then) → IsPlaced w a
     → stage_at plan w a ≡ Some s → tally f (places (with_place w a (after_then next (drop 1 (place w a))))) ≡ weigh f (shown next) + others f w a
 unfolding others
 with_next f is plan w a s next placed stands =
@@ -270,7 +270,7 @@ empty_tally : {A : Type 0} (f : Stage → ℕ) (l : List A) → tally f (map (λ
 empty_tally f [] = refl
 empty_tally f (x ∷ l) = empty_tally f l
 
-start_tally : (plan : Plan) (f : Stage → ℕ) → tally f (places (start plan)) ≡ 0
+pub start_tally : (plan : Plan) (f : Stage → ℕ) → tally f (places (start plan)) ≡ 0
 start_tally plan f =
     omega (arith, tally_joined f (start plan).caller_places (start plan).work_places (start plan).timer_places, empty_tally f plan.callers, empty_tally f plan.devices)
 

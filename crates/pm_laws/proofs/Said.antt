@@ -30,11 +30,11 @@ use Rattle.pm_laws.proofs.Shares.{share_after}
 use Rattle.pm_laws.proofs.Switches.{held_after, on_after}
 
 -- the views after a permitted line
-views_next : (plan : Plan) (w : World) (line : Line) (p : Paid plan w line)
+pub views_next : (plan : Plan) (w : World) (line : Line) (p : Paid plan w line)
     → (after_line plan w line (row_at plan w line.actor line.time)).views ≡ by_event plan line.time line.event (change_views plan line.time p.change w.views)
 views_next plan w line p = ap (λ r. let x : World = after_line plan w line r in x.views) p.leads ∙ views_after plan w line p.change p.next
 
-says_or : {A : Type 0} (o : Option A) (s : A) → unwrap_or o s ≡ (elim o as (λ _. A) [ Some x ↦ x | None ↦ s ])
+pub says_or : {A : Type 0} (o : Option A) (s : A) → unwrap_or o s ≡ (elim o as (λ _. A) [ Some x ↦ x | None ↦ s ])
 says_or (Some x) s = refl
 says_or None s = refl
 
@@ -100,7 +100,7 @@ pub idle_said : (plan : Plan) (h : List Line) (d : DevId) → IsLawful plan h �
     → (device (world plan h).views d).idle_running ≡ runs cb.Idle d h
 idle_said = aside_said (λ (a : Aside). a.idle_running) (says_runs cb.Idle) idle_after
 
-start_held : (l : List LinkRow) (i : ℕ) → slice_index_or (map (λ row. false) l) i false ≡ false
+pub start_held : (l : List LinkRow) (i : ℕ) → slice_index_or (map (λ row. false) l) i false ≡ false
 start_held [] i = refl
 start_held (x ∷ l) zero = refl
 start_held (x ∷ l) (suc i) = start_held l i
@@ -135,7 +135,7 @@ share_counted plan (line ∷ h) d lawful within =
     omega arith
 
 -- before any line a domain is on where the plan keeps it on
-start_switched : (f : ℕ → Bool) (l : List DomainRow) (i o : ℕ) → o < length l
+pub start_switched : (f : ℕ → Bool) (l : List DomainRow) (i o : ℕ) → o < length l
     → slice_index_or (map (λ p. f p.0) (enumerate_from i l)) o false ≡ f (i + o)
 start_switched f [] i o within = absurd (omega arith)
 start_switched f (x ∷ l) i zero within = ap f (omega arith)

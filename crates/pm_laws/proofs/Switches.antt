@@ -33,7 +33,7 @@ use Rattle.pm_laws.proofs.Seen.{held_core}
 use Rattle.pm_laws.proofs.Turns.{quiet_event}
 
 -- the links that pass a test get a value
-mapped : (test : LinkRow → Bool) (b : Bool) (links : List LinkRow) (held : List Bool) (l : ℕ) (row : LinkRow) → slice_get links l ≡ Some row
+pub mapped : (test : LinkRow → Bool) (b : Bool) (links : List LinkRow) (held : List Bool) (l : ℕ) (row : LinkRow) → slice_get links l ≡ Some row
     → l < length held → slice_index_or (map (λ p. if test p.0 then b else p.1) (zip links held)) l false ≡ unwrap_or (only_if (test row) b) (slice_index_or held l false)
 mapped test b [] held l row is within = cc
 mapped test b (x ∷ links) [] l row is within = absurd (omega arith)
@@ -50,7 +50,7 @@ and_turned true false = refl
 and_turned false true = refl
 and_turned false false = refl
 
-pair_turned : (c s : DevId) (row : LinkRow) → is_of_pair c s row ≡ is_same row.supplier s && is_same row.consumer c
+pub pair_turned : (c s : DevId) (row : LinkRow) → is_of_pair c s row ≡ is_same row.supplier s && is_same row.consumer c
 pair_turned c s row = rw (eq_sym row.consumer.0 c.0, eq_sym row.supplier.0 s.0) (and_turned (nat_eq c.0 row.consumer.0) (nat_eq s.0 row.supplier.0))
 
 -- link l is of this row, and it has an entry
