@@ -41,6 +41,16 @@ pub minds_has : (plan : Plan) (v : Views) (d : DevId) (tried : Bool) → minds_p
 unfolding minds_parent
 minds_has plan v d tried e = front _ _ (front _ _ (front _ _ e))
 
+-- and the mark held is set by then
+minds_held : (plan : Plan) (v : Views) (r : ResumeCall) (tried : Bool) → has_parent plan r.dev && not r.held ≡ false → minds_parent plan v r.dev && not tried ≡ true
+    → HoldsParent plan r
+minds_held plan v r tried taken minds = go (has_parent plan r.dev) r.held (minds_has plan v r.dev tried minds) taken
+  where
+    go : (has held : Bool) → has ≡ true → has && not held ≡ false → held && has ≡ true
+    go true true is taken = refl
+    go true false is taken = cc
+    go false held is taken = cc
+
 no_wait : (a b : Bool) (f : ℕ) → a && may_not_wait f ≡ false → b && may_not_wait f ≡ false → a || b ≡ true → may_not_wait f ≡ false
 no_wait true b f x y e = x
 no_wait false true f x y e = y
@@ -56,7 +66,7 @@ end_codes f = go (has f NOWAIT)
 
 verdict_nests : (plan : Plan) (v : Views) (r : ResumeCall) (tried : Bool) → Nests plan r (resume_verdict plan v r tried)
 unfolding resume_verdict
-verdict_nests plan v r tried = search (either, ok, returns_nest, minds_has, no_wait, end_codes) depth 40
+verdict_nests plan v r tried = search (either, ok, returns_nest, minds_has, minds_held, no_wait, end_codes) depth 40
 
 takes_nest : (plan : Plan) (v : Views) (r : ResumeCall) (t : ℕ) (x : Option (ℕ × DevId)) → IsMarked plan r → first_free plan v r.dev ≡ x
     → Nests plan r (resume_takes plan v r t x)
