@@ -1,0 +1,4 @@
+pub mod Refusals
+pub mod Steps
+pub mod LinkRows
+pub mod Links
