@@ -20,7 +20,7 @@ use Rattle.pm_bonds.proofs.Steps.{same_is}
 abbrev Nth : ℕ → List LinkRow → LinkRow → Type 0
 Nth n rows row = slice_get rows n ≡ Some row
 
-some_row : {A : Type 0} (x y : A) → Some x ≡ Some y → x ≡ y
+pub some_row : {A : Type 0} (x y : A) → Some x ≡ Some y → x ≡ y
 some_row x y e = cc
 
 -- nothing is found: no link passes the test

@@ -255,6 +255,17 @@ pub need_then : (plan : Plan) (h : History) (line : Line) (k : HasKind plan h li
     → need test (world plan h) c ≡ one (is_active (world plan h).views c) + (counts test c (old k.kind) + tally (at_part test c) k.others)
 need_then plan h line k test c = ap (λ n. one (is_active (world plan h).views c) + n) (k.was test c)
 
+-- an owner that needs nothing after its line has all to itself
+pub owner_rests : (plan : Plan) (h : History) (line : Line) (k : HasKind plan h line) (test : Phase → Bool) (c : DevId) (x : Phase) → Holds plan (world plan h) → Falls test
+    → c.0 < length plan.devices → from k.kind ≡ Some x → is_same c (dev_of k.kind) ≡ true → turn k.kind ≡ None → passes test (to k.kind) ≡ 0
+    → need test (world plan (line ∷ h)) c ≡ 0
+owner_rests plan h line k test c x holds falls within owner m silent light =
+    let st : Status = (device (world plan h).views c).status in
+    let a = alone st _ (tally (at_part test c) k.others) _ (own_one k.kind c x owner m) (owned_at plan h line k c holds within) (some_parts test c k.others) in
+    let still : one (is_active_status (unwrap_or (says k.kind c) st)) ≡ one (is_active_status st) = rw silent refl in
+    let parts = own_counts test c (dev_of k.kind) (to k.kind) m in
+    omega (arith, need_now plan h line k test c falls within, a.others, ap one a.inactive)
+
 -- before any line nothing is needed
 pub start_need : (plan : Plan) (test : Phase → Bool) (c : DevId) → need test (world plan []) c ≡ 0
 start_need plan test c =

@@ -28,3 +28,15 @@ pub fn held_links()
     ensures none { (plan : Plan) (h : History) (l : ℕ) (row : LinkRow) → IsLawful plan h → slice_get plan.links l ≡ Some row → is_suspended (world plan h).views row.consumer ≡ true → is_held (world plan h).views l ≡ false }
     ensures all { (plan : Plan) (h : History) (l : ℕ) (row : LinkRow) → IsLawful plan h → slice_get plan.links l ≡ Some row → is_taken (world plan h).views l row ≡ true → Needs (world plan h) needs_links row.consumer → is_held (world plan h).views l ≡ true }
 {}
+
+/// A domain that is on has its parent on, and one that is `always_on` is on.
+pub fn domains_nest()
+    ensures parents { (plan : Plan) (h : History) (o p : DomId) → IsLawful plan h → domain_parent plan.domains o ≡ Some p → is_on (world plan h).views o.0 ≡ true → is_on (world plan h).views p.0 ≡ true }
+    ensures always { (plan : Plan) (h : History) (o : ℕ) → IsLawful plan h → is_always_on plan o ≡ true → is_on (world plan h).views o ≡ true }
+{}
+
+/// A device that is Active, or whose owner is at S2, S3, R4, R4b, R4c or R8, has its domain and all above it on, unless
+/// it was forced to Active and hasn't been Suspended since.
+pub fn domain_stays()
+    ensures { (plan : Plan) (h : History) (d : DevId) → IsLawful plan h → DomainStays plan h d }
+{}
