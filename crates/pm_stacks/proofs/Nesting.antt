@@ -15,10 +15,12 @@ use Rattle.pm_model.specs.Handing.{take_code, after_code, after_back, after_then
 use Rattle.pm_model.specs.ResumeTable.{is_supplied}
 use Rattle.pm_model.proofs.Arrivals.{on_handed, after_await}
 use Rattle.pm_stacks.specs.Shape.{Call, none, lowers, lowering, call_of, May, MayOver, Fits, IsAwake, IsBottom, Nested, IsNested}
+use Rattle.pm_stacks.proofs.Obeying.{Duty}
 use Rattle.pm_stacks.proofs.Standing.{IsStart, Stands}
+use Rattle.pm_stacks.proofs.Zeros.{raised, lowered, helper_calls, zero_raised, zero_lowered, parents, suppliers, zero_calls}
 
 -- the stage that goes on belongs to the call that awaited
-abbrev GoesOn : Plan → Await → Handed → Type 0
+abbrev pub GoesOn : Plan → Await → Handed → Type 0
 GoesOn plan a (handed.Goes s) = IsAwake s × (Fits plan (stage.Await a) → Fits plan s) × (call_of s ≡ call_of (stage.Await a))
 GoesOn plan a (handed.Back k) = Unit {0}
 
@@ -27,7 +29,7 @@ either_goes : (plan : Plan) (a : Await) (b : Bool) (x y : Handed) → (b ≡ tru
 either_goes plan a true x y p q = p refl
 either_goes plan a false x y p q = q refl
 
-goes_on : (plan : Plan) (a : Await) (c : ℤ) → GoesOn plan a (take_code a c)
+pub goes_on : (plan : Plan) (a : Await) (c : ℤ) → GoesOn plan a (take_code a c)
 unfolding take_code
 goes_on plan (await.ActiveSupplier d link) c = either_goes plan (await.ActiveSupplier d link) (is_supplied c) _ _ (λ _. (tt, λ h. tt, refl)) (λ bad. (tt, λ h. bad, refl))
 goes_on plan (await.ResumePut r kept) c = tt
@@ -64,13 +66,17 @@ abbrev pub GivesBack : Plan → Call → Option ℤ → List Stage → Type 0
 GivesBack plan k None push = StartsAwake push × Chain plan push k
 GivesBack plan k (Some c) push = Unit {0}
 
-abbrev Stays : Plan → Call → Then → Type 0
+abbrev pub Stays : Plan → Call → Then → Type 0
 Stays plan k next = GivesBack plan k next.back next.push
 
 -- what starts at an empty place makes a stack of its own
 abbrev pub Gives : Plan → Call → Then → Type 0
 Gives plan none next = IsNested plan (after_then next [])
 Gives plan k next = Stays plan k next
+
+-- what is asked of a row at a stage of this call
+abbrev pub Nesting : Plan → Call → Duty
+Nesting plan k e change next = Gives plan k next
 
 nested_chain : (plan : Plan) (x : Stage) (push : List Stage) (k : Call) (rest : List Stage) → Chain plan (x ∷ push) k → Nested plan k rest
     → Fits plan x × Nested plan (call_of x) (push ++ rest)
@@ -79,20 +85,27 @@ nested_chain plan x (y ∷ push) k rest chain nested =
     let below = nested_chain plan y push k rest chain.2 nested in (chain.0, (chain.1, below.0, below.1))
 
 -- nothing awaits what hasn't started
-none_awaited : (plan : Plan) (a : Await) → May plan a none → ⊥
+pub none_awaited : (plan : Plan) (a : Await) → May plan a none → ⊥
 none_awaited plan (await.SuspendLinks d f) (l, s, is, e) = cc
+none_awaited plan (await.SuspendDeferred d f) e = cc
 none_awaited plan (await.SuspendParent d f) (is, e) = cc
 none_awaited plan (await.ResumeParent r) (is, e) = cc
 none_awaited plan (await.ResumeSupplier r l) (s, is, e) = cc
+none_awaited plan (await.ResumeIdle r) e = cc
 none_awaited plan (await.ResumeUnwind r c) (l, s, is, e) = cc
 none_awaited plan (await.ResumePut r c) (is, e) = cc
-none_awaited plan (await.Return h d) (inl e) = cc
-none_awaited plan (await.Return h d) (inr (apart, odd, e)) = cc
-none_awaited plan (await.ReturnZero h d) (inl e) = cc
-none_awaited plan (await.ReturnZero h d) (inr (s, odd, e)) = cc
+none_awaited plan (await.Return h d) e = elim (helper_calls h d none e) [ raised e ↦ cc | lowered is e ↦ cc ]
+none_awaited plan (await.ReturnZero h d) m = elim (zero_calls plan h d none m) [
+  | zero_raised e ↦ cc
+  | zero_lowered odd e ↦ cc
+  | parents p ↦ let e = p.1 in cc
+  | suppliers p ↦ let e = p.3 in cc
+]
+none_awaited plan (await.DisableResume d) e = cc
+none_awaited plan (await.BarrierResume d) e = cc
 none_awaited plan (await.ActiveSupplier d l) (s, is, e) = cc
 none_awaited plan (await.ActiveUnwind d c) (l, s, is, e) = cc
-none_awaited plan _ e = cc
+none_awaited plan (await.SuppliersIdle d s) (l, is, e) = cc
 
 none_nested : (plan : Plan) (next : Then) (rest : List Stage) → IsNested plan (after_then next []) → Nested plan none rest
     → IsNested plan (after_then next rest)
