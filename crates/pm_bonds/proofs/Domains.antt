@@ -34,7 +34,7 @@ use Rattle.pm_bonds.specs.Needs.{needs_domain, Needs}
 use Rattle.pm_bonds.proofs.Chains.{among, quiet_domain, domain_within, head_in, in_up, down_went}
 use Rattle.pm_bonds.proofs.LinkRows.{some_row}
 use Rattle.pm_bonds.proofs.Nests.{NestDomains, domains_nest}
-use Rattle.pm_bonds.proofs.Steps.{differ, same_is, need, Least, least_at, IsNeed, least_own, sleeps, owner_rests, need_now, need_then, start_need, needs_some}
+use Rattle.pm_bonds.proofs.Steps.{differ, same_is, need, Least, least_at, IsNeed, least_own, sleeps, forced, owner_rests, need_now, need_then, start_need, needs_some}
 
 pub domain_needs : IsNeed needs_domain
 domain_needs = record { suspending = refl; ready = refl; resuming = refl; resumed = refl; lets_go = apart; falls = record { refuses = omega arith; unsets = omega arith } }
@@ -56,15 +56,6 @@ device_within plan d o e = elim (cases_lt d.0 (length plan.devices)) [ inl lt �
 no_domain : (plan : Plan) (d : DevId) (o : DomId) → has_domain plan d ≡ false → domain plan d ≡ Some o → ⊥
 unfolding has_domain
 no_domain plan d o none is = let k : true ≡ false = rw is at none in cc
-
--- where a device is forced to Active that was so, nothing begins
-forced : (m : Bool) (st : Status) → m && not (is_active_status st) ≡ false → m ≡ true → is_active_status st ≡ true
-forced m st e q = go m (is_active_status st) e q
-  where
-    go : (a b : Bool) → a && not b ≡ false → a ≡ true → b ≡ true
-    go true true e q = refl
-    go true false e q = cc
-    go false b e q = cc
 
 -- a device whose domain is off, and which isn't excused, doesn't begin to need it
 domain_least : (plan : Plan) (v : Views) (c : DevId) (o : DomId) (k : Kind) (e : Event) → domain plan c ≡ Some o → EventIs k e → Guard plan v k

@@ -5,3 +5,5 @@ pub mod Links
 pub mod Chains
 pub mod Nests
 pub mod Domains
+pub mod Entries
+pub mod Marked

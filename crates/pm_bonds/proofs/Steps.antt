@@ -138,6 +138,15 @@ pub least_own : (plan : Plan) (v : Views) (test : Phase → Bool) (k : Kind) (c 
     → is_same c (dev_of k) ≡ true → Least test k (device v c).status
 least_own plan v test k c n g e m = subst (λ d. Least test k (device v d).status) (same_is c (dev_of k) m) (kind_least plan v test k n g e)
 
+-- where a device is forced to Active that was so, nothing begins
+pub forced : (m : Bool) (st : Status) → m && not (is_active_status st) ≡ false → m ≡ true → is_active_status st ≡ true
+forced m st e q = go m (is_active_status st) e q
+  where
+    go : (a b : Bool) → a && not b ≡ false → a ≡ true → b ≡ true
+    go true true e q = refl
+    go true false e q = cc
+    go false b e q = cc
+
 -- the owners of a device are as its status says
 and_true : (b : Bool) → one (b && true) ≡ one b + 0
 and_true true = refl
