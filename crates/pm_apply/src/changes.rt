@@ -1,10 +1,10 @@
 //! What a change that a row names makes of the counters (`runtime_pm.rst`, sections 3, 4 and 9).
 
-ghost use Rattle.std.specs.Prelude.{◌≡◌, ◌+◌, ◌<◌, ◌^◌, length};
+ghost use Rattle.std.specs.Prelude.{◌≡◌, ◌+◌, ◌<◌, ◌^◌, length, true};
+ghost use Rattle.pm_model.specs.CanTake.{can_change};
 ghost use Rattle.pm_model.specs.Changes.{callback_marks, disabled_at_once, disables_busy, keeps_status};
 ghost use Rattle.pm_model.specs.ChangeViews.{change_views, suspend_ended};
 ghost use Rattle.pm_model.specs.Views.{device};
-ghost use Rattle.pm_apply.specs.Fits.{CanChange};
 ghost use Rattle.pm_device.specs.Parts.{IsFor};
 
 use pm_base::DevId;
@@ -75,7 +75,7 @@ fn disables_at_once(parts: &mut Parts, dev: DevId)
 /// no memory.
 pub fn change(parts: &mut Parts, plan: &Plan, time: u64, change: Change)
     requires made_for { IsFor plan.now parts.old.shape }
-    requires fits { CanChange (length plan.now.devices) parts.old.views change }
+    requires fits { can_change (length plan.now.devices) parts.old.views change ≡ true }
     requires in_time { time < 2 ^ 63 }
     ensures { parts.new ≡ record parts.old { views = change_views plan.now time change parts.old.views } }
 {

@@ -1,12 +1,11 @@
 //! What a line's event makes of the counters, whoever writes it and at whatever stage
 //! (`runtime_pm.rst`, section 3).
 
-ghost use Rattle.std.specs.Prelude.{◌≡◌, ◌+◌, ◌-◌, ◌<◌, ◌^◌, length};
+ghost use Rattle.std.specs.Prelude.{◌≡◌, ◌+◌, ◌-◌, ◌<◌, ◌^◌, length, true};
 ghost use Rattle.pm_model.specs.declared.event.Word.TheVariants.{ForcedSuspended};
+ghost use Rattle.pm_model.specs.CanTake.{can_free, can_get, can_happen, can_put, can_say};
 ghost use Rattle.pm_model.specs.Events.{by_end, by_event, by_timer, by_word, by_work, gave, got, set_usage, suspend_failed};
 ghost use Rattle.pm_model.specs.Views.{device};
-ghost use Rattle.pm_apply.specs.Happening.{ActsWithin, CanGive, CanHappen, CanTake, CanWrite};
-ghost use Rattle.pm_device.specs.Fitting.{CanFree};
 ghost use Rattle.pm_device.specs.Parts.{IsFor};
 
 use pm_base::{Cb, DevId, Status, Why};
@@ -14,10 +13,11 @@ use pm_device::{Parts, is_try_again};
 use pm_model::{Event, Plan, TimerAct, Word, WorkAct};
 
 // A count was taken for this reason.
+#[tactic(auto, using(crate::proofs::CountLemmas::usage_has_room))]
 fn get(parts: &mut Parts, plan: &Plan, dev: DevId, why: Why)
     requires made_for { IsFor plan.now parts.old.shape }
     requires in_range { dev.0 < length parts.old.shape.parents }
-    requires fits { CanTake parts.old.views dev why }
+    requires fits { can_get parts.old.views dev why ≡ true }
     ensures { parts.new ≡ record parts.old { views = got plan.now dev why (set_usage ((device parts.old.views dev).usage + 1) dev parts.old.views) } }
 {
     parts.take_count(dev);
@@ -30,10 +30,11 @@ fn get(parts: &mut Parts, plan: &Plan, dev: DevId, why: Why)
 }
 
 // A count was given back that was taken for this reason.
+#[tactic(auto, using(crate::proofs::CountLemmas::usage_is_taken))]
 fn put(parts: &mut Parts, plan: &Plan, dev: DevId, why: Why)
     requires made_for { IsFor plan.now parts.old.shape }
     requires in_range { dev.0 < length parts.old.shape.parents }
-    requires fits { CanGive parts.old.views dev why }
+    requires fits { can_put parts.old.views dev why ≡ true }
     ensures { parts.new ≡ record parts.old { views = gave plan.now dev why (set_usage ((device parts.old.views dev).usage - 1) dev parts.old.views) } }
 {
     parts.give_count(dev);
@@ -104,7 +105,7 @@ fn state(parts: &mut Parts, plan: &Plan, dev: DevId, word: Word, time: u64)
     requires made_for { IsFor plan.now parts.old.shape }
     requires in_range { dev.0 < length parts.old.shape.parents }
     requires in_time { time < 2 ^ 63 }
-    requires fits { CanWrite plan.now parts.old.views dev word }
+    requires fits { can_say plan.now parts.old.views dev word ≡ true }
     ensures { parts.new ≡ record parts.old { views = by_word plan.now time dev word parts.old.views } }
 {
     match word {
@@ -132,10 +133,11 @@ fn state(parts: &mut Parts, plan: &Plan, dev: DevId, word: Word, time: u64)
 
 // The status of a device is forced: its held links are free, and their suppliers have their counts
 // back.
+#[tactic(auto, using(crate::proofs::CalmLemmas::can_free_forced))]
 fn force_suspended(parts: &mut Parts, plan: &Plan, dev: DevId)
     requires made_for { IsFor plan.now parts.old.shape }
     requires in_range { dev.0 < length parts.old.shape.parents }
-    requires fits { CanFree plan.now parts.old.views dev }
+    requires fits { can_free plan.now parts.old.views dev ≡ true }
     ensures { parts.new ≡ record parts.old { views = by_word plan.now 0 dev ForcedSuspended parts.old.views } }
 {
     parts.set_status(dev, Status::Suspended);
@@ -149,9 +151,8 @@ fn force_suspended(parts: &mut Parts, plan: &Plan, dev: DevId)
 #[tactic(auto, unfolding(pm_model::specs::Events::by_event))]
 pub fn happen(parts: &mut Parts, plan: &Plan, time: u64, event: Event)
     requires made_for { IsFor plan.now parts.old.shape }
-    requires in_range { ActsWithin (length parts.old.shape.parents) event }
     requires in_time { time < 2 ^ 63 }
-    requires fits { CanHappen plan.now parts.old.views event }
+    requires fits { can_happen plan.now parts.old.views event ≡ true }
     ensures { parts.new ≡ record parts.old { views = by_event plan.now time event parts.old.views } }
 {
     match event {

@@ -6,9 +6,9 @@ ghost use Rattle.pm_model.specs.ControlTable.{active_links, active_starts, activ
 ghost use Rattle.pm_model.specs.Row.{move_of};
 ghost use Rattle.pm_device.specs.Parts.{IsFor};
 
-use crate::{gives, control_goes, takes, writes_status};
+use crate::{control_goes, gives, takes, writes_status};
 use pm_base::{DevId, EAGAIN, EBUSY, Why};
-use pm_device::{Parts, calls, parent_of, helper_returns, then_returns, supplier_call};
+use pm_device::{Parts, calls, helper_returns, parent_of, supplier_call, then_returns};
 use pm_model::{Await, Change, ControlStage, Helper, IdleStage, Move, Plan, Stage, Word};
 
 // The device becomes Active.
@@ -57,14 +57,15 @@ pub fn active_unwinds(plan: &Plan, parts: &Parts, dev: DevId, code: i32) -> Move
 {
     match parts.first_held(plan, dev) {
         Some((_, supplier)) => {
-            let given = Stage::Idle(IdleStage::AfterPut {
+            let after_put = Stage::Idle(IdleStage::AfterPut {
                 dev: supplier,
                 flags: 5,
             });
             gives(
                 supplier,
                 Why::Link(dev),
-                calls(given, Await::ActiveUnwind { dev, code }),
+                Change::Same,
+                calls(after_put, Await::ActiveUnwind { dev, code }),
             )
         }
         None => writes_status(
@@ -86,6 +87,7 @@ pub fn active_links(plan: &Plan, parts: &Parts, dev: DevId) -> Move
         Some((link, supplier)) => takes(
             supplier,
             Why::Link(dev),
+            Change::Same,
             calls(
                 supplier_call(link, supplier),
                 Await::ActiveSupplier { dev, link },

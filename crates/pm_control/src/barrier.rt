@@ -5,7 +5,7 @@ ghost use Rattle.pm_model.specs.ControlTable.{barrier_ends, barrier_idles, barri
 ghost use Rattle.pm_model.specs.Row.{move_of};
 ghost use Rattle.pm_device.specs.Parts.{IsFor};
 
-use crate::{gives, control_goes};
+use crate::{control_goes, gives};
 use pm_base::{DevId, Why};
 use pm_device::{Parts, then_returns};
 use pm_model::{Await, Change, ControlStage, Event, Helper, Move, Plan, Purpose};
@@ -23,11 +23,9 @@ pub fn barrier_idles(parts: &Parts, dev: DevId, code: i32) -> Move
             control_goes(ControlStage::BarrierWait { dev, code }),
         );
     }
-    Move::Write(
-        Event::Put {
-            dev,
-            why: Why::Control,
-        },
+    gives(
+        dev,
+        Why::Control,
         Change::CancelAll { dev },
         then_returns(Helper::Barrier, dev, code),
     )
@@ -55,5 +53,10 @@ pub fn barrier_ends(parts: &Parts, dev: DevId, code: i32) -> Move
     if parts.busy(dev) {
         return Move::Wait(dev);
     }
-    gives(dev, Why::Control, then_returns(Helper::Barrier, dev, code))
+    gives(
+        dev,
+        Why::Control,
+        Change::Same,
+        then_returns(Helper::Barrier, dev, code),
+    )
 }

@@ -12,9 +12,9 @@ ghost use Rattle.pm_model.specs.declared.stage.Stage.TheVariants as the_stage;
 ghost use Rattle.pm_model.specs.ControlTable.{control_row, control_starts, control_goes};
 ghost use Rattle.pm_model.specs.IsPlan.{is_command};
 ghost use Rattle.pm_model.specs.Row.{move_of, timed};
+ghost use Rattle.pm_model.specs.WellFormed.{is_well_formed};
 ghost use Rattle.pm_model.specs.World.{due};
 ghost use Rattle.pm_device.specs.Parts.{IsFor};
-ghost use Rattle.pm_control.specs.ControlMove.{HasCommand, device_of};
 
 mod active;
 mod barrier;
@@ -23,7 +23,7 @@ mod setting;
 mod topology;
 
 use pm_base::{DevId, Why};
-use pm_device::{Parts, added, goes, removed, helper_returns};
+use pm_device::{Parts, added, goes, helper_returns, removed};
 use pm_model::{Change, Command, ControlStage, Event, Helper, Move, Plan, Stage, Then, Word};
 
 // A stage of a control function takes the place.
@@ -34,17 +34,17 @@ fn control_goes(stage: ControlStage) -> Then
 }
 
 // A count is taken for this reason.
-fn takes(dev: DevId, why: Why, then: Then) -> Move
-    ensures { result ≡ move.Write (event.Get dev why) change.Same then }
+fn takes(dev: DevId, why: Why, change: Change, then: Then) -> Move
+    ensures { result ≡ move.Write (event.Get dev why) change then }
 {
-    Move::Write(Event::Get { dev, why }, Change::Same, then)
+    Move::Write(Event::Get { dev, why }, change, then)
 }
 
 // A count that was taken for this reason is given back.
-fn gives(dev: DevId, why: Why, then: Then) -> Move
-    ensures { result ≡ move.Write (event.Put dev why) change.Same then }
+fn gives(dev: DevId, why: Why, change: Change, then: Then) -> Move
+    ensures { result ≡ move.Write (event.Put dev why) change then }
 {
-    Move::Write(Event::Put { dev, why }, Change::Same, then)
+    Move::Write(Event::Put { dev, why }, change, then)
 }
 
 // The status line.
@@ -90,6 +90,7 @@ fn starts(plan: &Plan, parts: &Parts, command: Command, time: u64) -> Move
             takes(
                 dev,
                 Why::Control,
+                Change::Same,
                 control_goes(ControlStage::BarrierResume { dev }),
             )
         }
@@ -122,15 +123,19 @@ fn starts(plan: &Plan, parts: &Parts, command: Command, time: u64) -> Move
 /// device for which it waits. `time` is in milliseconds of the run. It takes no memory.
 pub fn next(plan: &Plan, parts: &Parts, stage: ControlStage, time: u64) -> Move
     requires made_for { IsFor plan.now parts.now.shape }
-    requires in_range { (device_of stage).0 < length plan.now.devices }
-    requires command { HasCommand (length plan.now.devices) stage }
+    requires well_formed { is_well_formed plan.now parts.now.views (the_stage.Control stage) ≡ true }
     requires in_time { time < 2 ^ 63 }
     ensures { result ≡ timed (due plan.now parts.now.views (the_stage.Control stage)) time (control_row plan.now parts.now.views stage time) }
 {
     match stage {
         ControlStage::Start { command } => starts(plan, parts, command, time),
         ControlStage::DisablePut { dev } => {
-            gives(dev, Why::Control, control_goes(ControlStage::Disable { dev }))
+            gives(
+                dev,
+                Why::Control,
+                Change::Same,
+                control_goes(ControlStage::Disable { dev }),
+            )
         }
         ControlStage::Disable { dev } => disable::disabling(parts, dev),
         ControlStage::Disabled { dev } => disable::disable_ends(parts, dev),

@@ -1,20 +1,21 @@
 -- The held links of a consumer, given back one by one.
-use Rattle.std.proofs.Common.{ℕ, zero, suc, ◌≡◌, ◌+◌, ◌-◌, ◌<◌, ◌≤◌, Bool, true, false, ◌&&◌, List, [], ◌∷◌, length, map, slice_set, slice_index_or, nat_eq, cond, if◌then◌else◌, refl, ap, sym, ◌∙◌, inl, inr, arith}
-use Rattle.std.specs.List.{count_by, enumerate_from, zip}
-use Rattle.std.proofs.lemmas.Bool.{and_parts, cases_eq, eq-eqb, ne_eqb, true≢false}
+use Rattle.std.proofs.Common.{ℕ, zero, suc, ◌≡◌, ◌+◌, ◌-◌, ◌<◌, ◌≤◌, Bool, true, false, ◌&&◌, List, [], ◌∷◌, length, map, slice_set, slice_index_or, nat_eq, nat_le, cond, if◌then◌else◌, refl, ap, sym, subst, ◌∙◌, inl, inr, arith}
+use Rattle.std.specs.List.{count_by, enumerate_from, list_all, zip}
+use Rattle.std.proofs.lemmas.Bool.{and_parts, cases_eq, eq-eqb, le-leb, leb-true, ne_eqb, true≢false}
 use Rattle.std.proofs.lemmas.Grind.{get_or-set_at}
-use Rattle.std.proofs.lemmas.List.{get_or-set_other}
+use Rattle.std.proofs.lemmas.List.{get_or-set_other, length-set}
 use Rattle.std.proofs.lemmas.List.Sums.{sum_by-cons, sum_by-set}
 use Rattle.pm_base.specs.declared.DevId.{DevId}
 use Rattle.pm_model.specs.declared.plan.Plan.{Plan}
 use Rattle.pm_model.specs.declared.rows.LinkRow.{LinkRow}
 use Rattle.pm_model.specs.declared.views.Device.{Device}
-use Rattle.pm_model.specs.Events.{frees_links}
+use Rattle.pm_model.specs.CanTake.{can_free}
+use Rattle.pm_model.specs.Events.{frees_links, held_from}
 use Rattle.pm_model.specs.Views.{Views, fresh_device}
 use Rattle.pm_link.specs.LinkOrder.{supplier_at}
 use Rattle.pm_link.specs.Links.{bit_at}
 use Rattle.pm_link.specs.Wanted.{is_taken_at}
-use Rattle.pm_device.specs.Fitting.{CanFree, gives_link}
+use Rattle.pm_device.specs.Giving.{gives_link}
 
 abbrev bit : Bool → ℕ
 bit b = cond b 1 0
@@ -152,29 +153,57 @@ frees_links-none plan d v long none =
     ap (λ xs. record v { devices = xs; held = loosed d plan.links v.held }) (lowered_none (held_of plan.links v.held d) 0 v.devices (λ k. held_of-none d k plan.links v.held none))
     ∙ ap (λ bits. record v { held = bits }) (loosed-none d plan.links v.held long none)
 
+-- devices, counted from i, that have as many counts as these
+abbrev has_counts : (ℕ → ℕ) → ℕ → List Device → Bool
+has_counts counts i devices = list_all (λ p. nat_le (counts p.0) p.1.usage) (enumerate_from i devices)
+
+-- each of them has
+count_at : (counts : ℕ → ℕ) (i s at : ℕ) (devices : List Device) → at ≡ i + s → s < length devices → has_counts counts i devices ≡ true → counts at ≤ (slice_index_or devices s fresh_device).usage
+count_at counts i s at [] is below all = absurd (omega arith)
+count_at counts i zero at (x ∷ devices) is below all =
+    let here : at ≡ i = omega (arith, is) in
+    rw here (leb-true (counts i) x.usage (and_parts (nat_le (counts i) x.usage) (has_counts counts (i + 1) devices) all).0)
+count_at counts i (suc s) at (x ∷ devices) is below all =
+    count_at counts (i + 1) s at devices (omega (arith, is)) (omega arith) (and_parts (nat_le (counts i) x.usage) (has_counts counts (i + 1) devices) all).1
+
+counts_from : (counts : ℕ → ℕ) (i : ℕ) (devices : List Device) → ((s at : ℕ) → at ≡ i + s → s < length devices → counts at ≤ (slice_index_or devices s fresh_device).usage) → has_counts counts i devices ≡ true
+counts_from counts i [] each = refl
+counts_from counts i (x ∷ devices) each =
+    ap (λ b. b && has_counts counts (i + 1) devices) (le-leb (counts i) x.usage (each 0 i (omega arith) (omega arith)))
+    ∙ counts_from counts (i + 1) devices (λ s at is below. each (suc s) at (omega (arith, is)) (omega arith))
+
+-- a supplier has the counts that its held links to the consumer took
+held_count_at : (plan : Plan) (v : Views) (d : DevId) (s : ℕ) → s < length v.devices → can_free plan v d ≡ true → held_from plan v.held d s ≤ (slice_index_or v.devices s fresh_device).usage
+held_count_at plan v d s within can = count_at (held_from plan v.held d) 0 s s v.devices (omega arith) within can
+
+-- where each has them, they can be freed
+pub can_free_all : (plan : Plan) (v : Views) (d : DevId) → ((s : ℕ) → s < length v.devices → held_from plan v.held d s ≤ (slice_index_or v.devices s fresh_device).usage) → can_free plan v d ≡ true
+can_free_all plan v d each = counts_from (held_from plan v.held d) 0 v.devices (λ s at is below. subst (λ k. held_from plan v.held d k ≤ (slice_index_or v.devices s fresh_device).usage) (omega (arith, is)) (each s below))
+
 -- the supplier of a held link has a count to give back
-pub can_give : (plan : Plan) (d : DevId) (v : Views) (l : ℕ) → l < length plan.links → is_taken_at d plan.links v.held l ≡ true → CanFree plan v d
-    → 0 < (slice_index_or v.devices (supplier_at plan.links l) fresh_device).usage
-can_give plan d v l below taken can =
+pub can_give : (plan : Plan) (d : DevId) (v : Views) (l : ℕ) → l < length plan.links → is_taken_at d plan.links v.held l ≡ true → supplier_at plan.links l < length v.devices
+    → can_free plan v d ≡ true → 0 < (slice_index_or v.devices (supplier_at plan.links l) fresh_device).usage
+can_give plan d v l below taken within can =
     let s = supplier_at plan.links l in
-    omega (arith, held_of-given d s plan.links v.held l below taken, bit_same s s refl, can s)
+    omega (arith, held_of-given d s plan.links v.held l below taken, bit_same s s refl, held_count_at plan v d s within can)
 
 -- and the others can still be freed
-pub CanFree-given : (plan : Plan) (d : DevId) (v : Views) (l : ℕ) → l < length plan.links → is_taken_at d plan.links v.held l ≡ true → supplier_at plan.links l < length v.devices
-    → CanFree plan v d → CanFree plan (gives_link plan l v) d
-CanFree-given plan d v l below taken within can = λ k.
+pub can_free-given : (plan : Plan) (d : DevId) (v : Views) (l : ℕ) → l < length plan.links → is_taken_at d plan.links v.held l ≡ true → supplier_at plan.links l < length v.devices
+    → can_free plan v d ≡ true → can_free plan (gives_link plan l v) d ≡ true
+can_free-given plan d v l below taken within can = can_free_all plan (gives_link plan l v) d (λ k among.
     let s = supplier_at plan.links l in
     let x : Device = one_less (slice_index_or v.devices s fresh_device) in
     let given = held_of-given d k plan.links v.held l below taken in
+    let had = held_count_at plan v d k (omega (arith, among, length-set v.devices s x)) can in
     elim (cases_eq k s) [
       | inl same ↦
           let at = ap (λ (y : Device). y.usage) (get_or-set_at v.devices s k x fresh_device same within) in
           let was = ap (λ n. (slice_index_or v.devices n fresh_device).usage) same in
-          omega (arith, given, at, was, bit_same s k (sym same), can k)
+          omega (arith, given, at, was, bit_same s k (sym same), had)
       | inr other ↦
           let at = ap (λ (y : Device). y.usage) (get_or-set_other v.devices s k x fresh_device other) in
-          omega (arith, given, at, bit_other s k (λ same. other (sym same)), can k)
-    ]
+          omega (arith, given, at, bit_other s k (λ same. other (sym same)), had)
+    ])
 
 -- how many links are held
 abbrev pub held_count : List Bool → ℕ

@@ -1,3 +1,3 @@
 pub mod Children
-pub mod Fitting
+pub mod Giving
 pub mod Parts

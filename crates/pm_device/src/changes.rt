@@ -221,11 +221,10 @@ impl Parts {
         self.set_device(dev, device);
     }
 
-    /// The depth falls by one; at 0 the last status is forgotten.
+    /// The depth falls by one, if it isn't 0; as it becomes 0 the last status is forgotten.
     #[tactic(auto, unfolding(pm_model::specs::Changes::enables))]
     pub fn enables(&mut self, dev: DevId)
-        requires in_range { dev.0 < length self.old.shape.parents }
-        requires disabled { 0 < (device self.old.views dev).depth }
+        requires { dev.0 < length self.old.shape.parents }
         ensures { self.new ≡ record self.old { views = enables dev self.old.views } }
     {
         let device = *self.device(dev);
@@ -233,7 +232,7 @@ impl Parts {
             self.set_depth(dev, 0);
             self.set_last(dev, false);
         } else {
-            self.set_depth(dev, device.depth - 1);
+            self.set_depth(dev, device.depth.saturating_sub(1));
         }
     }
 

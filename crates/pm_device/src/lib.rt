@@ -19,7 +19,9 @@ mod rows;
 mod tests;
 
 pub use guards::{has, is_above_idle, is_try_again, may_not_wait, prevented};
-pub use moves::{back, calls, goes, helper_returns, then_returns, call_returns, supplier_call, to_resume};
+pub use moves::{
+    back, call_returns, calls, goes, helper_returns, supplier_call, then_returns, to_resume,
+};
 use pm_base::{DevId, Status};
 use pm_domain::Domains;
 use pm_link::Links;

@@ -2,12 +2,13 @@
 
 ghost use Rattle.std.specs.Prelude.{◌≡◌, ◌<◌, true, IfSome, length, option_map};
 ghost use Rattle.pm_link.specs.Links.{bit_at, row_at, with_supplier};
+ghost use Rattle.pm_model.specs.CanTake.{can_free};
 ghost use Rattle.pm_model.specs.Changes.{set_held, set_present};
 ghost use Rattle.pm_model.specs.ControlTable.{is_pair_in, may_be_absent};
 ghost use Rattle.pm_model.specs.Derived.{first_free, first_held, has_link, next_supplier};
 ghost use Rattle.pm_model.specs.Events.{frees_links};
 ghost use Rattle.pm_model.specs.Views.{device};
-ghost use Rattle.pm_device.specs.Fitting.{CanFree, gives_link};
+ghost use Rattle.pm_device.specs.Giving.{gives_link};
 ghost use Rattle.pm_device.specs.Parts.{IsFor};
 
 use crate::Parts;
@@ -127,7 +128,7 @@ impl Parts {
     /// this consumer's links alone, anew for each that was held.
     pub fn free_links(&mut self, plan: &Plan, consumer: DevId)
         requires made_for { IsFor plan.now self.old.shape }
-        requires taken { CanFree plan.now self.old.views consumer }
+        requires taken { can_free plan.now self.old.views consumer ≡ true }
         ensures { self.new ≡ record self.old { views = frees_links plan.now consumer self.old.views } }
     {
         while let Some(link) = self.links.first_taken(plan, consumer) {

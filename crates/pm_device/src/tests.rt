@@ -150,14 +150,12 @@ fn gives(parts: &mut Parts, dev: DevId)
     }
 }
 
-// A device is enabled once, if it is disabled.
+// A device is enabled once.
 fn enables(parts: &mut Parts, dev: DevId)
     requires { dev.0 < length parts.old.shape.parents }
     ensures { parts.new.shape ≡ parts.old.shape }
 {
-    if parts.is_disabled(dev) {
-        parts.enables(dev);
-    }
+    parts.enables(dev);
 }
 
 // A change of one device.

@@ -2,7 +2,7 @@
 //! (`runtime_pm.rst`, section 4).
 #![tactic(auto)]
 
-ghost use Rattle.std.specs.Prelude.{◌≡◌, ◌+◌, ◌<◌, ◌≤ℤ◌, ◌^◌, length, nat_abs, pos};
+ghost use Rattle.std.specs.Prelude.{◌≡◌, ◌+◌, ◌<◌, ◌≤ℤ◌, ◌^◌, length, nat_abs, pos, true};
 ghost use Rattle.std.specs.Option.{option_map_or};
 ghost use Rattle.pm_base.specs.declared.Why.TheVariants as why;
 ghost use Rattle.pm_model.specs.declared.event.Event.TheVariants as event;
@@ -14,9 +14,9 @@ ghost use Rattle.pm_model.specs.declared.stage.Stage.TheVariants as the_stage;
 ghost use Rattle.pm_model.specs.HelperTable.{begins, carries_out, flags_of, gets_if, helper_row, helper_starts, put_suspends, callers_put, timer_fires, to_idle, to_suspend};
 ghost use Rattle.pm_model.specs.Row.{move_of, helper_returns, timed};
 ghost use Rattle.pm_model.specs.Views.{pending_of, timer};
+ghost use Rattle.pm_model.specs.WellFormed.{is_well_formed};
 ghost use Rattle.pm_model.specs.World.{due};
 ghost use Rattle.pm_device.specs.Parts.{IsFor};
-ghost use Rattle.pm_helper.specs.HelperMove.{CanTell, ReadsWithin};
 
 use pm_base::{DevId, EINVAL, Req, Why};
 use pm_device::{Parts, back, calls, goes, helper_returns, then_returns, to_resume};
@@ -154,12 +154,12 @@ fn starts(parts: &Parts, command: Command) -> Move
         Helper::GetIfInUse => gets_if(parts, command, parts.is_in_use(dev)),
         Helper::GetIfActive => gets_if(parts, command, true),
         Helper::Put | Helper::PutSync => {
-            let given = Stage::Idle(IdleStage::AfterPut { dev, flags });
-            callers_put(parts, command, calls(given, its_code))
+            let after_put = Stage::Idle(IdleStage::AfterPut { dev, flags });
+            callers_put(parts, command, calls(after_put, its_code))
         }
         Helper::PutAutosuspend | Helper::PutSyncSuspend | Helper::PutSyncAutosuspend => {
-            let given = Stage::Helper(HelperStage::PutSuspends { command });
-            callers_put(parts, command, goes(given))
+            let suspends = Stage::Helper(HelperStage::PutSuspends { command });
+            callers_put(parts, command, goes(suspends))
         }
         Helper::PutNoidle => callers_put(parts, command, then_returns(helper, dev, 0)),
         _ => helper_returns(helper, dev, 0, Change::Same),
@@ -270,8 +270,7 @@ fn delay(ms: i64, since: u64, time: u64) -> Move
 /// of the run). It takes no memory.
 pub fn next(plan: &Plan, parts: &Parts, stage: HelperStage, time: u64) -> Move
     requires made_for { IsFor plan.now parts.now.shape }
-    requires in_range { ReadsWithin (length plan.now.devices) stage }
-    requires tells { CanTell stage }
+    requires well_formed { is_well_formed plan.now parts.now.views (the_stage.Helper stage) ≡ true }
     ensures { result ≡ timed (due plan.now parts.now.views (the_stage.Helper stage)) time (helper_row plan.now parts.now.views stage time) }
 {
     match stage {

@@ -1,7 +1,7 @@
 //! The lines of idle, and of the stage after a put (`runtime_pm.rst`, sections 2 and 4).
 #![tactic(auto)]
 
-ghost use Rattle.std.specs.Prelude.{◌≡◌, ◌+◌, ◌<◌, ◌^◌, length, pos, if◌then◌else◌};
+ghost use Rattle.std.specs.Prelude.{◌≡◌, ◌+◌, ◌<◌, ◌^◌, length, pos, true, if◌then◌else◌};
 ghost use Rattle.std.specs.Ordering.{int_eq};
 ghost use Rattle.pm_base.specs.declared.Cb.TheVariants as cb;
 ghost use Rattle.pm_model.specs.declared.event.Event.TheVariants as event;
@@ -12,12 +12,12 @@ ghost use Rattle.pm_model.specs.Derived.{begun};
 ghost use Rattle.pm_model.specs.IdleTable.{after_put, idle_ends, idle_row, idle_verdict, then_suspends};
 ghost use Rattle.pm_model.specs.PlanRows.{ms_of};
 ghost use Rattle.pm_model.specs.Row.{back, move_of, timed};
+ghost use Rattle.pm_model.specs.WellFormed.{is_well_formed};
 ghost use Rattle.pm_model.specs.World.{due};
 ghost use Rattle.pm_device.specs.Parts.{IsFor};
-ghost use Rattle.pm_idle.specs.IdleMove.{CanTell, device_of};
 
 use pm_base::{ASYNC, AUTO, Cb, DevId, EAGAIN, EINPROGRESS, Req};
-use pm_device::{Parts, back, goes, has, has_idle, is_above_idle, ms_of, call_returns};
+use pm_device::{Parts, back, call_returns, goes, has, has_idle, is_above_idle, ms_of};
 use pm_model::{Change, Event, IdleStage, Move, Plan, Stage, SuspendStage, Then, WorkAct};
 
 // An idle that answers 0 goes on to suspend by the autosuspend rule.
@@ -163,8 +163,7 @@ fn after_put(plan: &Plan, parts: &Parts, dev: DevId, flags: u8) -> Move
 /// (milliseconds of the run). It takes no memory.
 pub fn next(plan: &Plan, parts: &Parts, stage: IdleStage, time: u64) -> Move
     requires made_for { IsFor plan.now parts.now.shape }
-    requires in_range { (device_of stage).0 < length plan.now.devices }
-    requires tells { CanTell plan.now parts.now.views stage }
+    requires well_formed { is_well_formed plan.now parts.now.views (the_stage.Idle stage) ≡ true }
     ensures { result ≡ timed (due plan.now parts.now.views (the_stage.Idle stage)) time (idle_row plan.now parts.now.views stage time) }
 {
     match stage {

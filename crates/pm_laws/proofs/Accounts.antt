@@ -15,7 +15,7 @@ use Rattle.pm_model.specs.declared.stage.Change.TheVariants as change
 use Rattle.pm_model.specs.declared.stage.Stage.{Stage}
 use Rattle.pm_model.specs.declared.stage.Then.{Then}
 use Rattle.pm_model.specs.ChangeViews.{change_views}
-use Rattle.pm_model.specs.Counted.{takes, gives, frees, is_same, is_callers, says_on}
+use Rattle.pm_model.specs.Counted.{takes, gives_back, frees, is_same, is_callers, says_on}
 use Rattle.pm_model.specs.Events.{by_event, by_word, by_end, set_status, set_error, is_try_again}
 use Rattle.pm_model.specs.Row.{writes}
 use Rattle.pm_model.specs.Views.{Views, device}
@@ -30,7 +30,7 @@ use Rattle.pm_laws.proofs.Turns.{IsQuiet, quiet_event, entry_kept}
 
 -- the counts stay, and the stages that take the place hold what the stage held
 pub uncounted : {plan : Plan} {v after : Views} {s : Stage} {e : Event} {next : Then}
-    → ((d : DevId) → account_of (device after d) ≡ account_of (device v d)) → after.held ≡ v.held → ((d : DevId) → gives (λ w. true) d e ≡ false)
+    → ((d : DevId) → account_of (device after d) ≡ account_of (device v d)) → after.held ≡ v.held → ((d : DevId) → gives_back (λ w. true) d e ≡ false)
     → ((d : DevId) → frees plan v d e ≡ 0) → ((d : DevId) → takes (λ w. true) d e ≡ false) → SameHolds plan s next → Counting plan v after s e next
 uncounted {plan} {v} {after} {s} {e} {next} same held g f t h = record {
   adds = λ d x within was.
@@ -40,13 +40,13 @@ uncounted {plan} {v} {after} {s} {e} {next} same held g f t h = record {
       omega (arith, h d);
   moves = λ d x within was.
       let u : (device after d).usage ≡ (device v d).usage = ap (λ (a : Account). a.usage) (same d) in
-      let a : one (gives (λ w. true) d e) ≡ 0 = rw (g d) refl in
+      let a : one (gives_back (λ w. true) d e) ≡ 0 = rw (g d) refl in
       let b : one (takes (λ w. true) d e) ≡ 0 = rw (t d) refl in
       omega (arith, f d);
 }
 
 quiet_counts : (plan : Plan) (v : Views) (e : Event) → IsQuiet e → (d : DevId)
-    → (gives (λ w. true) d e ≡ false) × (frees plan v d e ≡ 0) × (takes (λ w. true) d e ≡ false)
+    → (gives_back (λ w. true) d e ≡ false) × (frees plan v d e ≡ 0) × (takes (λ w. true) d e ≡ false)
 quiet_counts plan v (event.Get x w) q d = elim q [ ]
 quiet_counts plan v (event.Put x w) q d = elim q [ ]
 quiet_counts plan v (event.State x w) q d = elim q [ ]
@@ -55,11 +55,11 @@ quiet_counts plan v (event.End x cb.Suspend c) q d = elim q [ ]
 quiet_counts plan v _ q d = (refl, refl, refl)
 
 -- a put by a caller is a put, so an event that puts nothing spends no share
-caller_gives : (d : DevId) (e : Event) → gives is_callers d e ≡ true → gives (λ w. true) d e ≡ true
+caller_gives : (d : DevId) (e : Event) → gives_back is_callers d e ≡ true → gives_back (λ w. true) d e ≡ true
 caller_gives d (event.Put x w) c = rw (both (is_same d x) (is_callers w) c).0 refl
 caller_gives d _ c = absurd (false≢true c)
 
-spends_none : {A : Type 0} (d : DevId) (e : Event) → gives (λ w. true) d e ≡ false → gives is_callers d e ≡ true → A
+spends_none : {A : Type 0} (d : DevId) (e : Event) → gives_back (λ w. true) d e ≡ false → gives_back is_callers d e ≡ true → A
 spends_none d e none c = absurd (false≢true (sym none ∙ caller_gives d e c))
 
 -- a quiet event; where it is a pm_domain line, its row names no change
@@ -167,7 +167,7 @@ word_frees plan v e word.ForcedSuspended d is = elim is [ ]
 word_frees plan v e _ d is = refl
 
 turn_counts : (plan : Plan) (v : Views) (e : Event) → IsTurn e → (d : DevId)
-    → (gives (λ w. true) d e ≡ false) × (frees plan v d e ≡ 0) × (takes (λ w. true) d e ≡ false)
+    → (gives_back (λ w. true) d e ≡ false) × (frees plan v d e ≡ 0) × (takes (λ w. true) d e ≡ false)
 turn_counts plan v (event.State x w) is d = (refl, word_frees plan v x w d is, refl)
 turn_counts plan v (event.Get x w) is d = elim is [ ]
 turn_counts plan v (event.Put x w) is d = elim is [ ]

@@ -18,7 +18,7 @@ use Rattle.pm_model.specs.declared.event.WorkAct.TheVariants.{Queue, Defer, Run}
 use Rattle.pm_model.specs.declared.plan.Plan.{Plan}
 use Rattle.pm_model.specs.declared.views.Device.{Device}
 use Rattle.pm_model.specs.Changes.{set_held}
-use Rattle.pm_model.specs.Counted.{is_same, only_if, says_error, says_auto, says_idle}
+use Rattle.pm_model.specs.Counted.{is_same, only_if, says_error, says_auto, says_runs}
 use Rattle.pm_model.specs.Derived.{up, down}
 use Rattle.pm_model.specs.Events.{by_event, by_word, by_end, by_work, by_timer, got, gave, set_status, set_error, is_try_again, switches}
 use Rattle.pm_model.specs.Views.{Views, device, with_device}
@@ -200,7 +200,7 @@ gave_idle plan e d (why.Link c) v = refl
 gave_idle plan e d _ v = refl
 
 pub idle_after : (plan : Plan) (t : ℕ) (e : Event) (v : Views) (d : DevId) → d.0 < length v.devices
-    → idle_of (device (by_event plan t e v) d) ≡ unwrap_or (says_idle d e) (idle_of (device v d))
+    → idle_of (device (by_event plan t e v) d) ≡ unwrap_or (says_runs cb.Idle d e) (idle_of (device v d))
 unfolding by_event
 idle_after plan t (event.Get x w) v d within = got_idle plan x d w _ ∙ entry_kept idle_of v x d _ refl
 idle_after plan t (event.Put x w) v d within = gave_idle plan x d w _ ∙ entry_kept idle_of v x d _ refl

@@ -18,7 +18,7 @@ use Rattle.pm_model.specs.declared.stage.Then.{Then}
 use Rattle.pm_model.specs.declared.views.Device.{Device}
 use Rattle.pm_model.specs.Changes.{set_held, set_setting, disarm}
 use Rattle.pm_model.specs.ChangeViews.{change_views}
-use Rattle.pm_model.specs.Counted.{is_same, is_callers, gives}
+use Rattle.pm_model.specs.Counted.{is_same, is_callers, gives_back}
 use Rattle.pm_model.specs.Derived.{prevented, is_moving}
 use Rattle.pm_model.specs.Events.{by_event, got, gave, set_usage, set_share, set_auto, set_status, set_error, frees_links, held_from}
 use Rattle.pm_model.specs.Row.{writes}
@@ -240,7 +240,7 @@ took {plan} {v} {t} {s} {c} {next} e w k a owes =
 
 -- which puts spend a caller's share: those that find one
 abbrev Spends : Views → DevId → Why → Type 0
-Spends v e w = (d : DevId) → gives is_callers d (event.Put e w) ≡ true → nat_eq (device v d).share 0 ≡ false
+Spends v e w = (d : DevId) → gives_back is_callers d (event.Put e w) ≡ true → nat_eq (device v d).share 0 ≡ false
 
 no_caller : (v : Views) (e : DevId) (w : Why) → is_callers w ≡ false → Spends v e w
 no_caller v e w none d g = absurd (false≢true (sym none ∙ (both (is_same d e) (is_callers w) g).1))

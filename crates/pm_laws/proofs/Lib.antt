@@ -18,3 +18,4 @@ pub mod Shares
 pub mod Switches
 pub mod Said
 pub mod Held
+pub mod Finals

@@ -20,9 +20,10 @@ use Rattle.pm_model.specs.declared.stage.HelperStage.TheVariants as at
 use Rattle.pm_model.specs.declared.stage.Stage.{Stage}
 use Rattle.pm_model.specs.declared.stage.Stage.TheVariants as stage
 use Rattle.pm_model.specs.declared.stage.Then.{Then}
-use Rattle.pm_model.specs.Handing.{take_code, on_handed, after_code, after_back, after_then}
+use Rattle.pm_model.specs.Handing.{take_code, after_code, after_back, after_then}
 use Rattle.pm_model.specs.Views.{pending_of, timer}
 use Rattle.pm_model.specs.World.{World, place, with_place, ready, stage_at, top, next_command}
+use Rattle.pm_model.proofs.Arrivals.{on_handed, after_await}
 use Rattle.pm_sums.specs.Sums.{tally, weigh}
 use Rattle.pm_sums.proofs.Tally.{weigh_is, tally-append, tally-set}
 use Rattle.pm_laws.specs.Owners.{places}
@@ -54,7 +55,8 @@ handed_keeps f a (handed.Back c) rest further is below = omega (arith, below c, 
 
 pub code_keeps : (f : Stage → ℕ) → IsWeight f → (rest : List Stage) (c : ℤ) → sum_by f (after_code rest c) ≡ sum_by f rest
 code_keeps f is [] c = refl
-code_keeps f is (stage.Await a ∷ rest) c = handed_keeps f a (take_code a c) rest (after_code rest) (is.handed a c) (code_keeps f is rest)
+code_keeps f is (stage.Await a ∷ rest) c =
+    ap (sum_by f) (after_await a c rest) ∙ handed_keeps f a (take_code a c) rest (after_code rest) (is.handed a c) (code_keeps f is rest)
 code_keeps f is (s ∷ rest) c = refl
 
 pub then_keeps : (f : Stage → ℕ) → IsWeight f → (next : Then) (rest : List Stage)

@@ -9,7 +9,7 @@ use Rattle.pm_model.specs.declared.stage.Change.{Change}
 use Rattle.pm_model.specs.declared.stage.Stage.{Stage}
 use Rattle.pm_model.specs.declared.stage.Then.{Then}
 use Rattle.pm_model.specs.ChangeViews.{change_views}
-use Rattle.pm_model.specs.Counted.{says_status, says_on, takes, gives, frees, is_callers}
+use Rattle.pm_model.specs.Counted.{says_status, says_on, takes, gives_back, frees, is_callers}
 use Rattle.pm_model.specs.Derived.{is_suspending_status, is_resuming_status, is_suspending, is_resuming, is_moving}
 use Rattle.pm_model.specs.Events.{by_event}
 use Rattle.pm_model.specs.PlanRows.{no_callbacks}
@@ -54,14 +54,14 @@ pub record Counting (plan : Plan) (v after : Views) (s : Stage) (e : Event) (nex
   pub adds : (d : DevId) (x : ℕ) → d.0 < length plan.devices → (device v d).usage ≡ owed plan v d + (holds plan d s + x)
       → (device after d).usage ≡ owed plan after d + (weigh (holds plan d) (shown next) + x)
   pub moves : (d : DevId) (x : ℕ) → d.0 < length plan.devices → (device v d).usage ≡ owed plan v d + (holds plan d s + x)
-      → (device after d).usage + (one (gives (λ w. true) d e) + frees plan v d e) ≡ (device v d).usage + one (takes (λ w. true) d e)
+      → (device after d).usage + (one (gives_back (λ w. true) d e) + frees plan v d e) ≡ (device v d).usage + one (takes (λ w. true) d e)
 
 -- what a row that writes an event owes. A caller's put finds a share, and a pm_domain line switches the domains that it
 -- would switch before the change that its row names
 pub record Keeps (plan : Plan) (v : Views) (t : ℕ) (s : Stage) (e : Event) (c : Change) (next : Then) : Type 0 where
   pub owning : Owning plan v s e next
   pub counting : Counting plan v (by_event plan t e (change_views plan t c v)) s e next
-  pub spends : (d : DevId) → gives is_callers d e ≡ true → nat_eq (device v d).share 0 ≡ false
+  pub spends : (d : DevId) → gives_back is_callers d e ≡ true → nat_eq (device v d).share 0 ≡ false
   pub switching : (o : ℕ) → says_on plan (change_views plan t c v) o e ≡ says_on plan v o e
 
 abbrev pub KeepsRow : Plan → Views → ℕ → Stage → Row → Type 0

@@ -272,7 +272,7 @@ empty_tally f (x ∷ l) = empty_tally f l
 
 start_tally : (plan : Plan) (f : Stage → ℕ) → tally f (places (start plan)) ≡ 0
 start_tally plan f =
-    omega (arith, tally_joined f (start plan).callers (start plan).works (start plan).timers, empty_tally f plan.callers, empty_tally f plan.devices)
+    omega (arith, tally_joined f (start plan).caller_places (start plan).work_places (start plan).timer_places, empty_tally f plan.callers, empty_tally f plan.devices)
 
 start_holds : (plan : Plan) → Holds plan (start plan)
 start_holds plan = record {

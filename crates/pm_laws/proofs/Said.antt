@@ -4,6 +4,7 @@ use Rattle.std.specs.List.{enumerate_from}
 use Rattle.std.specs.Option.{unwrap_or}
 use Rattle.std.proofs.lemmas.List.Sums.{sum_by-cons}
 use Rattle.std.proofs.lemmas.Option.{slice_get_within}
+use Rattle.pm_base.specs.declared.Cb.TheVariants as cb
 use Rattle.pm_base.specs.declared.DevId.{DevId}
 use Rattle.pm_base.specs.declared.Status.{Status}
 use Rattle.pm_model.specs.declared.event.Event.{Event}
@@ -13,8 +14,9 @@ use Rattle.pm_model.specs.declared.rows.DeviceRow.{DeviceRow}
 use Rattle.pm_model.specs.declared.rows.DomainRow.{DomainRow}
 use Rattle.pm_model.specs.declared.rows.LinkRow.{LinkRow}
 use Rattle.pm_model.specs.ChangeViews.{change_views}
-use Rattle.pm_model.specs.Counted.{gives, takes, frees, gets, puts, freed, says_status, status_of, last_said, says_error, error_of, says_auto, is_allowed, says_idle, idle_runs, says_held, is_held_pair, is_callers, says_on, is_switched_on}
+use Rattle.pm_model.specs.Counted.{gives_back, takes, frees, gets, puts, freed, says_status, status_of, says_error, error_of, says_auto, is_allowed, says_runs, runs, says_held, is_held_pair, is_callers, says_on, is_switched_on}
 use Rattle.pm_model.specs.Events.{by_event}
+use Rattle.pm_model.specs.History.{last_said, of_event}
 use Rattle.pm_model.specs.Lawful.{IsLawful}
 use Rattle.pm_model.specs.PlanRows.{is_kept_on}
 use Rattle.pm_model.specs.Views.{Views, fresh_device, device, is_held, is_on}
@@ -58,7 +60,7 @@ usage_counted plan (line ∷ h) d lawful within =
     let now : (device (world plan (line ∷ h)).views d).usage ≡ (device (by_event plan line.time line.event (change_views plan line.time p.change w.views)) d).usage = ap (λ v. let x : ℕ = (device v d).usage in x) (views_next plan w line p) in
     let moves = p.keeps.counting.moves d (others (holds plan d) w line.actor) within (held_top plan w line.actor p.stage d before p.stands within) in
     let was = usage_counted plan h d lawful.2 within in
-    let more_puts : puts (λ w. true) (line ∷ h) d ≡ one (gives (λ w. true) d line.event) + puts (λ w. true) h d = sum_by-cons (λ (l : Line). cond (gives (λ w. true) d l.event) 1 0) line h in
+    let more_puts : puts (λ w. true) (line ∷ h) d ≡ one (gives_back (λ w. true) d line.event) + puts (λ w. true) h d = sum_by-cons (λ (l : Line). cond (gives_back (λ w. true) d l.event) 1 0) line h in
     let more_gets : gets (λ w. true) (line ∷ h) d ≡ one (takes (λ w. true) d line.event) + gets (λ w. true) h d = sum_by-cons (λ (l : Line). cond (takes (λ w. true) d l.event) 1 0) line h in
     let more_freed : freed plan (line ∷ h) d ≡ frees plan w.views d line.event + freed plan h d = refl in
     omega arith
@@ -76,7 +78,7 @@ IsSaid f says = (plan : Plan) (t : ℕ) (e : Event) (v : Views) (d : DevId) → 
 
 -- a part is what the last line that says anything of it says
 aside_said : {A : Type 0} (f : Aside → A) (says : DevId → Event → Option A) → IsSaid f says → (plan : Plan) (h : List Line) (d : DevId) → IsLawful plan h
-    → d.0 < length plan.devices → f (aside_of (device (world plan h).views d)) ≡ last_said (says d) (f (aside_of fresh_device)) h
+    → d.0 < length plan.devices → f (aside_of (device (world plan h).views d)) ≡ last_said (of_event (says d)) (f (aside_of fresh_device)) h
 aside_said f says after plan [] d lawful within = ap f (start_aside plan.devices d.0)
 aside_said {A} f says after plan (line ∷ h) d lawful within =
     let w = world plan h in
@@ -84,7 +86,7 @@ aside_said {A} f says after plan (line ∷ h) d lawful within =
     let now = ap (λ v. let x : A = f (aside_of (device v d)) in x) (views_next plan w line p) in
     let turned = after plan line.time line.event (change_views plan line.time p.change w.views) d (omega (arith, p.beside.entries.devices)) in
     let was = ap f (p.beside.untouched.asides d) ∙ aside_said f says after plan h d lawful.2 within in
-    now ∙ turned ∙ ap (unwrap_or (says d line.event)) was ∙ says_or (says d line.event) (last_said (says d) (f (aside_of fresh_device)) h)
+    now ∙ turned ∙ ap (unwrap_or (says d line.event)) was ∙ says_or (says d line.event) (last_said (of_event (says d)) (f (aside_of fresh_device)) h)
 
 pub error_said : (plan : Plan) (h : List Line) (d : DevId) → IsLawful plan h → d.0 < length plan.devices
     → (device (world plan h).views d).error ≡ error_of h d
@@ -95,8 +97,8 @@ pub auto_said : (plan : Plan) (h : List Line) (d : DevId) → IsLawful plan h �
 auto_said = aside_said (λ (a : Aside). a.auto_on) says_auto auto_after
 
 pub idle_said : (plan : Plan) (h : List Line) (d : DevId) → IsLawful plan h → d.0 < length plan.devices
-    → (device (world plan h).views d).idle_running ≡ idle_runs h d
-idle_said = aside_said (λ (a : Aside). a.idle_running) says_idle idle_after
+    → (device (world plan h).views d).idle_running ≡ runs cb.Idle d h
+idle_said = aside_said (λ (a : Aside). a.idle_running) (says_runs cb.Idle) idle_after
 
 start_held : (l : List LinkRow) (i : ℕ) → slice_index_or (map (λ row. false) l) i false ≡ false
 start_held [] i = refl
@@ -128,7 +130,7 @@ share_counted plan (line ∷ h) d lawful within =
     let now : (device (world plan (line ∷ h)).views d).share ≡ (device (by_event plan line.time line.event (change_views plan line.time p.change w.views)) d).share = ap (λ v. let x : ℕ = (device v d).share in x) (views_next plan w line p) in
     let moves = share_after plan line.time line.event (change_views plan line.time p.change w.views) d (omega (arith, p.beside.entries.devices)) (λ g. ap (λ n. nat_eq n 0) same ∙ p.keeps.spends d g) in
     let was = share_counted plan h d lawful.2 within in
-    let more_puts : puts is_callers (line ∷ h) d ≡ one (gives is_callers d line.event) + puts is_callers h d = sum_by-cons (λ (l : Line). cond (gives is_callers d l.event) 1 0) line h in
+    let more_puts : puts is_callers (line ∷ h) d ≡ one (gives_back is_callers d line.event) + puts is_callers h d = sum_by-cons (λ (l : Line). cond (gives_back is_callers d l.event) 1 0) line h in
     let more_gets : gets is_callers (line ∷ h) d ≡ one (takes is_callers d line.event) + gets is_callers h d = sum_by-cons (λ (l : Line). cond (takes is_callers d l.event) 1 0) line h in
     omega arith
 

@@ -10,7 +10,7 @@ use Rattle.pm_model.specs.declared.event.Event.TheVariants as event
 use Rattle.pm_model.specs.declared.plan.Plan.{Plan}
 use Rattle.pm_model.specs.declared.views.Device.{Device}
 use Rattle.pm_model.specs.Changes.{set_held}
-use Rattle.pm_model.specs.Counted.{is_same, is_callers, takes, gives}
+use Rattle.pm_model.specs.Counted.{is_same, is_callers, takes, gives_back}
 use Rattle.pm_model.specs.Events.{by_event, got, gave, set_usage}
 use Rattle.pm_model.specs.Views.{Views, device}
 use Rattle.pm_sums.specs.Sums.{one}
@@ -53,8 +53,8 @@ unshared x y e = omega arith
 
 -- the shares rise by the callers' gets and fall by their puts
 pub share_after : (plan : Plan) (t : ℕ) (e : Event) (v : Views) (d : DevId) → d.0 < length v.devices
-    → (gives is_callers d e ≡ true → nat_eq (device v d).share 0 ≡ false)
-    → (device (by_event plan t e v) d).share + one (gives is_callers d e) ≡ (device v d).share + one (takes is_callers d e)
+    → (gives_back is_callers d e ≡ true → nat_eq (device v d).share 0 ≡ false)
+    → (device (by_event plan t e v) d).share + one (gives_back is_callers d e) ≡ (device v d).share + one (takes is_callers d e)
 unfolding by_event
 share_after plan t (event.Get x w) v d within spends =
     omega (arith, got_share plan x d w (set_usage ((device v x).usage + 1) x v) (within_set v x d _ within), entry_kept share_of v x d (record (device v x) { usage = (device v x).usage + 1 }) refl)

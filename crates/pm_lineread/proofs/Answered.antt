@@ -4,12 +4,12 @@ use Rattle.std.proofs.lemmas.Bool.{and_parts, ltb-true}
 use Rattle.std.proofs.lemmas.List.{length-map}
 use Rattle.pm_model.specs.LineOf.{is_actor_of, is_event_of, is_line, is_line_of}
 use Rattle.pm_model.specs.Spelling.{line_text, line_text2}
-use Rattle.pm_model.specs.Text.{names_of}
+use Rattle.pm_model.specs.Text.{IsText2Of, IsTextOf, names_of}
 use Rattle.pm_model.specs.declared.event.Line.{Line}
 use Rattle.pm_model.specs.declared.plan.Plan.{Plan}
 use Rattle.pm_lineread.specs.declared.TextFault.{TextFault}
 use Rattle.pm_lineread.specs.Reading.{line_at}
-use Rattle.pm_lineread.specs.Texts.{IsLongest, IsText2Of, IsTextOf}
+use Rattle.pm_lineread.specs.Texts.{IsLongest}
 use Rattle.pm_lineread.proofs.LineReads.{Answers, IsLineText, line_answers}
 use Rattle.pm_lineread.proofs.PlanNames.{are_names}
 use Rattle.pm_lineread.proofs.Readers.{one_answer}
@@ -61,7 +61,7 @@ text2_from_0 plan line = let same : line.time - 0 ≡ line.time = omega arith in
 pub from_text1 : (plan : Plan) (line : Line) (bytes : List ℕ) → IsTextOf plan line bytes → IsText2Of plan 0 line bytes
 from_text1 plan line bytes (is, whole) = (is, omega arith, text2_from_0 plan line ∙ whole)
 
-to_text1 : (plan : Plan) (line : Line) (bytes : List ℕ) → IsText2Of plan 0 line bytes → IsTextOf plan line bytes
+pub to_text1 : (plan : Plan) (line : Line) (bytes : List ℕ) → IsText2Of plan 0 line bytes → IsTextOf plan line bytes
 to_text1 plan line bytes (is, later, whole) = (is, sym (text2_from_0 plan line) ∙ whole)
 
 longest_text1 : (plan : Plan) (bytes : List ℕ) (at : ℕ) → IsLongest (IsText2Of plan 0) bytes at → IsLongest (IsTextOf plan) bytes at

@@ -8,11 +8,11 @@
 ghost use Rattle.std.specs.Prelude.{◌≡◌, ◌≢◌, ℕ, ◌^◌, ◌<◌, ◌≤◌, true, Ok, IfErr, IfOk};
 ghost use Rattle.pm_model.specs.LineOf.{is_line_of};
 ghost use Rattle.pm_model.specs.Spelling.{line_text, line_text2};
-ghost use Rattle.pm_model.specs.Text.{names_of};
+ghost use Rattle.pm_model.specs.Text.{IsText2Of, IsTextOf, names_of};
 ghost use Rattle.pm_model.specs.declared.event.Line.{Line};
 ghost use Rattle.pm_model.specs.declared.plan.Plan.{Plan};
 ghost use Rattle.pm_lineread.specs.Reading.{line_at};
-ghost use Rattle.pm_lineread.specs.Texts.{IsLongest, IsText2Of, IsTextOf};
+ghost use Rattle.pm_lineread.specs.Texts.{IsLongest};
 
 mod events;
 mod kinds;

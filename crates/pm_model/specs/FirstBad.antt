@@ -1,15 +1,33 @@
--- Which bytes are the text of a lawful list, and the first line at which they aren't (this project's own).
-use Rattle.std.specs.Prelude.{ℕ, zero, suc, ◌≡◌, ◌<◌, ◌⊎◌, Bool, List, [], ◌∷◌, reverse, nat_eq, if◌then◌else◌}
-use Rattle.std.specs.List.{starts_with}
+-- Which bytes are the text of a lawful list, and the first line at which they aren't (this project's own). Lists have
+-- the newest line first.
+use Rattle.std.specs.Prelude.{ℕ, zero, suc, ◌≡◌, ◌<◌, ◌≤◌, ◌⊎◌, Bool, true, List, [], ◌∷◌, reverse, nat_eq, if◌then◌else◌}
+use Rattle.std.specs.List.{list_all, starts_with}
 use Rattle.pm_model.specs.declared.event.Line.{Line}
 use Rattle.pm_model.specs.declared.plan.Plan.{Plan}
-use Rattle.pm_model.specs.Lawful.{IsLawful}
+use Rattle.pm_model.specs.Lawful.{IsLawful, last_time}
+use Rattle.pm_model.specs.LineOf.{is_line_of}
 use Rattle.pm_model.specs.Spelling.{header}
 use Rattle.pm_model.specs.Text.{text1, text2}
 
--- the bytes are the text of the list, in either format; a lawful list's times don't fall
+-- each line is a line of the plan, so that it has a text
+abbrev pub AreLinesOf : Plan → List Line → Type 0
+AreLinesOf plan h = list_all (is_line_of plan) h ≡ true
+
+-- no line is earlier than the one before it
+abbrev pub TimesDontFall : List Line → Type 0
+TimesDontFall [] = Unit {0}
+TimesDontFall (line ∷ h) = (last_time h ≤ line.time) × TimesDontFall h
+
+-- the bytes are the text of the list in format 1, and in format 2, in which only a list whose times don't fall has one
+abbrev pub IsText1 : Plan → List ℕ → List Line → Type 0
+IsText1 plan bytes h = AreLinesOf plan h × (bytes ≡ text1 plan (reverse h))
+
+abbrev pub IsText2 : Plan → List ℕ → List Line → Type 0
+IsText2 plan bytes h = AreLinesOf plan h × TimesDontFall h × (bytes ≡ text2 plan (reverse h))
+
+-- the bytes are the text of the list, in either format
 abbrev pub StandsFor : Plan → List ℕ → List Line → Type 0
-StandsFor plan bytes h = (bytes ≡ text1 plan (reverse h)) ⊎ (bytes ≡ text2 plan (reverse h))
+StandsFor plan bytes h = IsText1 plan bytes h ⊎ IsText2 plan bytes h
 
 abbrev pub IsLawfulText : Plan → List ℕ → Type 0
 IsLawfulText plan bytes = (h : List Line) × IsLawful plan h × StandsFor plan bytes h

@@ -1,6 +1,6 @@
 -- Where a stage goes on after a call, and what takes the place of the top of a stack (this project's own, but for what
 -- a supplier's answer means: device_link.rst).
-use Rattle.std.specs.Prelude.{true, List, [], ◌∷◌, ◌++◌, Option, Some, None, ℤ, pos, if◌then◌else◌}
+use Rattle.std.specs.Prelude.{true, List, ◌∷◌, ◌++◌, Option, Some, None, ℤ, pos, if◌then◌else◌}
 use Rattle.pm_base.specs.declared.codes.TheConstants.{EAGAIN}
 use Rattle.pm_model.specs.declared.stage.Await.{Await}
 use Rattle.pm_model.specs.declared.stage.Await.TheVariants as await
@@ -34,16 +34,25 @@ take_code (await.ActiveSupplier d link) c =
 take_code (await.ActiveUnwind d kept) c = handed.Goes (stage.Control (control.ActiveUnwind d kept))
 take_code (await.SuppliersIdle d supplier) c = handed.Goes (stage.Control (control.SuppliersIdle d (Some supplier)))
 
--- a stage that goes on, or what comes of a code that is handed on
-abbrev pub on_handed : Handed → List Stage → (ℤ → List Stage) → List Stage
-on_handed (handed.Goes s) rest further = s ∷ rest
-on_handed (handed.Back c) rest further = further c
+-- the stage to which a code comes that is handed down a stack, as the stack from there on, and the code as it comes; only
+-- the put of [R7] lets its own code go further
+abbrev pub arrival : List Stage → ℤ → List Stage × ℤ
+arrival (stage.Await (await.ResumePut r kept) ∷ rest) c = arrival rest kept
+arrival stack c = (stack, c)
 
--- a code is handed down a stack until a stage goes on; at an empty place it is dropped
+-- no stage to which a code comes hands it further
+abbrev pub gone_on : Handed → List Stage → List Stage
+gone_on (handed.Goes s) rest = s ∷ rest
+gone_on (handed.Back c) rest = rest
+
+-- the stage on top takes the code where it awaits one; at an empty place the code is dropped
+abbrev pub with_code : List Stage → ℤ → List Stage
+with_code (stage.Await a ∷ rest) c = gone_on (take_code a c) rest
+with_code stack c = stack
+
+-- a code is handed down a stack, and the stage to which it comes takes it
 abbrev pub after_code : List Stage → ℤ → List Stage
-after_code [] c = []
-after_code (stage.Await a ∷ rest) c = on_handed (take_code a c) rest (after_code rest)
-after_code (s ∷ rest) c = s ∷ rest
+after_code stack c = let come = arrival stack c in with_code come.0 come.1
 
 abbrev pub after_back : Option ℤ → List Stage → List Stage → List Stage
 after_back None push rest = push ++ rest

@@ -1,7 +1,9 @@
--- Which parts of a plan run apart, and how the lists of their lines are merged (this project's own).
-use Rattle.std.specs.Prelude.{ℕ, ◌≡◌, Bool, true, false, ◌&&◌, ◌||◌, List, [], ◌∷◌, Option, Some, length, nat_eq, nat_le, slice_get, if◌then◌else◌}
-use Rattle.std.specs.List.{list_any}
+-- The islands of a plan, which run apart, and how the lists of their lines are merged (this project's own).
+use Rattle.std.specs.Prelude.{ℕ, suc, ◌≡◌, ◌<◌, Bool, true, false, ◌&&◌, ◌||◌, List, [], ◌∷◌, Option, Some, None, length, nat_eq, nat_lt, nat_le, slice_get, if◌then◌else◌}
+use Rattle.std.specs.List.{filter, list_any}
 use Rattle.std.specs.Option.{option_map_or}
+use Rattle.pm_base.specs.declared.ActorId.{ActorId}
+use Rattle.pm_base.specs.declared.ActorId.TheVariants.{Caller, Work, Timer}
 use Rattle.pm_base.specs.declared.DevId.{DevId}
 use Rattle.pm_base.specs.declared.DomId.{DomId}
 use Rattle.pm_model.specs.declared.event.Command.{Command}
@@ -40,17 +42,62 @@ pub data Connected (plan : Plan) : Node → Node → Type 0 where
   along : (a b c : Node) → touch plan a b ≡ true → Connected plan b c → Connected plan a c
   against : (a b c : Node) → touch plan b a ≡ true → Connected plan b c → Connected plan a c
 
--- the island of a caller is all that is connected with it; its part is the plan with every other caller's script empty
-pub record IsPart (plan part : Plan) (caller : ℕ) : Type 0 where
+-- devices come first, then callers, then domains, each by place
+abbrev pub comes_before : Node → Node → Bool
+comes_before (the_device d) (the_device e) = nat_lt d e
+comes_before (the_caller c) (the_caller e) = nat_lt c e
+comes_before (the_domain o) (the_domain p) = nat_lt o p
+comes_before (the_device d) _ = true
+comes_before (the_caller c) (the_domain o) = true
+comes_before _ _ = false
+
+-- numbers that touching nodes share
+abbrev pub IsLabelling : Plan → (Node → ℕ) → Type 0
+IsLabelling plan island = (a b : Node) → touch plan a b ≡ true → island a ≡ island b
+
+-- the islands of a plan, so many: an island is all that is connected with one of the plan's callers. They are numbered by
+-- their first nodes: those with a device by their least device, and then those without by their least caller. Where a
+-- number isn't below the count, no caller is connected with the node
+pub record Numbering (plan : Plan) (count : ℕ) : Type 0 where
+  pub island : Node → ℕ
+  pub shared : IsLabelling plan island
+  pub finest : (a b : Node) → island a < count → island a ≡ island b → Connected plan a b
+  pub callers : (c : ℕ) → c < length plan.callers → island (the_caller c) < count
+  pub has_caller : (n : ℕ) → n < count → (c : ℕ) × (c < length plan.callers) × (island (the_caller c) ≡ n)
+  pub first : ℕ → Node
+  pub is_own : (n : ℕ) → n < count → island (first n) ≡ n
+  pub is_least : (a : Node) → island a < count → comes_before a (first (island a)) ≡ false
+  pub in_order : (m n : ℕ) → m < n → n < count → comes_before (first m) (first n) ≡ true
+
+-- a work item and a timer are where their device is
+abbrev pub node_of : ActorId → Node
+node_of (Caller c) = the_caller c
+node_of (Work d) = the_device d
+node_of (Timer d) = the_device d
+
+-- the island of an actor; none where no caller is connected with it
+abbrev pub island_of : {plan : Plan} {count : ℕ} → Numbering plan count → ActorId → Option ℕ
+island_of {plan} {count} numbering actor =
+    let n = numbering.island (node_of actor) in
+    if nat_lt n count then Some n else None
+
+-- only these callers have their scripts
+abbrev pub with_scripts : (ℕ → Bool) → List CallerRow → List CallerRow
+with_scripts is_own [] = []
+with_scripts is_own (row ∷ rows) = (if is_own 0 then row else record row { script = [] }) ∷ with_scripts (λ c. is_own (suc c)) rows
+
+-- the part of island n: the plan with every script outside the island empty
+pub record IsPart (plan : Plan) (island : Node → ℕ) (n : ℕ) (part : Plan) : Type 0 where
   pub lines : part.lines ≡ plan.lines
   pub trace : part.trace ≡ plan.trace
   pub domains : part.domains ≡ plan.domains
   pub devices : part.devices ≡ plan.devices
   pub links : part.links ≡ plan.links
-  pub count : length part.callers ≡ length plan.callers
-  pub scripts : (c : ℕ) (old new : CallerRow) → slice_get plan.callers c ≡ Some old → slice_get part.callers c ≡ Some new →
-      (new.name ≡ old.name) × (Connected plan (the_caller caller) (the_caller c) → new.script ≡ old.script)
-      × ((Connected plan (the_caller caller) (the_caller c) → ⊥) → new.script ≡ [])
+  pub callers : part.callers ≡ with_scripts (λ c. nat_eq (island (the_caller c)) n) plan.callers
+
+-- an island's own list: the lines by its actors
+abbrev pub own : (Node → ℕ) → ℕ → List Line → List Line
+own island n h = filter (λ line. nat_eq (island (node_of line.actor)) n) h
 
 -- a line before the first that isn't earlier
 abbrev pub put_in : Line → List Line → List Line

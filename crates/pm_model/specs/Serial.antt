@@ -1,4 +1,4 @@
--- The order in which one thread runs a plan (this project's own). Lists have the newest line first.
+-- The order in which one thread runs a plan (this project's own).
 use Rattle.std.specs.Prelude.{ℕ, zero, suc, ◌+◌, Bool, true, false, List, [], ◌∷◌, ◌++◌, Option, Some, None, map, find, reverse, length, drop, take, min, option_map}
 use Rattle.std.specs.List.{enumerate_from, filter_map}
 use Rattle.std.specs.Option.{option_and_then, option_map_or}
@@ -8,6 +8,7 @@ use Rattle.pm_model.specs.declared.event.Line.{Line}
 use Rattle.pm_model.specs.declared.plan.Plan.{Plan}
 use Rattle.pm_model.specs.declared.stage.Move.{Move}
 use Rattle.pm_model.specs.declared.stage.Move.TheVariants.{Write, Late, Wait}
+use Rattle.pm_model.specs.History.{History}
 use Rattle.pm_model.specs.World.{World, move, stage_at, world}
 use Rattle.pm_model.specs.Lawful.{last_time}
 
@@ -37,16 +38,16 @@ timer_actors plan = map (λ p. Timer p.0) (enumerate_from 0 plan.devices)
 
 -- how many of callers and work items come before the search begins: it begins after the writer of the last line, and
 -- at the first caller where there is none or where it is a timer
-abbrev pub seat : Plan → List Line → ℕ
+abbrev pub seat : Plan → History → ℕ
 seat plan [] = 0
 seat plan (line ∷ h) = elim line.actor [ Caller c ↦ c + 1 | Work d ↦ length plan.callers + d + 1 | Timer d ↦ 0 ]
 
 -- callers and work items once round from that seat, and then the timers
-abbrev pub round : Plan → List Line → List ActorId
+abbrev pub round : Plan → History → List ActorId
 round plan h = drop (seat plan h) (callers_and_works plan) ++ take (seat plan h) (callers_and_works plan) ++ timer_actors plan
 
 -- who writes the next line at t: the first of the round that may
-abbrev pub turn_at : Plan → List Line → ℕ → Option ActorId
+abbrev pub turn_at : Plan → History → ℕ → Option ActorId
 turn_at plan h t = find (may_write plan (world plan h) t) (round plan h)
 
 abbrev pub least : List ℕ → Option ℕ
@@ -54,17 +55,17 @@ least [] = None
 least (x ∷ xs) = Some (option_map_or (min x) (least xs) x)
 
 -- the least moment that a line only awaits
-abbrev pub least_due : Plan → List Line → Option ℕ
+abbrev pub least_due : Plan → History → Option ℕ
 least_due plan h =
     least (filter_map (λ actor. option_and_then late_moment (move_at plan (world plan h) (last_time h) actor)) (round plan h))
 
-abbrev pub or_later : Plan → List Line → Option ActorId → Option (ActorId × ℕ)
+abbrev pub or_later : Plan → History → Option ActorId → Option (ActorId × ℕ)
 or_later plan h (Some actor) = Some (actor, last_time h)
 or_later plan h None = option_and_then (λ later. option_map (λ actor. (actor, later)) (turn_at plan h later)) (least_due plan h)
 
 -- who writes the next line and when: at the last line's time where some line may be written then, else at the least
 -- moment that a line awaits
-abbrev pub next_turn : Plan → List Line → Option (ActorId × ℕ)
+abbrev pub next_turn : Plan → History → Option (ActorId × ℕ)
 next_turn plan h = or_later plan h (turn_at plan h (last_time h))
 
 -- the line that an actor writes at t
@@ -73,11 +74,11 @@ written actor t (Write e change next) = Some (record { time = t; actor = actor; 
 written actor t (Late at) = None
 written actor t (Wait d) = None
 
-abbrev pub next_line : Plan → List Line → Option Line
+abbrev pub next_line : Plan → History → Option Line
 next_line plan h = option_and_then (λ turn. option_and_then (written turn.0 turn.1) (move_at plan (world plan h) turn.1 turn.0)) (next_turn plan h)
 
 -- n more lines, or fewer where the run finishes
-abbrev pub goes_on : Plan → ℕ → List Line → List Line
+abbrev pub goes_on : Plan → ℕ → History → History
 goes_on plan zero h = h
 goes_on plan (suc n) h = option_map_or (λ line. goes_on plan n (line ∷ h)) (next_line plan h) h
 

@@ -4,7 +4,6 @@ use Rattle.std.specs.Option.{option_map_or}
 use Rattle.pm_base.specs.declared.Cb.{Cb}
 use Rattle.pm_base.specs.declared.Cb.TheVariants as cb
 use Rattle.pm_base.specs.declared.DevId.{DevId}
-use Rattle.pm_model.specs.declared.event.Command.{Command}
 use Rattle.pm_model.specs.declared.event.Helper.{Helper}
 use Rattle.pm_model.specs.declared.plan.Plan.{Plan}
 use Rattle.pm_model.specs.declared.stage.Await.{Await}
@@ -77,12 +76,13 @@ control_device (control.SuppliersIdle d last) = d
 abbrev pub called_for : Helper → DevId → Option DevId
 called_for h d = if takes_device h then Some d else None
 
+-- a delay never stands at the line after its call, nor after a put
 abbrev pub helper_device : HelperStage → Option DevId
 helper_device (at.Call c) = called_for c.helper c.dev
 helper_device (at.Work d) = Some d
 helper_device (at.Timer d) = Some d
-helper_device (at.Start c) = called_for c.helper c.dev
-helper_device (at.PutSuspends c) = called_for c.helper c.dev
+helper_device (at.Start c) = Some c.dev
+helper_device (at.PutSuspends c) = Some c.dev
 helper_device (at.Delay ms since) = None
 helper_device (at.Ret h d c) = called_for h d
 

@@ -19,6 +19,7 @@ use Rattle.pm_model.specs.declared.stage.ResumeStage.TheVariants as resume
 use Rattle.pm_model.specs.declared.stage.Stage.{Stage}
 use Rattle.pm_model.specs.declared.stage.Stage.TheVariants as stage
 use Rattle.pm_model.specs.declared.stage.SuspendStage.TheVariants as suspend
+use Rattle.pm_model.specs.History.{History}
 use Rattle.pm_model.specs.PlanRows.{is_kept_on, ms_of}
 use Rattle.pm_model.specs.Views.{Views, fresh_device, fresh_pending, pending_of, timer}
 use Rattle.pm_model.specs.Events.{by_event}
@@ -132,6 +133,6 @@ start plan = record {
 }
 
 -- after these lines, of which the newest is first
-abbrev pub world : Plan → List Line → World
+abbrev pub world : Plan → History → World
 world plan [] = start plan
 world plan (line ∷ h) = let w = world plan h in after_line plan w line (row_at plan w line.actor line.time)

@@ -1,7 +1,7 @@
 //! The lines of resume (`runtime_pm.rst`, sections 2 and 4; `device_link.rst` for the suppliers).
 #![tactic(auto)]
 
-ghost use Rattle.std.specs.Prelude.{◌≡◌, ◌+◌, ◌<◌, ◌&&◌, ◌∷◌, ◌^◌, [], if◌then◌else◌, length, not, pos};
+ghost use Rattle.std.specs.Prelude.{◌≡◌, ◌+◌, ◌<◌, ◌&&◌, ◌∷◌, ◌^◌, [], if◌then◌else◌, length, not, pos, true};
 ghost use Rattle.pm_base.specs.declared.Cb.TheVariants as cb;
 ghost use Rattle.pm_base.specs.declared.codes.TheConstants.{EINPROGRESS, NOWAIT};
 ghost use Rattle.pm_model.specs.declared.event.Event.TheVariants as event;
@@ -18,9 +18,9 @@ ghost use Rattle.pm_model.specs.PlanRows.{has_parent, ms_of, parent_of};
 ghost use Rattle.pm_model.specs.ResumeTable.{resume_goes, leaves, resume_begins, resume_domain, resume_ends, resume_links, resume_row, resume_unwinds, resume_verdict, resume_returns};
 ghost use Rattle.pm_model.specs.Row.{calls, move_of, timed, waits};
 ghost use Rattle.pm_model.specs.SuspendTable.{may_not_wait};
+ghost use Rattle.pm_model.specs.WellFormed.{is_well_formed};
 ghost use Rattle.pm_model.specs.World.{due};
 ghost use Rattle.pm_device.specs.Parts.{IsFor};
-ghost use Rattle.pm_resume.specs.ResumeMove.{CanTell, device_of};
 
 use pm_base::{ASYNC, Cb, DevId, EACCES, EBUSY, EINPROGRESS, EINVAL, NOWAIT, Req, Why};
 use pm_device::{
@@ -349,7 +349,11 @@ fn ends(plan: &Plan, parts: &Parts, call: ResumeCall) -> Move
         code,
     };
     if code == 0 {
-        Move::Write(ended, Change::Same, resume_goes(ResumeStage::Resumed { call }))
+        Move::Write(
+            ended,
+            Change::Same,
+            resume_goes(ResumeStage::Resumed { call }),
+        )
     } else {
         Move::Write(
             ended,
@@ -416,8 +420,7 @@ fn resumed(call: ResumeCall) -> Move
 /// which it waits. It takes no memory.
 pub fn next(plan: &Plan, parts: &Parts, stage: ResumeStage, time: u64) -> Move
     requires made_for { IsFor plan.now parts.now.shape }
-    requires in_range { (device_of stage).0 < length plan.now.devices }
-    requires tells { CanTell plan.now parts.now.views stage }
+    requires well_formed { is_well_formed plan.now parts.now.views (the_stage.Resume stage) ≡ true }
     ensures { result ≡ timed (due plan.now parts.now.views (the_stage.Resume stage)) time (resume_row plan.now parts.now.views stage time) }
 {
     match stage {

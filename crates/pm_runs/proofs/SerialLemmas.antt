@@ -90,7 +90,7 @@ in_time plan h None turn e = go (least_due plan h) refl e
     go (Some later) is e = at later (least_due_later plan h later is) (turn_at plan h later) e
 
 -- the line that an actor writes may come next
-permits_written :
+pub permits_written :
     (plan : Plan) (h : List Line) (actor : ActorId) (t : ℕ) (line : Line) → last_time h ≤ t
     → (s : Option Stage) → stage_at plan (world plan h) actor ≡ s
     → option_and_then (written actor t) (option_and_then (λ x. move plan (world plan h).views x t) s) ≡ Some line

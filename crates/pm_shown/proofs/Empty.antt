@@ -26,12 +26,12 @@ no_text2 rest same = cc
 bad : IsLawfulText first_plan (front 1 newline) → ⊥
 bad found =
     elim found.2 [
-      | inl same ↦ no_text1 (reverse found.0) same
-      | inr same ↦ no_text2 _ same
+      | inl same ↦ no_text1 (reverse found.0) same.1
+      | inr same ↦ no_text2 _ same.2
     ]
 
 good : (k : ℕ) → k < 1 → IsLawfulText first_plan (front k newline)
-good zero below = ([], tt, inl refl)
+good zero below = ([], tt, inl (refl, refl))
 good (suc k) below = absurd (omega arith)
 
 pub empty_is_bad : IsFirstBad first_plan newline 1

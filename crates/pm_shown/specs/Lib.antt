@@ -1,3 +1,4 @@
 pub mod Shown
 pub mod Broken
 pub mod Pieces
+pub mod ThreeIslands

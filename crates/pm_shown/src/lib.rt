@@ -5,5 +5,6 @@
 #![tactic(auto, unfolding(pm_runs::proofs::CallTable::call_table))]
 
 pub mod broken;
+pub mod islands;
 pub mod kept;
 pub mod pieces;

@@ -1,7 +1,7 @@
 //! The lines of suspend (`runtime_pm.rst`, sections 2, 4 and 9).
 #![tactic(auto)]
 
-ghost use Rattle.std.specs.Prelude.{◌≡◌, ◌+◌, ◌<◌, ◌^◌, length};
+ghost use Rattle.std.specs.Prelude.{◌≡◌, ◌+◌, ◌<◌, ◌^◌, length, true};
 ghost use Rattle.pm_base.specs.declared.Cb.TheVariants as cb;
 ghost use Rattle.pm_model.specs.declared.event.Event.TheVariants as event;
 ghost use Rattle.pm_model.specs.declared.stage.Change.TheVariants as change;
@@ -16,14 +16,15 @@ ghost use Rattle.pm_model.specs.PlanRows.{ms_of};
 ghost use Rattle.pm_model.specs.Row.{move_of, timed};
 ghost use Rattle.pm_model.specs.SuspendTable.{suspend_goes, suspend_domain, suspend_ends, suspend_links, suspend_parent, suspend_request, suspend_row, suspend_verdict};
 ghost use Rattle.pm_model.specs.Views.{device};
+ghost use Rattle.pm_model.specs.WellFormed.{is_well_formed};
 ghost use Rattle.pm_model.specs.World.{due};
 ghost use Rattle.pm_device.specs.Parts.{IsFor};
-ghost use Rattle.pm_suspend.specs.SuspendMove.{CanTell, device_of, expiry_of, last_mark};
+ghost use Rattle.pm_suspend.specs.SuspendMove.{expiry_of, last_mark};
 
 use pm_base::{ASYNC, AUTO, Cb, DevId, EAGAIN, EINPROGRESS, Req, Why};
 use pm_device::{
-    Parts, calls, goes, has, has_domain, is_try_again, marks_busy, may_not_wait, ms_of,
-    no_callbacks, parent_of, call_returns,
+    Parts, call_returns, calls, goes, has, has_domain, is_try_again, marks_busy, may_not_wait,
+    ms_of, no_callbacks, parent_of,
 };
 use pm_model::{
     Await, Change, Event, IdleStage, Move, Plan, Purpose, Stage, SuspendStage, Then, TimerAct,
@@ -311,9 +312,8 @@ fn waiting(plan: &Plan, parts: &Parts, dev: DevId, flags: u8, time: u64) -> Move
 /// which it waits. It takes no memory.
 pub fn next(plan: &Plan, parts: &Parts, stage: SuspendStage, time: u64) -> Move
     requires made_for { IsFor plan.now parts.now.shape }
-    requires in_range { (device_of stage).0 < length plan.now.devices }
+    requires well_formed { is_well_formed plan.now parts.now.views (the_stage.Suspend stage) ≡ true }
     requires in_time { time < 2 ^ 63 }
-    requires tells { CanTell plan.now parts.now.views stage }
     ensures { result ≡ timed (due plan.now parts.now.views (the_stage.Suspend stage)) time (suspend_row plan.now parts.now.views stage time) }
 {
     match stage {

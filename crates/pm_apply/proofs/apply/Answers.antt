@@ -1,10 +1,20 @@
--- The event can still happen once the row's other changes are made.
-use Rattle.std.proofs.Common.{sym, subst}
-use Rattle.pm_apply.proofs.CalmLemmas.{can_happen}
-use Rattle.pm_apply.specs.Happening.{CanHappen}
+-- The counters can take the change, and the event once the change is made.
+use Rattle.std.proofs.Common.{◌≡◌, length, true, sym, subst}
+use Rattle.std.proofs.lemmas.Bool.{and_parts}
+use Rattle.pm_model.specs.CanTake.{can_change, can_happen}
+use Rattle.pm_apply.proofs.CalmLemmas.{can_happen_after}
 use Rattle.pm_apply.proofs.apply.Goals as goal
+
+pub change-requires-clause-fits : goal.change-requires-clause-fits
+change-requires-clause-fits c =
+    let plan = c.args.plan.now in
+    let v = c.args.parts.now.views in
+    (and_parts (can_change (length plan.devices) v c.args.named) (can_happen plan v c.args.line.now.event) c.requires.fits).0
 
 pub happen-requires-clause-fits : goal.happen-requires-clause-fits
 happen-requires-clause-fits c =
-    subst (λ parts. CanHappen c.args.plan.now parts.views c.args.line.now.event) (sym c.change.ensures)
-    (can_happen c.args.plan.now c.args.parts.now.views c.args.named c.args.line.now.time c.args.line.now.event c.requires.happens)
+    let plan = c.args.plan.now in
+    let v = c.args.parts.now.views in
+    let event = c.args.line.now.event in
+    subst (λ parts. can_happen plan parts.views event ≡ true) (sym c.change.ensures)
+    (can_happen_after plan v c.args.named c.args.line.now.time event (and_parts (can_change (length plan.devices) v c.args.named) (can_happen plan v event) c.requires.fits).1)

@@ -7,4 +7,4 @@ use Rattle.pm_shown.proofs.pieces.lawful_text.Goals as goal
 
 pub returns : goal.returns
 unfolding call_table
-returns c = written_is_lawful first_plan first_text refl
+returns c = written_is_lawful first_plan first_text refl refl
