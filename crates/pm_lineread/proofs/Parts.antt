@@ -1,5 +1,5 @@
 -- The parts of an event: each is read exactly, and from its own texts.
-use Rattle.std.proofs.Common.{◌≡◌, ℕ, ◌-◌, ◌^◌, ◌<◌, ◌≤◌, zero, suc, Bool, true, false, ◌&&◌, List, [], ◌∷◌, ◌++◌, length, codes, decimal, nat_eq, nat_lt, nat_le, ℤ, pos, negsuc, if◌then◌else◌, slice_get, Some, refl, ap, sym, ◌∙◌, ◌⊎◌, inl, inr, arith, lit<, lit≤, append_assoc}
+use Rattle.std.proofs.Common.{◌≡◌, ℕ, ◌-◌, ◌^◌, ◌<◌, ◌≤◌, zero, suc, Bool, true, false, ◌&&◌, List, [], ◌∷◌, ◌++◌, length, codes, decimal, nat_eq, nat_lt, nat_le, ℤ, pos, negsuc, if◌then◌else◌, refl, ap, sym, ◌∙◌, ◌⊎◌, inl, inr, arith, lit<, lit≤, append_assoc}
 use Rattle.std.specs.Fmt.{digits, signed_decimal}
 use Rattle.std.specs.Ordering.{int_eq}
 use Rattle.std.proofs.lemmas.Bool.{and_from, and_parts, cases_Bool, cases_eq, leb-true, lt-ltb, ltb-true, ltb-false, le-leb, eq-eqb}

@@ -5,7 +5,7 @@ use denote.Enum.Bare.{Bare}
 use denote.Enum.Declared.{Choice, Record, declared, intoss, rowss, tag_of}
 use denote.Enum.Enum.{tag}
 use denote.Struct.Field.{Field}
-use Rattle.pm_linetext.specs.EnumOrder.{choices, every}
+use Rattle.pm_names.specs.EnumOrder.{choices, every}
 
 choice_here : (parts : List (List Field)) → Bare parts → (c : Choice parts) → slice_get (choices parts) (tag (rowss parts) (intoss parts c)) ≡ Some c
 choice_here [] bare c = absurd c

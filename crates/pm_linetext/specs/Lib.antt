@@ -1,4 +1,3 @@
-pub mod EnumOrder
 pub mod Payload
 pub mod Room
 pub mod ShortLine

@@ -10,7 +10,7 @@ use Rattle.pm_model.specs.declared.event.Event.{Event}
 use Rattle.pm_model.specs.declared.event.Event.TheVariants as event
 use Rattle.pm_model.specs.declared.event.Helper.{Helper}
 use Rattle.pm_model.specs.declared.event.Word.{Word}
-use Rattle.pm_linetext.specs.EnumOrder.{every}
+use Rattle.pm_names.specs.EnumOrder.{every}
 
 abbrev pub all_helpers : List Helper
 all_helpers = every helper.enum

@@ -24,8 +24,7 @@ use crate::events::push_line;
 use crate::text::LineText;
 pub use crate::words::{
     cb_named, cb_of, cb_place, helper_named, helper_of, helper_place, operand_of, req_named,
-    req_of, req_place, status_named, status_of, status_place, tables_are_the_spelling,
-    takes_device,
+    req_of, req_place, status_named, status_of, status_place, takes_device,
 };
 use pm_base::NoMemory;
 use pm_model::{Line, Plan};

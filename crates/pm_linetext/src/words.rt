@@ -3,19 +3,16 @@
 //! A word's place is the one that it has in its table of `pm_names`, counted from 0. There the words
 //! stand in the order in which the enums declare their variants.
 
-ghost use Rattle.std.specs.Prelude.{◌≡◌, ◌≢◌, ◌++◌, [], ℕ, Some, IfNone, IfSome, codes, map, nat_eq};
-ghost use Rattle.std.specs.Prelude.{slice_get, slice_index_or, true};
-ghost use Rattle.std.specs.List.{starts_with};
+ghost use Rattle.std.specs.Prelude.{◌≡◌, ◌≢◌, ℕ, Some, IfNone, IfSome, slice_get};
 ghost use Rattle.pm_base.specs.declared.Cb.{Cb};
 ghost use Rattle.pm_base.specs.declared.Req.{Req};
-ghost use Rattle.pm_model.specs.Spelling.{Names, cb_word, event_text, helper_word, operand_of};
-ghost use Rattle.pm_model.specs.Spelling.{req_word, status_word, takes_device};
-ghost use Rattle.pm_model.specs.declared.event.Event.{Event};
+ghost use Rattle.pm_model.specs.Spelling.{cb_word, helper_word, operand_of, req_word, status_word};
+ghost use Rattle.pm_model.specs.Spelling.{takes_device};
 ghost use Rattle.pm_model.specs.declared.event.Helper.{Helper};
 ghost use Rattle.pm_model.specs.declared.event.Word.{Word};
 ghost use Rattle.pm_names.specs.Table.{place_of};
-ghost use Rattle.pm_names.specs.Words.{cb_words, event_words, helper_words, req_words, status_words};
-ghost use Rattle.pm_linetext.specs.Words.{all_cbs, all_helpers, all_reqs, all_statuses, event_place};
+ghost use Rattle.pm_names.specs.Words.{cb_words, helper_words, req_words, status_words};
+ghost use Rattle.pm_linetext.specs.Words.{all_cbs, all_helpers, all_reqs, all_statuses};
 
 use pm_base::{Cb, Req};
 use pm_model::{Helper, Operand, Word};
@@ -76,14 +73,6 @@ static REQS: [Req; 5] = [
 ];
 
 static CBS: [Cb; 3] = [Cb::Idle, Cb::Suspend, Cb::Resume];
-
-/// The tables of `pm_names` have the words with which lines are spelled.
-pub fn tables_are_the_spelling()
-    ensures helpers { map helper_word all_helpers ≡ helper_words }
-    ensures statuses { map status_word all_statuses ≡ status_words }
-    ensures reqs { map req_word all_reqs ≡ req_words }
-    ensures cbs { map cb_word all_cbs ≡ cb_words }
-{}
 
 /// The helper whose word stands at this place, or `None` past the last.
 pub fn helper_of(place: usize) -> Option<Helper>

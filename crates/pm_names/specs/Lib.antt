@@ -1,2 +1,3 @@
+pub mod EnumOrder
 pub mod Table
 pub mod Words

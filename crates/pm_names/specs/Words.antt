@@ -1,18 +1,16 @@
--- The words of a trace, one list for each table. A word's number is its place, counted from 0.
-use Rattle.std.specs.Prelude.{ℕ, List, [], ◌∷◌, codes}
+-- The words of a trace, one list for each table. A word's number is its place, counted from 0. Where the words name
+-- the variants of an enum, they are the spelling of each, in the order in which the variants are declared.
+use Rattle.std.specs.Prelude.{ℕ, List, [], ◌∷◌, codes, map}
+use Rattle.pm_base.specs.contracts.Cb as cb
+use Rattle.pm_base.specs.contracts.Req as req
+use Rattle.pm_model.specs.Spelling.{cb_word, helper_word, req_word, status_word}
+use Rattle.pm_model.specs.contracts.event.Helper as helper
+use Rattle.pm_model.specs.contracts.event.Word as word
+use Rattle.pm_names.specs.EnumOrder.{every}
 
 -- the helpers, as a plan's scripts and the lines `pm_call` and `pm_ret` name them
 abbrev pub helper_words : List (List ℕ)
-helper_words =
-    codes "get_sync" ∷ codes "get" ∷ codes "get_noresume" ∷ codes "get_if_in_use" ∷ codes "get_if_active"
-    ∷ codes "resume" ∷ codes "request_resume"
-    ∷ codes "put" ∷ codes "put_sync" ∷ codes "put_noidle" ∷ codes "put_autosuspend" ∷ codes "put_sync_suspend" ∷ codes "put_sync_autosuspend"
-    ∷ codes "idle" ∷ codes "request_idle"
-    ∷ codes "suspend" ∷ codes "autosuspend" ∷ codes "request_autosuspend" ∷ codes "schedule_suspend"
-    ∷ codes "enable" ∷ codes "disable" ∷ codes "barrier"
-    ∷ codes "set_active" ∷ codes "set_suspended" ∷ codes "allow" ∷ codes "forbid"
-    ∷ codes "mark_last_busy" ∷ codes "use_autosuspend" ∷ codes "dont_use_autosuspend" ∷ codes "set_autosuspend_delay"
-    ∷ codes "delay" ∷ codes "ignore_children" ∷ codes "link_add" ∷ codes "link_del" ∷ []
+helper_words = map helper_word (every helper.enum)
 
 -- the events, one for each kind of trace line
 abbrev pub event_words : List (List ℕ)
@@ -23,13 +21,12 @@ event_words =
 
 -- what a `pm_status` line says of the device
 abbrev pub status_words : List (List ℕ)
-status_words =
-    codes "active" ∷ codes "resuming" ∷ codes "suspended" ∷ codes "deferred" ∷ codes "forced_active" ∷ codes "forced_suspended" ∷ []
+status_words = map status_word (every word.enum)
 
 -- the requests of a `pm_work` line
 abbrev pub req_words : List (List ℕ)
-req_words = codes "none" ∷ codes "idle" ∷ codes "suspend" ∷ codes "autosuspend" ∷ codes "resume" ∷ []
+req_words = map req_word (every req.enum)
 
 -- the callbacks of a `pm_callback` line
 abbrev pub cb_words : List (List ℕ)
-cb_words = codes "idle" ∷ codes "suspend" ∷ codes "resume" ∷ []
+cb_words = map cb_word (every cb.enum)

@@ -1,6 +1,7 @@
 //! The words of a trace: helpers, events, status words, requests and callbacks, each with a number.
 //!
 //! A word's number is its place in its table, counted from 0; the numbers are this project's own.
+//! Where the words name the variants of an enum, they stand in the order of the variants.
 //! The helpers are named as in `runtime_pm.rst`, section 4, without the `pm_runtime_` or `pm_` before
 //! the name; `delay`, `ignore_children`, `link_add` and `link_del` are this project's own.
 #![tactic(auto)]

@@ -1,13 +1,12 @@
 -- What cutting at a space makes of the words.
-use Rattle.std.proofs.Common.{◌≡◌, ℕ, ◌+◌, ◌<◌, ◌≤◌, Bool, true, false, List, [], ◌∷◌, ◌++◌, length, take, drop, get_or, filter, Option, Some, None, option_map, position, slice_get, refl, length-drop, add-one, zero, suc, sym, ap, ◌∙◌, arith}
-use Rattle.std.specs.List.{slice_split, position_or_len, All}
+use Rattle.std.proofs.Common.{◌≡◌, ℕ, ◌+◌, ◌<◌, ◌≤◌, List, [], ◌∷◌, length, take, drop, filter, Some, None, position, slice_get, refl, length-drop, add-one, zero, suc, ap, arith}
+use Rattle.std.specs.List.{slice_split, position_or_len}
 use Rattle.std.proofs.lemmas.Bool.Decides.{nat_tests}
-use Rattle.std.proofs.lemmas.Grind.{common_steps}
 use Rattle.std.proofs.lemmas.List.{drop_more}
 use Rattle.std.proofs.lemmas.Option.{slice_get-get_or, slice_get_past}
 use Rattle.std.proofs.lemmas.List.Splits.{slice_split_first, slice_split_none}
 use Rattle.std.proofs.lemmas.List.Sums.{fails_before_first}
-use Rattle.pm_script.specs.Words.{is_space, is_word, words_of, words_from}
+use Rattle.pm_script.specs.Words.{is_space, is_word, words_of}
 
 drop_suc : (bytes : List ℕ) (at : ℕ) → drop (suc at) bytes ≡ drop 1 (drop at bytes)
 drop_suc bytes zero = refl

@@ -1,5 +1,5 @@
 -- What a command of a script says, and why it is refused (this project's own): a helper's word, then what the helper takes.
-use Rattle.std.specs.Prelude.{ℕ, ◌+◌, Bool, List, [], ◌∷◌, Option, Some, None, Result, Ok, Err, ℤ, pos, find, is_none, length, map, ok_or, option_and_then, option_map, slice_get, if◌then◌else◌}
+use Rattle.std.specs.Prelude.{ℕ, ◌+◌, List, Option, Result, Ok, Err, ℤ, pos, find, is_none, ok_or, option_and_then, option_map, slice_get, if◌then◌else◌}
 use Rattle.std.specs.Str.{bytes_eq}
 use Rattle.pm_base.specs.declared.DevId.{DevId}
 use Rattle.pm_linetext.specs.Words.{all_helpers}
