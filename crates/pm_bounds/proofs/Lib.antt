@@ -3,3 +3,8 @@ pub mod Rising
 pub mod Begun
 pub mod Bounded
 pub mod Taken
+pub mod Saying
+pub mod Places
+pub mod TableSays
+pub mod ControlSays
+pub mod Said
