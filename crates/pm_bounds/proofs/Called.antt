@@ -1,5 +1,5 @@
 -- A caller calls its script's commands in turn, and no more.
-use Rattle.std.proofs.Common.{ℕ, zero, suc, ◌≡◌, ◌+◌, ◌<◌, ◌≤◌, true, List, [], ◌∷◌, Option, Some, None, length, map, slice_get, slice_index_or, slice_set, ap, refl, sym, ◌∙◌, subst, arith, inl, inr}
+use Rattle.std.proofs.Common.{ℕ, zero, suc, ◌≡◌, ◌+◌, ◌<◌, ◌≤◌, true, List, [], ◌∷◌, Option, Some, None, length, map, slice_get, slice_index_or, ap, refl, sym, ◌∙◌, subst, arith, inl, inr}
 use Rattle.std.specs.Option.{option_and_then, option_map}
 use Rattle.std.proofs.lemmas.Bool.Decides.{eqb_tells}
 use Rattle.std.proofs.lemmas.List.{get_or-set_other}
@@ -19,9 +19,7 @@ use Rattle.pm_model.specs.declared.stage.Stage.TheVariants as stage
 use Rattle.pm_model.specs.CanTake.{has_room}
 use Rattle.pm_model.specs.ChangeViews.{change_views}
 use Rattle.pm_model.specs.Events.{by_event}
-use Rattle.pm_model.specs.Handing.{after_then}
 use Rattle.pm_model.specs.Lawful.{IsLawful, Permits}
-use Rattle.pm_model.specs.Row.{writes}
 use Rattle.pm_model.specs.Views.{Views}
 use Rattle.pm_model.specs.World.{World, after_line, called_by, counts_call, next_command, place, ready, stage_at, top, with_place, world}
 use Rattle.pm_bounds.proofs.Bounded.{room}

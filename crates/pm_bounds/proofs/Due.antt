@@ -1,5 +1,5 @@
 -- No due moment is more than 1,000,000 milliseconds after the last line.
-use Rattle.std.proofs.Common.{ℕ, ◌≡◌, ◌+◌, ◌≤◌, true, ◌&&◌, List, Option, Some, None, ℤ, pos, int_le, length, nat_abs, nat_le, slice_get, refl, subst, arith}
+use Rattle.std.proofs.Common.{ℕ, ◌≡◌, ◌+◌, ◌≤◌, true, List, Option, Some, None, length, nat_le, slice_get, refl, subst, arith}
 use Rattle.std.specs.Option.{option_map_or}
 use Rattle.std.proofs.lemmas.Bool.{leb-true}
 use Rattle.pm_base.specs.declared.ActorId.{ActorId}

@@ -1,5 +1,5 @@
 -- How many lines, devices and domains the law of a plan allows.
-use Rattle.std.proofs.Common.{ℕ, zero, suc, ◌≡◌, ◌+◌, ◌<◌, ◌≤◌, true, ◌&&◌, List, [], ◌∷◌, Some, length, nat_le, slice_get, arith}
+use Rattle.std.proofs.Common.{ℕ, ◌≡◌, ◌≤◌, true, ◌&&◌, List, [], ◌∷◌, Some, length, nat_le, slice_get, arith}
 use Rattle.std.specs.List.{list_all}
 use Rattle.std.proofs.lemmas.Bool.{leb-true}
 use Rattle.pm_base.specs.declared.limits.TheConstants.{MAX_COMMANDS, MAX_DEVICES, MAX_DOMAINS, MAX_LINES}

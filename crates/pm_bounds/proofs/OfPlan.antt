@@ -1,5 +1,5 @@
 -- Each line that may come next is a line of the plan, and a short one.
-use Rattle.std.proofs.Common.{ℕ, suc, ◌≡◌, ◌+◌, ◌^◌, ◌<◌, ◌≤◌, Bool, true, false, ◌&&◌, List, [], ◌∷◌, Option, Some, ℤ, pos, neg_ℤ, int_le, int_lt, length, min, nat_le, nat_lt, if◌then◌else◌, refl, arith}
+use Rattle.std.proofs.Common.{ℕ, ◌≡◌, ◌+◌, ◌^◌, ◌<◌, ◌≤◌, Bool, true, false, List, [], ◌∷◌, ℤ, pos, neg_ℤ, int_le, int_lt, length, nat_lt, if◌then◌else◌, refl, arith}
 use Rattle.std.specs.List.{list_all, zip}
 use Rattle.std.specs.Ordering.{int_eq}
 use Rattle.std.proofs.lemmas.Bool.{and_from, le-leb, lt-ltb, ltb-true}

@@ -1,5 +1,5 @@
 -- A line raises a device's depth by at most one, and marks it busy no later than at its own time.
-use Rattle.std.proofs.Common.{ℕ, zero, suc, ◌≡◌, ◌+◌, ◌-◌, ◌≤◌, Bool, true, false, List, [], ◌∷◌, ℤ, pos, length, map, nat_eq, slice_index_or, if◌then◌else◌, refl, sym, subst, arith}
+use Rattle.std.proofs.Common.{ℕ, zero, suc, ◌≡◌, ◌≤◌, Bool, true, false, List, [], ◌∷◌, ℤ, pos, length, map, nat_eq, slice_index_or, if◌then◌else◌, refl, sym, subst, arith}
 use Rattle.std.specs.Ordering.{int_eq}
 use Rattle.pm_base.specs.declared.Cb.{Cb}
 use Rattle.pm_base.specs.declared.Cb.TheVariants as cb

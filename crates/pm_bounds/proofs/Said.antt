@@ -1,5 +1,5 @@
 -- What each line that may come next says, and that no place of an actor calls a command.
-use Rattle.std.proofs.Common.{ℕ, suc, ◌≡◌, ◌+◌, ◌≤◌, List, [], ◌∷◌, Some, drop, length, ap, refl, sym, ◌∙◌, subst, arith}
+use Rattle.std.proofs.Common.{ℕ, suc, ◌≡◌, List, [], ◌∷◌, Some, drop, length, ap, sym, ◌∙◌, subst, arith}
 use Rattle.std.specs.Option.{option_and_then}
 use Rattle.pm_base.specs.declared.ActorId.{ActorId}
 use Rattle.pm_model.specs.declared.event.Line.{Line}
@@ -8,10 +8,9 @@ use Rattle.pm_model.specs.declared.stage.Stage.{Stage}
 use Rattle.pm_model.specs.declared.stage.Stage.TheVariants as stage
 use Rattle.pm_model.specs.ChangeViews.{change_views}
 use Rattle.pm_model.specs.Events.{by_event}
-use Rattle.pm_model.specs.Lawful.{IsLawful, Permits, last_time}
+use Rattle.pm_model.specs.Lawful.{IsLawful, Permits}
 use Rattle.pm_model.specs.Row.{Row, writes}
-use Rattle.pm_model.specs.SuspendTable.{autosuspend_at}
-use Rattle.pm_model.specs.Views.{Views, device}
+use Rattle.pm_model.specs.Views.{Views}
 use Rattle.pm_model.specs.WellFormed.{suspend_device}
 use Rattle.pm_model.specs.World.{World, after_line, counts_call, due, place, row, row_at, world}
 use Rattle.pm_laws.proofs.Places.{is_placed}

@@ -2,7 +2,6 @@
 -- views before the line, a delay returns 0, a timer is armed for no moment later than 1,000,000 ms from now, and only an
 -- empty place calls a command.
 use Rattle.std.proofs.Common.{ℕ, zero, suc, ◌≡◌, ◌+◌, ◌≤◌, Bool, true, false, not, List, [], ◌∷◌, Option, Some, None, ℤ, pos, nat_abs, length, min, slice_set, unwrap_or, int_le, if◌then◌else◌, refl, arith, ◌&&◌}
-use Rattle.std.specs.List.{filter}
 use Rattle.std.specs.Option.{option_map_or}
 use Rattle.std.specs.Ordering.{int_eq}
 use Rattle.std.proofs.lemmas.Grind.{common_steps}
@@ -10,7 +9,7 @@ use Rattle.std.proofs.lemmas.List.Sums.{count_by-le-length, length-filter}
 use Rattle.pm_base.specs.declared.Armed.{Armed}
 use Rattle.pm_base.specs.declared.DevId.{DevId}
 use Rattle.pm_base.specs.declared.DomId.{DomId}
-use Rattle.pm_base.specs.declared.limits.TheConstants.{MAX_DOMAINS, MAX_MS}
+use Rattle.pm_base.specs.declared.limits.TheConstants.{MAX_DOMAINS}
 use Rattle.pm_model.specs.declared.event.Event.{Event}
 use Rattle.pm_model.specs.declared.event.Event.TheVariants as event
 use Rattle.pm_model.specs.declared.event.Fields.{Fields}

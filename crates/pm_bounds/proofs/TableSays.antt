@@ -1,5 +1,5 @@
 -- The rows of idle, of suspend, of resume and of the helpers say what they may.
-use Rattle.std.proofs.Common.{ℕ, ◌≡◌, ◌+◌, ◌≤◌, Bool, true, false, ◌&&◌, Option, Some, None, ℤ, nat_abs, length, if◌then◌else◌, refl}
+use Rattle.std.proofs.Common.{ℕ, ◌≡◌, ◌+◌, ◌≤◌, Bool, true, false, ◌&&◌, Option, Some, None, ℤ, if◌then◌else◌, refl}
 use Rattle.pm_base.specs.declared.Cb.TheVariants as cb
 use Rattle.pm_base.specs.declared.DevId.{DevId}
 use Rattle.pm_base.specs.declared.Req.{Req}
@@ -36,7 +36,7 @@ use Rattle.pm_model.specs.WellFormed.{suspend_device}
 use Rattle.pm_stacks.specs.Shape.{Fits, is_put_suspend}
 use Rattle.pm_stacks.proofs.Obeying.{Obeys, both, both_next, ok, waiting}
 use Rattle.pm_bounds.proofs.Places.{IsRet}
-use Rattle.pm_bounds.proofs.Saying.{AreLater, Saying, downs, payload, ups, zero_ret}
+use Rattle.pm_bounds.proofs.Saying.{AreLater, Saying, downs, payload, ups}
 
 abbrev Says : Plan → Views → ℕ → Stage → Row → Type 0
 Says plan v t s row = Obeys (Saying plan v t s) row

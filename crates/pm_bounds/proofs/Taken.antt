@@ -1,5 +1,5 @@
 -- The counters can take each line that may come next.
-use Rattle.std.proofs.Common.{ℕ, zero, suc, ◌≡◌, ◌+◌, ◌<◌, Bool, true, false, ◌&&◌, List, [], ◌∷◌, length, nat_eq, slice_index_or, refl, sym, ◌∙◌, subst, arith}
+use Rattle.std.proofs.Common.{ℕ, zero, suc, ◌≡◌, ◌+◌, ◌<◌, Bool, true, false, List, [], ◌∷◌, length, nat_eq, slice_index_or, refl, sym, arith}
 use Rattle.std.specs.List.{enumerate_from, list_all}
 use Rattle.std.proofs.lemmas.Bool.{and_from, le-leb, lt-ltb, ltb-true, false≢true}
 use Rattle.pm_base.specs.declared.DevId.{DevId}
@@ -12,14 +12,14 @@ use Rattle.pm_model.specs.declared.event.Word.{Word}
 use Rattle.pm_model.specs.declared.event.Word.TheVariants as word
 use Rattle.pm_model.specs.declared.plan.Plan.{Plan}
 use Rattle.pm_model.specs.CanTake.{can_free, can_get, can_happen, can_put, can_say, can_take}
-use Rattle.pm_model.specs.Counted.{frees, gives_back, is_callers, is_same, takes}
+use Rattle.pm_model.specs.Counted.{frees, gives_back, is_callers, takes}
 use Rattle.pm_model.specs.Lawful.{IsLawful, Permits}
 use Rattle.pm_model.specs.Views.{Views, device, fresh_device}
 use Rattle.pm_model.specs.World.{world}
 use Rattle.pm_sums.specs.Sums.{one}
 use Rattle.pm_laws.specs.Counts.{holds}
 use Rattle.pm_laws.proofs.Held.{held_taken}
-use Rattle.pm_laws.proofs.Runs.{Paid, held_top, lawful_holds, others, permitted}
+use Rattle.pm_laws.proofs.Runs.{held_top, lawful_holds, others, permitted}
 use Rattle.pm_stacks.proofs.Fitting.{line_told, lines_change}
 use Rattle.pm_stacks.proofs.Telling.{IsTelling}
 use Rattle.pm_stacks.proofs.Tests.{same_self}

@@ -1,5 +1,5 @@
 -- No timer is armed for later than 1,000,000 milliseconds after the last line.
-use Rattle.std.proofs.Common.{ℕ, zero, suc, ◌≡◌, ◌+◌, ◌≤◌, Bool, true, false, List, [], ◌∷◌, Option, Some, None, ℤ, pos, map, nat_eq, slice_index_or, slice_set, if◌then◌else◌, refl, sym, subst, arith}
+use Rattle.std.proofs.Common.{ℕ, zero, suc, ◌≡◌, ◌+◌, ◌≤◌, Bool, true, false, List, [], ◌∷◌, Option, None, ℤ, pos, map, nat_eq, slice_index_or, slice_set, if◌then◌else◌, refl, sym, subst, arith}
 use Rattle.std.specs.Option.{option_map_or}
 use Rattle.std.specs.Ordering.{int_eq}
 use Rattle.pm_base.specs.declared.Armed.{Armed}
@@ -21,13 +21,13 @@ use Rattle.pm_model.specs.declared.stage.Change.{Change}
 use Rattle.pm_model.specs.declared.stage.Change.TheVariants as change
 use Rattle.pm_model.specs.declared.stage.Stage.{Stage}
 use Rattle.pm_model.specs.ChangeViews.{change_views, suspend_ended}
-use Rattle.pm_model.specs.Changes.{callback_marks, enables, has_auto_timer, rcancel, set_deferred, set_held, set_present}
+use Rattle.pm_model.specs.Changes.{callback_marks, enables, has_auto_timer, rcancel, set_held, set_present}
 use Rattle.pm_model.specs.Derived.{down, up}
 use Rattle.pm_model.specs.Events.{by_end, by_event, by_word, by_work, frees_links, gave, got, is_try_again, switches}
 use Rattle.pm_model.specs.Lawful.{IsLawful, last_time}
 use Rattle.pm_model.specs.PlanRows.{marks_busy}
 use Rattle.pm_model.specs.Views.{Views, device, timer, with_timer}
-use Rattle.pm_model.specs.World.{start_views, world}
+use Rattle.pm_model.specs.World.{world}
 use Rattle.pm_bounds.proofs.Said.{said, views_now}
 use Rattle.pm_bounds.proofs.Saying.{IsSaid}
 
