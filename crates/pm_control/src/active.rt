@@ -57,14 +57,15 @@ pub fn active_unwinds(plan: &Plan, parts: &Parts, dev: DevId, code: i32) -> Move
 {
     match parts.first_held(plan, dev) {
         Some((_, supplier)) => {
-            let given = Stage::Idle(IdleStage::AfterPut {
+            let after_put = Stage::Idle(IdleStage::AfterPut {
                 dev: supplier,
                 flags: 5,
             });
             gives(
                 supplier,
                 Why::Link(dev),
-                calls(given, Await::ActiveUnwind { dev, code }),
+                Change::Same,
+                calls(after_put, Await::ActiveUnwind { dev, code }),
             )
         }
         None => writes_status(
@@ -86,6 +87,7 @@ pub fn active_links(plan: &Plan, parts: &Parts, dev: DevId) -> Move
         Some((link, supplier)) => takes(
             supplier,
             Why::Link(dev),
+            Change::Same,
             calls(
                 supplier_call(link, supplier),
                 Await::ActiveSupplier { dev, link },

@@ -23,11 +23,9 @@ pub fn barrier_idles(parts: &Parts, dev: DevId, code: i32) -> Move
             control_goes(ControlStage::BarrierWait { dev, code }),
         );
     }
-    Move::Write(
-        Event::Put {
-            dev,
-            why: Why::Control,
-        },
+    gives(
+        dev,
+        Why::Control,
         Change::CancelAll { dev },
         then_returns(Helper::Barrier, dev, code),
     )
@@ -55,5 +53,10 @@ pub fn barrier_ends(parts: &Parts, dev: DevId, code: i32) -> Move
     if parts.busy(dev) {
         return Move::Wait(dev);
     }
-    gives(dev, Why::Control, then_returns(Helper::Barrier, dev, code))
+    gives(
+        dev,
+        Why::Control,
+        Change::Same,
+        then_returns(Helper::Barrier, dev, code),
+    )
 }

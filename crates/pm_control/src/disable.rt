@@ -49,7 +49,7 @@ pub fn disable_starts(parts: &Parts, dev: DevId) -> Move
 {
     if parts.resumes_first(dev) {
         let then = calls(to_resume(dev, 0), Await::DisableResume { dev });
-        return takes(dev, Why::Control, then);
+        return takes(dev, Why::Control, Change::Same, then);
     }
     disabling(parts, dev)
 }

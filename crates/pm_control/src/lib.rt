@@ -34,17 +34,17 @@ fn control_goes(stage: ControlStage) -> Then
 }
 
 // A count is taken for this reason.
-fn takes(dev: DevId, why: Why, then: Then) -> Move
-    ensures { result ≡ move.Write (event.Get dev why) change.Same then }
+fn takes(dev: DevId, why: Why, change: Change, then: Then) -> Move
+    ensures { result ≡ move.Write (event.Get dev why) change then }
 {
-    Move::Write(Event::Get { dev, why }, Change::Same, then)
+    Move::Write(Event::Get { dev, why }, change, then)
 }
 
 // A count that was taken for this reason is given back.
-fn gives(dev: DevId, why: Why, then: Then) -> Move
-    ensures { result ≡ move.Write (event.Put dev why) change.Same then }
+fn gives(dev: DevId, why: Why, change: Change, then: Then) -> Move
+    ensures { result ≡ move.Write (event.Put dev why) change then }
 {
-    Move::Write(Event::Put { dev, why }, Change::Same, then)
+    Move::Write(Event::Put { dev, why }, change, then)
 }
 
 // The status line.
@@ -90,6 +90,7 @@ fn starts(plan: &Plan, parts: &Parts, command: Command, time: u64) -> Move
             takes(
                 dev,
                 Why::Control,
+                Change::Same,
                 control_goes(ControlStage::BarrierResume { dev }),
             )
         }
@@ -132,6 +133,7 @@ pub fn next(plan: &Plan, parts: &Parts, stage: ControlStage, time: u64) -> Move
             gives(
                 dev,
                 Why::Control,
+                Change::Same,
                 control_goes(ControlStage::Disable { dev }),
             )
         }

@@ -25,7 +25,12 @@ pub fn forbidding(parts: &Parts, dev: DevId) -> Move
         helper: Helper::Forbid,
         dev,
     };
-    takes(dev, Why::Forbid, calls(to_resume(dev, 0), under))
+    takes(
+        dev,
+        Why::Forbid,
+        Change::Same,
+        calls(to_resume(dev, 0), under),
+    )
 }
 
 /// `allow`.
@@ -37,12 +42,12 @@ pub fn allowing(parts: &Parts, dev: DevId) -> Move
     if parts.device(dev).auto_on {
         return helper_returns(Helper::Allow, dev, 0, Change::Same);
     }
-    let given = Stage::Idle(IdleStage::AfterPut { dev, flags: 9 });
+    let after_put = Stage::Idle(IdleStage::AfterPut { dev, flags: 9 });
     let under = Await::ReturnZero {
         helper: Helper::Allow,
         dev,
     };
-    gives(dev, Why::Forbid, calls(given, under))
+    gives(dev, Why::Forbid, Change::Same, calls(after_put, under))
 }
 
 /// A helper that sets whether autosuspend is in use and its delay, to these.
@@ -61,28 +66,14 @@ pub fn sets(parts: &Parts, helper: Helper, dev: DevId, use_auto: bool, delay: i6
     };
     let under = Await::ReturnZero { helper, dev };
     if !was && is {
-        return Move::Write(
-            Event::Get {
-                dev,
-                why: Why::Delay,
-            },
-            new,
-            calls(to_resume(dev, 0), under),
-        );
+        return takes(dev, Why::Delay, new, calls(to_resume(dev, 0), under));
     }
     if was && is {
         return helper_returns(helper, dev, 0, new);
     }
     if was && !is {
         let idle = Stage::Idle(IdleStage::Enter { dev, flags: 8 });
-        return Move::Write(
-            Event::Put {
-                dev,
-                why: Why::Delay,
-            },
-            new,
-            calls(idle, under),
-        );
+        return gives(dev, Why::Delay, new, calls(idle, under));
     }
     parts.calls_idle(dev, 8, new, under)
 }

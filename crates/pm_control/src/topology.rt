@@ -6,9 +6,10 @@ ghost use Rattle.pm_model.specs.Derived.{busy, is_suspended};
 ghost use Rattle.pm_model.specs.Row.{move_of};
 ghost use Rattle.pm_device.specs.Parts.{IsFor};
 
+use crate::gives;
 use pm_base::{DevId, EAGAIN, EINVAL, Why};
 use pm_device::{Parts, calls, helper_returns};
-use pm_model::{Await, Change, Event, Helper, IdleStage, Move, Plan, Stage};
+use pm_model::{Await, Change, Helper, IdleStage, Move, Plan, Stage};
 
 // No link of the pair can be added now.
 fn cannot_add(plan: &Plan, parts: &Parts, consumer: DevId, supplier: DevId) -> bool
@@ -74,7 +75,7 @@ pub fn link_dels(plan: &Plan, parts: &Parts, consumer: DevId, supplier: DevId) -
         return helper_returns(Helper::LinkDel, consumer, EAGAIN, Change::Same);
     }
     if parts.is_held(plan, consumer, supplier) {
-        let given = Stage::Idle(IdleStage::AfterPut {
+        let after_put = Stage::Idle(IdleStage::AfterPut {
             dev: supplier,
             flags: 5,
         });
@@ -82,13 +83,11 @@ pub fn link_dels(plan: &Plan, parts: &Parts, consumer: DevId, supplier: DevId) -
             helper: Helper::LinkDel,
             dev: consumer,
         };
-        return Move::Write(
-            Event::Put {
-                dev: supplier,
-                why: Why::Link(consumer),
-            },
+        return gives(
+            supplier,
+            Why::Link(consumer),
             change,
-            calls(given, under),
+            calls(after_put, under),
         );
     }
     helper_returns(Helper::LinkDel, consumer, 0, change)

@@ -154,12 +154,12 @@ fn starts(parts: &Parts, command: Command) -> Move
         Helper::GetIfInUse => gets_if(parts, command, parts.is_in_use(dev)),
         Helper::GetIfActive => gets_if(parts, command, true),
         Helper::Put | Helper::PutSync => {
-            let given = Stage::Idle(IdleStage::AfterPut { dev, flags });
-            callers_put(parts, command, calls(given, its_code))
+            let after_put = Stage::Idle(IdleStage::AfterPut { dev, flags });
+            callers_put(parts, command, calls(after_put, its_code))
         }
         Helper::PutAutosuspend | Helper::PutSyncSuspend | Helper::PutSyncAutosuspend => {
-            let given = Stage::Helper(HelperStage::PutSuspends { command });
-            callers_put(parts, command, goes(given))
+            let suspends = Stage::Helper(HelperStage::PutSuspends { command });
+            callers_put(parts, command, goes(suspends))
         }
         Helper::PutNoidle => callers_put(parts, command, then_returns(helper, dev, 0)),
         _ => helper_returns(helper, dev, 0, Change::Same),

@@ -1,5 +1,5 @@
 -- After a finished list no actor stands at a stage, so no line may follow.
-use Rattle.std.proofs.Common.{ℕ, zero, suc, ◌≡◌, ◌+◌, ◌≤◌, Bool, true, false, ◌&&◌, not, List, [], ◌∷◌, Option, Some, None, length, nat_le, is_none, slice_get, slice_index_or, ap, refl, sym, ◌∙◌, arith}
+use Rattle.std.proofs.Common.{ℕ, zero, suc, ◌≡◌, ◌+◌, ◌≤◌, Bool, true, false, not, List, [], ◌∷◌, Option, Some, None, length, nat_le, is_none, slice_get, slice_index_or, ap, refl, sym, ◌∙◌, arith}
 use Rattle.std.specs.List.{list_all, enumerate_from}
 use Rattle.std.specs.Option.{option_map, option_and_then}
 use Rattle.std.proofs.lemmas.Bool.{and_parts, false≢true}
@@ -26,16 +26,16 @@ all_at test (x ∷ l) past all beyond zero = (and_parts (test x) (list_all test 
 all_at test (x ∷ l) past all beyond (suc i) = all_at test l past (and_parts (test x) (list_all test l) all).1 beyond i
 
 -- the same of entries with their places
-each_at : {A : Type 0} (test : ℕ × A → Bool) (n : ℕ) (l : List A) (i : ℕ) (x : A) → list_all test (enumerate_from n l) ≡ true → slice_get l i ≡ Some x
+each_entry : {A : Type 0} (test : ℕ × A → Bool) (n : ℕ) (l : List A) (i : ℕ) (x : A) → list_all test (enumerate_from n l) ≡ true → slice_get l i ≡ Some x
     → test (n + i, x) ≡ true
-each_at test n [] i x all is = cc
-each_at test n (y ∷ l) zero x all is =
+each_entry test n [] i x all is = cc
+each_entry test n (y ∷ l) zero x all is =
     let same : y ≡ x = cc in
     let now = (and_parts (test (n, y)) (list_all test (enumerate_from (n + 1) l)) all).0 in
     let n_is : n + 0 ≡ n = omega arith in ap (λ m. test (m, x)) n_is ∙ ap (λ z. test (n, z)) (sym same) ∙ now
-each_at test n (y ∷ l) (suc i) x all is =
+each_entry test n (y ∷ l) (suc i) x all is =
     let n_is : n + suc i ≡ n + 1 + i = omega arith in
-    ap (λ m. test (m, x)) n_is ∙ each_at test (n + 1) l i x (and_parts (test (n, y)) (list_all test (enumerate_from (n + 1) l)) all).1 is
+    ap (λ m. test (m, x)) n_is ∙ each_entry test (n + 1) l i x (and_parts (test (n, y)) (list_all test (enumerate_from (n + 1) l)) all).1 is
 
 empty_top : (o : Option Stage) (stack : List Stage) → is_empty_place stack ≡ true → top o stack ≡ o
 empty_top o [] is = refl
@@ -86,7 +86,7 @@ at_rest plan w done =
 rests : (plan : Plan) (w : World) → AtRest plan w → (a : ActorId) → stage_at plan w a ≡ None
 rests plan w is (Caller c) =
     empty_top (ready plan w (Caller c)) (place w (Caller c)) (all_at is_empty_place w.caller_places [] is.callers refl c)
-    ∙ caller_rests plan w c (λ row found. let c_is : c ≡ 0 + c = omega arith in ap (λ n. nat_le (length row.script) (called_by w n)) c_is ∙ each_at (λ p. nat_le (length p.1.script) (called_by w p.0)) 0 plan.callers c row is.scripts found)
+    ∙ caller_rests plan w c (λ row found. let c_is : c ≡ 0 + c = omega arith in ap (λ n. nat_le (length row.script) (called_by w n)) c_is ∙ each_entry (λ p. nat_le (length p.1.script) (called_by w p.0)) 0 plan.callers c row is.scripts found)
 rests plan w is (Work d) =
     empty_top (ready plan w (Work d)) (place w (Work d)) (all_at is_empty_place w.work_places [] is.works refl d)
     ∙ work_rests plan w d (all_at (λ pending. not pending.queued) w.views.pending fresh_pending is.queued refl d)

@@ -1,5 +1,5 @@
--- What the laws see of the views, and the changes that leave it alone.
-use Rattle.std.proofs.Common.{ℕ, ◌≡◌, Bool, true, false, List, Option, None, ℤ, length, map, nat_eq, slice_index_or, if◌then◌else◌, ap, refl, sym, ◌∙◌}
+-- What the laws see of the views, and what in them isn't seen.
+use Rattle.std.proofs.Common.{ℕ, ◌≡◌, Bool, true, false, List, Option, ℤ, length, map, slice_index_or, if◌then◌else◌, ap, refl, sym, ◌∙◌}
 use Rattle.std.proofs.Math.Seq.{map-set_same}
 use Rattle.std.proofs.Math.ListN.{get_or-map}
 use Rattle.std.proofs.lemmas.List.{length-set, length-map}
@@ -9,8 +9,7 @@ use Rattle.pm_base.specs.declared.Pending.{Pending}
 use Rattle.pm_base.specs.declared.Status.{Status}
 use Rattle.pm_model.specs.declared.plan.Plan.{Plan}
 use Rattle.pm_model.specs.declared.views.Device.{Device}
-use Rattle.pm_model.specs.Changes.{cancel, cancel_all, rcancel, has_auto_timer, set_last_busy, callback_marks, set_depth, set_last, disables, enables, set_ignores}
-use Rattle.pm_model.specs.PlanRows.{marks_busy}
+use Rattle.pm_model.specs.Changes.{set_last_busy}
 use Rattle.pm_model.specs.Views.{Views, fresh_device, device, with_device, with_pending, with_timer}
 use Rattle.pm_laws.specs.Counts.{told}
 use Rattle.pm_laws.specs.Sizes.{HasEntries}
@@ -155,40 +154,6 @@ pub either_core : (b : Bool) (v x y : Views) → core x ≡ core v → core y �
 either_core true v x y e f = e
 either_core false v x y e f = f
 
--- the changes that rows name
-pub cancel_calm : (d : DevId) (v : Views) → seen (cancel d v) ≡ seen v
-cancel_calm d v = timer_calm _ d None ∙ pending_calm v d _
-
-pub cancel_all_calm : (d : DevId) (v : Views) → seen (cancel_all d v) ≡ seen v
-cancel_all_calm d v = pending_calm (cancel d v) d _ ∙ cancel_calm d v
-
-pub rcancel_calm : (d : DevId) (v : Views) → seen (rcancel d v) ≡ seen v
-unfolding rcancel
-rcancel_calm d v = either_calm (has_auto_timer v d) v _ _ (pending_calm v d _) (cancel_calm d v)
-
+-- when the device was last marked busy isn't seen
 pub last_busy_calm : (t : ℕ) (d : DevId) (v : Views) → seen (set_last_busy t d v) ≡ seen v
 last_busy_calm t d v = device_calm v d _ refl refl refl
-
-pub marks_calm : (plan : Plan) (d : DevId) (t : ℕ) (v : Views) → seen (callback_marks plan d t v) ≡ seen v
-unfolding callback_marks
-marks_calm plan d t v = either_calm (marks_busy plan d) v _ _ (last_busy_calm t d v) refl
-
-pub disables_calm : (d : DevId) (v : Views) → seen (disables d v) ≡ seen v
-disables_calm d v = device_calm v d _ refl refl refl
-
-pub last_calm : (b : Bool) (d : DevId) (v : Views) → seen (set_last b d v) ≡ seen v
-last_calm b d v = device_calm v d _ refl refl refl
-
-pub depth_calm : (n : ℕ) (d : DevId) (v : Views) → seen (set_depth n d v) ≡ seen v
-depth_calm n d v = device_calm v d _ refl refl refl
-
-pub enables_calm : (d : DevId) (v : Views) → seen (enables d v) ≡ seen v
-unfolding enables
-enables_calm d v =
-    either_calm (nat_eq (device v d).depth 1) v _ _ (last_calm false d (set_depth 0 d v) ∙ depth_calm 0 d v) (depth_calm _ d v)
-
-pub disables_all_calm : (d : DevId) (v : Views) → seen (cancel_all d (disables d v)) ≡ seen v
-disables_all_calm d v = cancel_all_calm d (disables d v) ∙ disables_calm d v
-
-pub ignores_calm : (b : Bool) (d : DevId) (v : Views) → seen (set_ignores b d v) ≡ seen v
-ignores_calm b d v = device_calm v d _ refl refl refl

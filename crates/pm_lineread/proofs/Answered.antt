@@ -61,7 +61,7 @@ text2_from_0 plan line = let same : line.time - 0 ≡ line.time = omega arith in
 pub from_text1 : (plan : Plan) (line : Line) (bytes : List ℕ) → IsTextOf plan line bytes → IsText2Of plan 0 line bytes
 from_text1 plan line bytes (is, whole) = (is, omega arith, text2_from_0 plan line ∙ whole)
 
-to_text1 : (plan : Plan) (line : Line) (bytes : List ℕ) → IsText2Of plan 0 line bytes → IsTextOf plan line bytes
+pub to_text1 : (plan : Plan) (line : Line) (bytes : List ℕ) → IsText2Of plan 0 line bytes → IsTextOf plan line bytes
 to_text1 plan line bytes (is, later, whole) = (is, sym (text2_from_0 plan line) ∙ whole)
 
 longest_text1 : (plan : Plan) (bytes : List ℕ) (at : ℕ) → IsLongest (IsText2Of plan 0) bytes at → IsLongest (IsTextOf plan) bytes at

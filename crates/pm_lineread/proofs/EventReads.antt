@@ -1,5 +1,5 @@
 -- Events: each is read exactly, and from its own texts.
-use Rattle.std.proofs.Common.{◌≡◌, ℕ, ◌-◌, ◌^◌, Bool, true, false, ◌&&◌, List, [], ◌++◌, length, codes, decimal, nat_lt, nat_le, ℤ, pos, if◌then◌else◌, slice_get, Some, Result, Ok, refl, ap, sym, ◌∙◌, ◌⊎◌, inl, inr, lit<, lit≤, append_assoc}
+use Rattle.std.proofs.Common.{◌≡◌, ℕ, ◌-◌, ◌^◌, Bool, true, false, ◌&&◌, List, [], ◌++◌, length, codes, decimal, nat_lt, nat_le, ℤ, pos, if◌then◌else◌, slice_index_or, Result, Ok, refl, ap, sym, ◌∙◌, ◌⊎◌, inl, inr, lit<, lit≤, append_assoc}
 use Rattle.std.specs.Fmt.{digits, signed_decimal}
 use Rattle.std.specs.List.{list_all}
 use Rattle.std.specs.Ordering.{int_eq}
@@ -7,12 +7,17 @@ use Rattle.std.proofs.lemmas.Bool.{and_from, and_parts, cases_Bool, eqb-true}
 use Rattle.std.proofs.lemmas.Bool.Decides.{Decides-int_eq}
 use Rattle.std.proofs.lemmas.Fmt.{decimal_digit}
 use Rattle.std.proofs.lemmas.List.{append-nil}
+use denote.Enum.Declared.{tag_of}
+use Rattle.pm_base.specs.contracts.Cb as cb_type
 use Rattle.pm_base.specs.declared.Cb.{Cb}
 use Rattle.pm_base.specs.declared.Cb.TheVariants as cb
 use Rattle.pm_base.specs.declared.DevId.{DevId}
+use Rattle.pm_linetext.proofs.EnumPlaces.{value_place}
 use Rattle.pm_linetext.specs.Words.{all_cbs, all_helpers, all_statuses}
 use Rattle.pm_model.specs.LineOf.{are_fields, fits_i32, fits_u32, is_command_line, is_device_of, is_event_of, is_number_of, is_ret_line, is_timer_line, is_why_of, is_work_line}
 use Rattle.pm_model.specs.Spelling.{Names, bit, cb_word, device_name, device_part, event_text, helper_word, operand_of, operand_part, padded, payload, space, status_word, takes_device, timer_text, why_text, work_text}
+use Rattle.pm_model.specs.contracts.event.Helper as helper_type
+use Rattle.pm_model.specs.contracts.event.Word as word_type
 use Rattle.pm_model.specs.declared.event.Command.{Command}
 use Rattle.pm_model.specs.declared.event.Event.{Event}
 use Rattle.pm_model.specs.declared.event.Event.TheVariants as event
@@ -27,6 +32,7 @@ use Rattle.pm_names.specs.Words.{cb_words, event_words, helper_words, status_wor
 use Rattle.pm_lineread.specs.Kinds.{all_kinds}
 use Rattle.pm_lineread.specs.Pieces.{◌>>=◌, either_of, ended, ends, item_at, literal_at}
 use Rattle.pm_lineread.specs.Reading.{act_at, any_event_at, arm_at, call_at, callback_at, command_of, device_at, device_command_at, device_ret_at, domain_at, end_at, event_of, fields_at, fire_at, get_at, helper_at, idle_at, operand_at, payload_at, put_at, resume_at, ret_at, return_at, signed_at, state_at, suspend_at, switched_at, timer_at, usage_at, wait_at, why_at, word_at, work_at}
+use Rattle.pm_lineread.specs.contracts.kinds.Kind as kind_type
 use Rattle.pm_lineread.specs.declared.kinds.Kind.{Kind}
 use Rattle.pm_lineread.specs.declared.kinds.Kind.TheVariants as kind
 use Rattle.pm_lineread.proofs.Parts.{IsEnd, IsWord, Spelled, act_reads, clash, count_from, count_parts, count_reads, end_stops, fields_reads, fields_text, one_word_reads, operand_reads, signed_reads, timer_act_reads, why_reads, word_begins}
@@ -38,100 +44,20 @@ use Rattle.pm_lineread.proofs.Shared.{is_clean}
 
 helpers : ReadsWord 32 helper_at (λ _. true) helper_word
 unfolding helper_at
-helpers = item_reads helper_words all_helpers helper_word 32 refl every helper.GetSync refl refl
-  where
-    every : (h : Helper) → (place : ℕ) × (slice_get all_helpers place ≡ Some h)
-    every helper.GetSync = (0, refl)
-    every helper.Get = (1, refl)
-    every helper.GetNoresume = (2, refl)
-    every helper.GetIfInUse = (3, refl)
-    every helper.GetIfActive = (4, refl)
-    every helper.Resume = (5, refl)
-    every helper.RequestResume = (6, refl)
-    every helper.Put = (7, refl)
-    every helper.PutSync = (8, refl)
-    every helper.PutNoidle = (9, refl)
-    every helper.PutAutosuspend = (10, refl)
-    every helper.PutSyncSuspend = (11, refl)
-    every helper.PutSyncAutosuspend = (12, refl)
-    every helper.Idle = (13, refl)
-    every helper.RequestIdle = (14, refl)
-    every helper.Suspend = (15, refl)
-    every helper.Autosuspend = (16, refl)
-    every helper.RequestAutosuspend = (17, refl)
-    every helper.ScheduleSuspend = (18, refl)
-    every helper.Enable = (19, refl)
-    every helper.Disable = (20, refl)
-    every helper.Barrier = (21, refl)
-    every helper.SetActive = (22, refl)
-    every helper.SetSuspended = (23, refl)
-    every helper.Allow = (24, refl)
-    every helper.Forbid = (25, refl)
-    every helper.MarkLastBusy = (26, refl)
-    every helper.UseAutosuspend = (27, refl)
-    every helper.DontUseAutosuspend = (28, refl)
-    every helper.SetAutosuspendDelay = (29, refl)
-    every helper.Delay = (30, refl)
-    every helper.IgnoreChildren = (31, refl)
-    every helper.LinkAdd = (32, refl)
-    every helper.LinkDel = (33, refl)
+helpers = item_reads helper_words all_helpers helper_word 32 refl (value_place helper_type.enum tt) helper.GetSync refl refl
 
 cbs : (stop : ℕ) → list_all (is_clean stop) cb_words ≡ true → ReadsWord stop (item_at cb_words all_cbs stop) (λ _. true) cb_word
-cbs stop clean = item_reads cb_words all_cbs cb_word stop refl every cb.Idle refl clean
-  where
-    every : (k : Cb) → (place : ℕ) × (slice_get all_cbs place ≡ Some k)
-    every cb.Idle = (0, refl)
-    every cb.Suspend = (1, refl)
-    every cb.Resume = (2, refl)
+cbs stop clean = item_reads cb_words all_cbs cb_word stop refl (value_place cb_type.enum tt) cb.Idle refl clean
 
 statuses : ReadsWord 32 (item_at status_words all_statuses 32) (λ _. true) status_word
-statuses = item_reads status_words all_statuses status_word 32 refl every word.Active refl refl
-  where
-    every : (w : Word) → (place : ℕ) × (slice_get all_statuses place ≡ Some w)
-    every word.Active = (0, refl)
-    every word.Resuming = (1, refl)
-    every word.Suspended = (2, refl)
-    every word.Deferred = (3, refl)
-    every word.ForcedActive = (4, refl)
-    every word.ForcedSuspended = (5, refl)
+statuses = item_reads status_words all_statuses status_word 32 refl (value_place word_type.enum tt) word.Active refl refl
 
 -- the word in front of an event's colon
 abbrev kind_word : Kind → List ℕ
-kind_word kind.Call = codes "pm_call"
-kind_word kind.Ret = codes "pm_ret"
-kind_word kind.Get = codes "pm_get"
-kind_word kind.Put = codes "pm_put"
-kind_word kind.Usage = codes "rpm_usage"
-kind_word kind.Idle = codes "rpm_idle"
-kind_word kind.Suspend = codes "rpm_suspend"
-kind_word kind.Resume = codes "rpm_resume"
-kind_word kind.Return = codes "rpm_return_int"
-kind_word kind.Wait = codes "pm_wait"
-kind_word kind.State = codes "pm_status"
-kind_word kind.Callback = codes "pm_callback"
-kind_word kind.Domain = codes "pm_domain"
-kind_word kind.Work = codes "pm_work"
-kind_word kind.Timer = codes "pm_timer"
+kind_word k = slice_index_or event_words (tag_of kind_type.the_type k) []
 
 kinds : ReadsWord 58 (item_at event_words all_kinds 58) (λ _. true) kind_word
-kinds = item_reads event_words all_kinds kind_word 58 refl every kind.Call refl refl
-  where
-    every : (k : Kind) → (place : ℕ) × (slice_get all_kinds place ≡ Some k)
-    every kind.Call = (0, refl)
-    every kind.Ret = (1, refl)
-    every kind.Get = (2, refl)
-    every kind.Put = (3, refl)
-    every kind.Usage = (4, refl)
-    every kind.Idle = (5, refl)
-    every kind.Suspend = (6, refl)
-    every kind.Resume = (7, refl)
-    every kind.Return = (8, refl)
-    every kind.Wait = (9, refl)
-    every kind.State = (10, refl)
-    every kind.Callback = (11, refl)
-    every kind.Domain = (12, refl)
-    every kind.Work = (13, refl)
-    every kind.Timer = (14, refl)
+kinds = item_reads event_words all_kinds kind_word 58 refl (value_place kind_type.enum tt) kind.Call refl refl
 
 abbrev kind_of : Event → Kind
 kind_of (event.Call c) = kind.Call

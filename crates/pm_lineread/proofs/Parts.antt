@@ -6,6 +6,7 @@ use Rattle.std.proofs.lemmas.Bool.{and_from, and_parts, cases_Bool, cases_eq, le
 use Rattle.std.proofs.lemmas.Bool.Decides.{Decides-int_eq, nat_tests}
 use Rattle.std.proofs.lemmas.Fmt.{decimal_digit}
 use Rattle.std.proofs.lemmas.List.{append-nil}
+use Rattle.pm_base.specs.contracts.Req as req_type
 use Rattle.pm_base.specs.declared.Req.{Req}
 use Rattle.pm_base.specs.declared.Req.TheVariants as req
 use Rattle.pm_base.specs.declared.Why.{Why}
@@ -26,6 +27,7 @@ use Rattle.pm_linetext.proofs.PieceLemmas.{padded_digit, padded_digits}
 use Rattle.pm_linetext.specs.Payload.{counts_text, states_text}
 use Rattle.pm_lineread.proofs.Places.{item_reads}
 use Rattle.pm_linetext.specs.Words.{all_reqs}
+use Rattle.pm_linetext.proofs.EnumPlaces.{value_place}
 use Rattle.pm_names.specs.Words.{req_words}
 use Rattle.pm_lineread.proofs.Readers.{AfterLiteral, AfterWord, Reads, ReadsWord, either_reads, ended_reads, literal_reads, made_reads, reads-along, word_reads}
 
@@ -265,14 +267,7 @@ queued_reads = reads-along _ _ _ to from queued_words
 -- what a work item does
 
 reqs : ReadsWord 32 (item_at req_words all_reqs 32) (λ _. true) req_word
-reqs = item_reads req_words all_reqs req_word 32 refl every req.Nothing refl refl
-  where
-    every : (r : Req) → (place : ℕ) × (slice_get all_reqs place ≡ Some r)
-    every req.Nothing = (0, refl)
-    every req.Idle = (1, refl)
-    every req.Suspend = (2, refl)
-    every req.Autosuspend = (3, refl)
-    every req.Resume = (4, refl)
+reqs = item_reads req_words all_reqs req_word 32 refl (value_place req_type.enum tt) req.Nothing refl refl
 
 abbrev IsQueue : List ℕ → WorkAct → Type 0
 IsQueue = AfterLiteral (codes "queue ") (λ t act. (r : Req) × Spelled is_request req_word t r × (act ≡ work.Queue r))

@@ -1,3 +1,4 @@
+pub mod EnumPlaces
 pub mod Lengths
 pub mod Passing
 pub mod PieceLemmas

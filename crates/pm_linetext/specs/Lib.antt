@@ -1,3 +1,4 @@
+pub mod EnumOrder
 pub mod Payload
 pub mod Room
 pub mod ShortLine

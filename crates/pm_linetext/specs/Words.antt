@@ -1,38 +1,28 @@
 -- What the words of a trace name: the variants of the enums, in the order of their declarations.
-use Rattle.std.specs.Prelude.{ℕ, List, [], ◌∷◌}
+use Rattle.std.specs.Prelude.{ℕ, List}
+use Rattle.pm_base.specs.contracts.Cb as cb
+use Rattle.pm_base.specs.contracts.Req as req
 use Rattle.pm_base.specs.declared.Cb.{Cb}
-use Rattle.pm_base.specs.declared.Cb.TheVariants as cb
 use Rattle.pm_base.specs.declared.Req.{Req}
-use Rattle.pm_base.specs.declared.Req.TheVariants as req
+use Rattle.pm_model.specs.contracts.event.Helper as helper
+use Rattle.pm_model.specs.contracts.event.Word as word
 use Rattle.pm_model.specs.declared.event.Event.{Event}
 use Rattle.pm_model.specs.declared.event.Event.TheVariants as event
 use Rattle.pm_model.specs.declared.event.Helper.{Helper}
-use Rattle.pm_model.specs.declared.event.Helper.TheVariants as helper
 use Rattle.pm_model.specs.declared.event.Word.{Word}
-use Rattle.pm_model.specs.declared.event.Word.TheVariants as word
+use Rattle.pm_linetext.specs.EnumOrder.{every}
 
 abbrev pub all_helpers : List Helper
-all_helpers =
-    helper.GetSync ∷ helper.Get ∷ helper.GetNoresume ∷ helper.GetIfInUse ∷ helper.GetIfActive
-    ∷ helper.Resume ∷ helper.RequestResume
-    ∷ helper.Put ∷ helper.PutSync ∷ helper.PutNoidle ∷ helper.PutAutosuspend
-    ∷ helper.PutSyncSuspend ∷ helper.PutSyncAutosuspend
-    ∷ helper.Idle ∷ helper.RequestIdle
-    ∷ helper.Suspend ∷ helper.Autosuspend ∷ helper.RequestAutosuspend ∷ helper.ScheduleSuspend
-    ∷ helper.Enable ∷ helper.Disable ∷ helper.Barrier
-    ∷ helper.SetActive ∷ helper.SetSuspended ∷ helper.Allow ∷ helper.Forbid
-    ∷ helper.MarkLastBusy ∷ helper.UseAutosuspend ∷ helper.DontUseAutosuspend ∷ helper.SetAutosuspendDelay
-    ∷ helper.Delay ∷ helper.IgnoreChildren ∷ helper.LinkAdd ∷ helper.LinkDel ∷ []
+all_helpers = every helper.enum
 
 abbrev pub all_statuses : List Word
-all_statuses =
-    word.Active ∷ word.Resuming ∷ word.Suspended ∷ word.Deferred ∷ word.ForcedActive ∷ word.ForcedSuspended ∷ []
+all_statuses = every word.enum
 
 abbrev pub all_reqs : List Req
-all_reqs = req.Nothing ∷ req.Idle ∷ req.Suspend ∷ req.Autosuspend ∷ req.Resume ∷ []
+all_reqs = every req.enum
 
 abbrev pub all_cbs : List Cb
-all_cbs = cb.Idle ∷ cb.Suspend ∷ cb.Resume ∷ []
+all_cbs = every cb.enum
 
 -- the place of an event's word among the words of events
 abbrev pub event_place : Event → ℕ

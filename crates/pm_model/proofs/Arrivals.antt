@@ -34,8 +34,10 @@ after_await (await.ActiveSupplier d link) c rest = go (is_supplied c)
   where
     links : Handed
     links = handed.Goes (stage.Control (control.ActiveLinks d))
+
     unwinds : Handed
     unwinds = handed.Goes (stage.Control (control.ActiveUnwind d c))
+
     go : (b : Bool) → gone_on (if b then links else unwinds) rest ≡ on_handed (if b then links else unwinds) rest (after_code rest)
     go true = refl
     go false = refl

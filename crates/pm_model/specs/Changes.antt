@@ -1,5 +1,5 @@
--- The changes that a row of the call table names beside those that its event makes of itself (runtime_pm.rst, sections 3,
--- 4 and 9; the changes of links and of ignore_children are this project's own).
+-- The changes that a row of the call table names beside those that its event makes of itself (runtime_pm.rst, sections
+-- 2, 3, 4 and 9; the changes of links and of ignore_children are this project's own).
 use Rattle.std.specs.Prelude.{ℕ, ◌+◌, ◌-◌, Bool, false, List, None, ℤ, map, nat_eq, if◌then◌else◌}
 use Rattle.std.specs.List.{zip}
 use Rattle.std.specs.Option.{option_map_or}
@@ -31,11 +31,11 @@ cancel d v = disarm d (set_request Nothing d v)
 abbrev pub cancel_all : DevId → Views → Views
 cancel_all d v = set_queued false d (cancel d v)
 
--- an autosuspend is scheduled
+-- an autosuspend has armed the timer
 unfoldable pub has_auto_timer : Views → DevId → Bool
 has_auto_timer v d = option_map_or (λ armed. armed.autosuspends) (timer v d) false
 
--- what a resume cancels: the request, and the timer unless it is an autosuspend's (runtime_pm.rst, section 4)
+-- what a resume cancels: the request, and the timer unless an autosuspend armed it (runtime_pm.rst, section 2)
 unfoldable pub rcancel : DevId → Views → Views
 rcancel d v = if has_auto_timer v d then set_request Nothing d v else cancel d v
 
@@ -55,15 +55,15 @@ set_last b d v = with_device v d (record (device v d) { last_active = b })
 abbrev pub disables : DevId → Views → Views
 disables d v = set_depth ((device v d).depth + 1) d v
 
--- the depth rises and nothing stays pending
+-- the depth rises, and all is cancelled
 abbrev pub disables_busy : DevId → Views → Views
 disables_busy d v = cancel_all d (disables d v)
 
--- what the status was is kept
+-- of the last status it is kept whether it was Active
 abbrev pub keeps_status : DevId → Views → Views
 keeps_status d v = set_last (is_active v d) d v
 
--- the depth rises, nothing stays pending, and what the status was is kept
+-- the depth rises, all is cancelled, and the last status is kept
 abbrev pub disabled_at_once : DevId → Views → Views
 disabled_at_once d v = set_last (is_active v d) d (disables_busy d v)
 

@@ -1,6 +1,6 @@
 -- What the views are, in words that name no stage (runtime_pm.rst, sections 3 to 5; device_link.rst): counts over all
--- lines, and what the last line said. Lists have the newest line first.
-use Rattle.std.specs.Prelude.{ℕ, ◌+◌, ◌-◌, Bool, true, false, ◌&&◌, List, [], ◌∷◌, Option, Some, None, ℤ, pos, nat_eq, count_by, if◌then◌else◌}
+-- lines, and what the last line said.
+use Rattle.std.specs.Prelude.{ℕ, ◌+◌, ◌-◌, Bool, true, false, ◌&&◌, [], ◌∷◌, Option, Some, None, ℤ, pos, nat_eq, count_by, if◌then◌else◌}
 use Rattle.std.specs.List.{list_any}
 use Rattle.std.specs.Ordering.{int_eq}
 use Rattle.pm_base.specs.declared.Cb.{Cb}
@@ -114,8 +114,8 @@ is_cb _ _ = false
 
 -- a callback's begin and end
 abbrev pub says_runs : Cb → DevId → Event → Option Bool
-says_runs k d (event.Begin e begun) = only_if (is_cb k begun && is_same d e) true
-says_runs k d (event.End e ended c) = only_if (is_cb k ended && is_same d e) false
+says_runs k d (event.Begin e j) = only_if (is_cb k j && is_same d e) true
+says_runs k d (event.End e j c) = only_if (is_cb k j && is_same d e) false
 says_runs k d _ = None
 
 -- the callback of d has begun and not ended

@@ -1,9 +1,7 @@
--- Which devices are live, and what excuses a live device from a bond (this project's own). Lists have the newest line
--- first; "at a line" means before it.
+-- Which devices are live, and what excuses a live device from a bond (this project's own). "At a line" means before it.
 use Rattle.std.specs.Prelude.{ℕ, Bool, true, false, not, ◌&&◌, ◌||◌, List, [], ◌∷◌, Option, Some, None, ℤ, drop, nat_eq, if◌then◌else◌}
 use Rattle.std.specs.Option.{option_map_or}
 use Rattle.std.specs.Ordering.{int_eq}
-use Rattle.pm_base.specs.declared.Cb.{Cb}
 use Rattle.pm_base.specs.declared.Cb.TheVariants as cb
 use Rattle.pm_base.specs.declared.DevId.{DevId}
 use Rattle.pm_base.specs.declared.codes.TheConstants.{EACCES}
@@ -21,7 +19,7 @@ use Rattle.pm_model.specs.Views.{Views, device}
 use Rattle.pm_model.specs.Derived.{is_active, is_suspended, is_disabled}
 use Rattle.pm_model.specs.Row.{Row, writes}
 use Rattle.pm_model.specs.Handing.{arrival}
-use Rattle.pm_model.specs.History.{History, last_said, since}
+use Rattle.pm_model.specs.History.{History, last_said, lasts}
 use Rattle.pm_model.specs.World.{World, place, row_at, top, world}
 use Rattle.pm_model.specs.Counted.{is_forced, is_same, only_if, runs}
 
@@ -60,7 +58,7 @@ ignored_since_entry plan (line ∷ h) d p =
 
 -- some line passes the test, on the world before it, since d was last Suspended
 abbrev pub since_suspended : Plan → (World → Line → Bool) → History → DevId → Bool
-since_suspended plan test h d = since (λ g line. test (world plan g) line) (λ g line. is_suspended (world plan (line ∷ g)).views d) h
+since_suspended plan test h d = lasts (λ g line. test (world plan g) line) (λ g line. is_suspended (world plan (line ∷ g)).views d) h
 
 abbrev pub forces : DevId → Event → Bool
 forces x (event.State e w) = is_forced w && is_same x e

@@ -1,6 +1,6 @@
 -- Where a stage goes on after a call, and what takes the place of the top of a stack (this project's own, but for what
 -- a supplier's answer means: device_link.rst).
-use Rattle.std.specs.Prelude.{true, List, [], ◌∷◌, ◌++◌, Option, Some, None, ℤ, pos, if◌then◌else◌}
+use Rattle.std.specs.Prelude.{true, List, ◌∷◌, ◌++◌, Option, Some, None, ℤ, pos, if◌then◌else◌}
 use Rattle.pm_base.specs.declared.codes.TheConstants.{EAGAIN}
 use Rattle.pm_model.specs.declared.stage.Await.{Await}
 use Rattle.pm_model.specs.declared.stage.Await.TheVariants as await

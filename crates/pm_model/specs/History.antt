@@ -21,10 +21,10 @@ abbrev pub throughout : (History → Bool) → History → Bool
 throughout test [] = test []
 throughout test (line ∷ h) = test (line ∷ h) && throughout test h
 
--- some line begins it, and neither that line nor a later one ends it
-abbrev pub since : (History → Line → Bool) → (History → Line → Bool) → History → Bool
-since begins ends [] = false
-since begins ends (line ∷ h) = not (ends h line) && (begins h line || since begins ends h)
+-- some line passes the first test, and from that line on, itself included, none passes the second
+abbrev pub lasts : (History → Line → Bool) → (History → Line → Bool) → History → Bool
+lasts from until [] = false
+lasts from until (line ∷ h) = not (until h line) && (from h line || lasts from until h)
 
 -- what the last line that says anything says, or a default
 abbrev pub last_said : {A : Type 0} → (History → Line → Option A) → A → History → A

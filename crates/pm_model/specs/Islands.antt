@@ -55,9 +55,9 @@ comes_before _ _ = false
 abbrev pub IsLabelling : Plan → (Node → ℕ) → Type 0
 IsLabelling plan island = (a b : Node) → touch plan a b ≡ true → island a ≡ island b
 
--- a plan has so many islands, with these numbers: an island is all that is connected with one of the plan's callers, and
--- islands are numbered by their first nodes. A number that isn't below the count is of no island: what it stands for is
--- connected with no caller
+-- the islands of a plan, so many: an island is all that is connected with one of the plan's callers. They are numbered by
+-- their first nodes: those with a device by their least device, and then those without by their least caller. Where a
+-- number isn't below the count, no caller is connected with the node
 pub record Numbering (plan : Plan) (count : ℕ) : Type 0 where
   pub island : Node → ℕ
   pub shared : IsLabelling plan island

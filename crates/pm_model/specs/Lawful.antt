@@ -1,5 +1,4 @@
--- Which lists of lines are runs of a plan, and which runs are finished (this project's own). Lists have the newest line
--- first.
+-- Which lists of lines are runs of a plan, and which runs are finished (this project's own).
 use Rattle.std.specs.Prelude.{ℕ, ◌≡◌, ◌<◌, ◌≤◌, Bool, true, not, ◌&&◌, List, [], ◌∷◌, Some, length, nat_le, is_none}
 use Rattle.std.specs.List.{enumerate_from, list_all}
 use Rattle.pm_model.specs.declared.event.Line.{Line}

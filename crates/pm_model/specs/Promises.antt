@@ -1,6 +1,6 @@
 -- What is promised of every lawful list of lines, in words that name no stage (exclusive: runtime_pm.rst, section 2;
--- safe: sections 2 and 4, and device_link.rst; kept and the rest are this project's own). Each promise is a test, so that
--- it can be computed. Lists have the newest line first.
+-- safe: sections 2 and 4, and device_link.rst; kept and the rest are this project's own). Each is a test, so that it
+-- can be computed, but for "never stuck".
 use Rattle.std.specs.Prelude.{◌<◌, ◌⊎◌, Bool, true, false, not, ◌&&◌, ◌||◌, List, [], ◌∷◌, pos, length, map, nat_eq, if◌then◌else◌}
 use Rattle.std.specs.List.{enumerate_from, filter, list_all}
 use Rattle.std.specs.Option.{option_map_or}
@@ -11,10 +11,8 @@ use Rattle.pm_base.specs.declared.Cb.TheVariants as cb
 use Rattle.pm_base.specs.declared.DevId.{DevId}
 use Rattle.pm_base.specs.declared.Req.{Req}
 use Rattle.pm_base.specs.declared.Req.TheVariants as req
-use Rattle.pm_base.specs.declared.Why.TheVariants as why
 use Rattle.pm_model.specs.declared.event.Event.{Event}
 use Rattle.pm_model.specs.declared.event.Event.TheVariants as event
-use Rattle.pm_model.specs.declared.event.Helper.{Helper}
 use Rattle.pm_model.specs.declared.event.Helper.TheVariants as helper
 use Rattle.pm_model.specs.declared.event.Line.{Line}
 use Rattle.pm_model.specs.declared.event.Word.TheVariants as word
@@ -22,11 +20,11 @@ use Rattle.pm_model.specs.declared.plan.Plan.{Plan}
 use Rattle.pm_model.specs.PlanRows.{domains_of, has_domain, parent}
 use Rattle.pm_model.specs.Views.{Views, device, pending_of, is_on, is_present}
 use Rattle.pm_model.specs.Derived.{is_active, is_suspended, is_resuming, is_resume_request, is_disabled, children, is_link_of}
-use Rattle.pm_model.specs.History.{History, at_each_line, last_said, since, throughout}
+use Rattle.pm_model.specs.History.{History, at_each_line, last_said, lasts, throughout}
 use Rattle.pm_model.specs.World.{world}
 use Rattle.pm_model.specs.Lawful.{IsFinished, Permits}
 use Rattle.pm_model.specs.Excuse.{forces, is_excused_from_domain, is_excused_from_parent, is_excused_from_supplier, is_live}
-use Rattle.pm_model.specs.Counted.{is_callers, is_same, only_if, runs, takes}
+use Rattle.pm_model.specs.Counted.{is_callers, is_forced, is_same, only_if, runs, takes}
 
 abbrev pub each_device : (DevId → Bool) → Plan → Bool
 each_device test plan = list_all (λ p. test (record { 0 = p.0 })) (enumerate_from 0 plan.devices)
@@ -112,11 +110,11 @@ lets_go plan d h line = nat_eq (device (world plan (line ∷ h)).views d).share 
 
 -- this actor took a count on d, and no line has let go of d since
 abbrev pub holds_count : Plan → DevId → ActorId → History → Bool
-holds_count plan d actor h = since (λ g line. is_actor actor line.actor && takes is_callers d line.event) (lets_go plan d) h
+holds_count plan d actor h = lasts (λ g line. is_actor actor line.actor && takes is_callers d line.event) (lets_go plan d) h
 
 -- a get_sync of d returned 0 or 1, and no line has let go of d since its count was taken
 abbrev pub binds : Plan → DevId → History → Bool
-binds plan d h = since (λ g line. got_well d line.event && holds_count plan d line.actor g) (lets_go plan d) h
+binds plan d h = lasts (λ g line. got_well d line.event && holds_count plan d line.actor g) (lets_go plan d) h
 
 -- kept: after every prefix each device that a get_sync binds is Active
 abbrev pub is_kept : Plan → History → Bool
@@ -131,16 +129,11 @@ abbrev pub disturbs : Event → Bool
 disturbs (event.End d cb.Suspend c) = not (int_eq c (pos 0))
 disturbs (event.End d cb.Resume c) = not (int_eq c (pos 0))
 disturbs (event.Call c) = elim c.helper [ helper.Disable ↦ true | _ ↦ false ]
-disturbs (event.State d word.ForcedActive) = true
-disturbs (event.State d word.ForcedSuspended) = true
+disturbs (event.State d w) = is_forced w
 disturbs _ = false
 
-abbrev pub is_get_sync : Helper → Bool
-is_get_sync helper.GetSync = true
-is_get_sync _ = false
-
 abbrev pub calls_get_sync : DevId → Event → Bool
-calls_get_sync d (event.Call c) = is_get_sync c.helper && is_same d c.dev
+calls_get_sync d (event.Call c) = elim c.helper [ helper.GetSync ↦ is_same d c.dev | _ ↦ false ]
 calls_get_sync d _ = false
 
 -- d was enabled where this actor last called get_sync of it
@@ -148,13 +141,12 @@ abbrev pub was_enabled : Plan → DevId → ActorId → History → Bool
 was_enabled plan d actor h =
     last_said (λ g line. only_if (is_actor actor line.actor && calls_get_sync d line.event) (not (is_disabled (world plan g).views d))) false h
 
-abbrev pub returns_well : Plan → History → Line → Bool
-returns_well plan h line = answers line.event
-  where
-    answers : Event → Bool
-    answers (event.Ret helper.GetSync d c) = implies (was_enabled plan d line.actor h) (int_eq c (pos 0) || int_eq c (pos 1))
-    answers _ = true
+-- where an event of this actor is the return of a get_sync of a device that was enabled, its code is 0 or 1
+abbrev pub returns_well : Plan → History → ActorId → Event → Bool
+returns_well plan h actor (event.Ret helper.GetSync d c) = implies (was_enabled plan d actor h) (int_eq c (pos 0) || int_eq c (pos 1))
+returns_well plan h actor _ = true
 
 -- gets succeed: where nothing disturbs, each get_sync of a device that was enabled at its call returns 0 or 1
 abbrev pub gets_succeed : Plan → History → Bool
-gets_succeed plan h = implies (list_all (λ line. not (disturbs line.event)) h) (at_each_line (returns_well plan) h)
+gets_succeed plan h =
+    implies (list_all (λ line. not (disturbs line.event)) h) (at_each_line (λ g line. returns_well plan g line.actor line.event) h)

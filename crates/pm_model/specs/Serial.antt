@@ -1,4 +1,4 @@
--- The order in which one thread runs a plan (this project's own). Lists have the newest line first.
+-- The order in which one thread runs a plan (this project's own).
 use Rattle.std.specs.Prelude.{ℕ, zero, suc, ◌+◌, Bool, true, false, List, [], ◌∷◌, ◌++◌, Option, Some, None, map, find, reverse, length, drop, take, min, option_map}
 use Rattle.std.specs.List.{enumerate_from, filter_map}
 use Rattle.std.specs.Option.{option_and_then, option_map_or}

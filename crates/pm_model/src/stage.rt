@@ -223,13 +223,12 @@ pub struct Stages {
 }
 
 impl Model for Stages {
-    ghost use Rattle.std.specs.Prelude.{List};
+    ghost use Rattle.std.specs.Prelude.{◌≡◌, List, refl};
     ghost use Rattle.pm_model.specs.declared.stage.Stage.{Stage};
+    ghost use Rattle.pm_model.specs.declared.stage.StageRow.TheVariants.{Zero, One, Two};
 
     ghost Value = { List Stage };
 
-    ghost use Rattle.std.specs.Prelude.{◌≡◌, refl};
-    ghost use Rattle.pm_model.specs.declared.stage.StageRow.TheVariants.{Zero, One, Two};
     ghost use Rattle.pm_model.specs.StageRows.{stages_of, row_of};
 
     ghost view = { λ s. stages_of s.row };
@@ -284,75 +283,78 @@ pub struct Then {
     pub back: Option<i32>,
 }
 
-/// What a row of the call table changes beside what its event changes of itself.
+/// What a row of the call table changes beside what its event changes of itself, in the table's words.
 #[derive(Clone, Copy)]
 pub enum Change {
+    /// Nothing.
     Same,
-    /// The request is cancelled.
+    /// No request (`runtime_pm.rst`, section 2).
     CancelRequest {
         dev: DevId,
     },
-    /// The timer is disarmed.
+    /// No timer (`runtime_pm.rst`, section 2).
     Disarm {
         dev: DevId,
     },
-    /// The request is cancelled and the timer disarmed.
+    /// *cancel*: no request and no timer (`runtime_pm.rst`, section 2).
     Cancel {
         dev: DevId,
     },
-    /// The same, and nothing stays queued.
+    /// *cancel all*: cancel, and nothing queued (`runtime_pm.rst`, section 4, `pm_runtime_barrier`).
     CancelAll {
         dev: DevId,
     },
-    /// What a resume cancels.
+    /// *rcancel*: no request, and no timer unless an autosuspend armed it (`runtime_pm.rst`, section 2).
     ResumeCancel {
         dev: DevId,
     },
-    /// A callback has ended, which marks a device that the plan calls busy.
+    /// *marks*: where the plan calls the device busy, last busy is the line's time (this project's own).
     CallbackMarks {
         dev: DevId,
     },
-    /// A suspend callback has ended with this code.
+    /// marks; where the code isn't 0, no deferred resume; unless it is EAGAIN or EBUSY, cancel
+    /// (`runtime_pm.rst`, section 2).
     SuspendEnded {
         dev: DevId,
         code: i32,
     },
-    /// The device is marked busy.
+    /// Last busy is the line's time (`runtime_pm.rst`, section 9).
     MarkBusy {
         dev: DevId,
     },
-    /// The depth falls by one.
+    /// Depth less 1, and at 0 the last status is forgotten (`runtime_pm.rst`, sections 3 and 4).
     Enable {
         dev: DevId,
     },
-    /// The depth rises by one.
+    /// Depth plus 1 (`runtime_pm.rst`, section 4).
     Disable {
         dev: DevId,
     },
-    /// The same, and nothing stays pending.
+    /// Depth plus 1; cancel all (`runtime_pm.rst`, section 4).
     DisableBusy {
         dev: DevId,
     },
-    /// The same, and what the status was is kept.
+    /// Depth plus 1; cancel all; the last status is kept (`runtime_pm.rst`, sections 3 and 4).
     DisableAtOnce {
         dev: DevId,
     },
-    /// What the status was is kept.
+    /// The last status is kept: whether it was Active (`runtime_pm.rst`, section 3).
     KeepStatus {
         dev: DevId,
     },
-    /// Whether autosuspend is in use, and its delay.
+    /// The setting of autosuspend: whether it is in use, and its delay in milliseconds, at most
+    /// 1,000,000 from 0 (`runtime_pm.rst`, section 9).
     Set {
         dev: DevId,
         use_auto: bool,
         delay: i64,
     },
-    /// Whether the device's children don't count.
+    /// Whether the device ignores its children (`ignore_children`, this project's own).
     Ignore {
         dev: DevId,
         ignores: bool,
     },
-    /// Whether the links of a pair are present.
+    /// Whether each link of the pair is present (`link_add` and `link_del`, this project's own).
     Link {
         consumer: DevId,
         supplier: DevId,

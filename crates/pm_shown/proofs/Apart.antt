@@ -1,6 +1,5 @@
 -- The three islands of a plan, their numbers and their parts.
 use Rattle.std.proofs.Common.{ℕ, zero, suc, ◌≡◌, ◌<◌, false, List, [], ◌∷◌, Some, None, map, length, true, refl, sym, ap, subst, arith}
-use Rattle.pm_model.specs.declared.event.Command.{Command}
 use Rattle.pm_model.specs.declared.rows.CallerRow.{CallerRow}
 use Rattle.pm_model.specs.Islands.{Connected, IsLabelling, IsPart, Node, Numbering, against, along, comes_before, here, island_of, the_caller, the_device, the_domain}
 use Rattle.pm_model.specs.Serial.{callers_and_works, timer_actors}

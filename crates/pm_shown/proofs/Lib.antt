@@ -3,6 +3,8 @@ pub mod Stuck
 pub mod Texts
 pub mod Rows
 pub mod Walks
+pub mod OneNumbering
+pub mod OnePart
 pub mod Apart
 pub mod Replay
 pub mod Merging

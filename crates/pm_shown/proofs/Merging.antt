@@ -1,10 +1,9 @@
 -- The runs of three islands, and their merge.
-use Rattle.std.proofs.Common.{ℕ, zero, suc, ◌≡◌, List, [], ◌∷◌, Some, reverse, take, slice_get, refl, sym, subst}
+use Rattle.std.proofs.Common.{ℕ, zero, suc, ◌≡◌, List, [], ◌∷◌, reverse, take, refl, sym, subst}
 use Rattle.std.proofs.lemmas.Option.{same_Some}
 use Rattle.std.proofs.lemmas.List.{reverse-reverse}
 use Rattle.pm_base.specs.declared.ActorId.{ActorId}
 use Rattle.pm_base.specs.declared.ActorId.TheVariants.{Caller}
-use Rattle.pm_model.specs.declared.event.Line.{Line}
 use Rattle.pm_model.specs.declared.plan.Plan.{Plan}
 use Rattle.pm_model.specs.Apart.{EachPasses, IsFinishedOn}
 use Rattle.pm_model.specs.Islands.{IsPart, merged}

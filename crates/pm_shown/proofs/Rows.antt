@@ -13,7 +13,7 @@ use Rattle.pm_model.specs.declared.rows.DeviceRow.{DeviceRow}
 use Rattle.pm_model.specs.declared.rows.DomainRow.{DomainRow}
 use Rattle.pm_model.specs.declared.rows.LinkRow.{LinkRow}
 use Rattle.pm_model.specs.IsPlan.{each_at}
-use Rattle.pm_model.specs.Islands.{IsLabelling, Node, is_some_device, is_some_domain, names_device, the_caller, the_device, the_domain, touch}
+use Rattle.pm_model.specs.Islands.{IsLabelling, Node, is_some_device, is_some_domain, names_device, the_caller, the_device, the_domain}
 use Rattle.pm_model.specs.PlanRows.{domain, parent}
 use Rattle.pm_model.specs.Spelling.{takes_device}
 

@@ -1,6 +1,7 @@
 //! A plan of three islands: its numbers, the parts of its islands, and a merge of their runs.
 
-ghost use Rattle.std.specs.Prelude.{◌≡◌, true, false, [], ◌∷◌, Some, None, map, reverse, take};
+ghost use Rattle.std.specs.Prelude.{ℕ, ◌≡◌, ◌<◌, true, false, [], ◌∷◌, Some, None, map, reverse, take};
+ghost use Rattle.pm_model.specs.declared.plan.Plan.{Plan};
 ghost use Rattle.pm_model.specs.Apart.{EachPasses, IsFinishedOn};
 ghost use Rattle.pm_model.specs.Islands.{Connected, IsPart, Node, Numbering, island_of, merged, own, the_caller, the_device, the_domain, touch};
 ghost use Rattle.pm_model.specs.Lawful.{IsFinished, IsLawful};
@@ -40,13 +41,20 @@ pub fn numbered()
         ≡ None ∷ Some 0 ∷ Some 0 ∷ Some 0 ∷ Some 1 ∷ []) }
 {}
 
-/// Two callers of one island have one part; the whole plan isn't that part.
+/// A plan has one count of islands, and each node of an island one number.
+pub fn numbered_once()
+    ensures count { (plan : Plan) (m n : ℕ) → Numbering plan m → Numbering plan n → m ≡ n }
+    ensures number { (plan : Plan) (m n : ℕ) (k : Numbering plan m) (l : Numbering plan n) (a : Node) → k.island a < m → l.island a ≡ k.island a }
+{}
+
+/// Two callers of one island have one part; the whole plan isn't that part. No island has two.
 pub fn parts()
     ensures of_one { IsPart three_islands numbers (numbers (the_caller 2)) first_part }
     ensures of_another { IsPart three_islands numbers (numbers (the_caller 3)) first_part }
     ensures second { IsPart three_islands numbers (numbers (the_caller 1)) second_part }
     ensures third { IsPart three_islands numbers (numbers (the_caller 0)) third_part }
     ensures whole { ¬ IsPart three_islands numbers 0 three_islands }
+    ensures once { (plan : Plan) (island : Node → ℕ) (n : ℕ) (a b : Plan) → IsPart plan island n a → IsPart plan island n b → a ≡ b }
 {}
 
 /// Each island's list is lawful for its part and finished, and it is the island's own of the merged

@@ -11,10 +11,13 @@ use Rattle.pm_model.specs.declared.stage.HelperStage.TheVariants as at
 use Rattle.pm_model.specs.declared.stage.Stage.{Stage}
 use Rattle.pm_model.specs.declared.stage.Stage.TheVariants as stage
 use Rattle.pm_model.specs.declared.stage.Then.{Then}
-use Rattle.pm_model.specs.Handing.{take_code, on_handed, after_code, after_back, after_then}
+use Rattle.pm_model.specs.Handing.{take_code, after_code, after_back, after_then}
 use Rattle.pm_model.specs.ResumeTable.{is_supplied}
+use Rattle.pm_model.proofs.Arrivals.{on_handed, after_await}
 use Rattle.pm_stacks.specs.Shape.{Call, none, lowers, lowering, call_of, May, MayOver, Fits, IsAwake, IsBottom, Nested, IsNested}
+use Rattle.pm_stacks.proofs.Obeying.{Duty}
 use Rattle.pm_stacks.proofs.Standing.{IsStart, Stands}
+use Rattle.pm_stacks.proofs.Zeros.{raised, lowered, helper_calls, zero_raised, zero_lowered, parents, suppliers, zero_calls}
 
 -- the stage that goes on belongs to the call that awaited
 abbrev GoesOn : Plan → Await → Handed → Type 0
@@ -46,7 +49,7 @@ nested_handed plan a (handed.Back k) rest is fits nested below = below k
 pub nested_code : (plan : Plan) (k : Call) (rest : List Stage) (c : ℤ) → Nested plan k rest → IsNested plan (after_code rest c)
 nested_code plan k [] c h = tt
 nested_code plan k (stage.Await a ∷ rest) c h =
-    nested_handed plan a (take_code a c) rest (goes_on plan a c) h.1 h.2 (λ kept. nested_code plan (call_of (stage.Await a)) rest kept h.2)
+    subst (IsNested plan) (sym (after_await a c rest)) (nested_handed plan a (take_code a c) rest (goes_on plan a c) h.1 h.2 (λ kept. nested_code plan (call_of (stage.Await a)) rest kept h.2))
 nested_code plan k (s ∷ rest) c h = elim h.0 [ ]
 
 -- the stages that take the place of a stage of this call
@@ -71,6 +74,10 @@ abbrev pub Gives : Plan → Call → Then → Type 0
 Gives plan none next = IsNested plan (after_then next [])
 Gives plan k next = Stays plan k next
 
+-- what is asked of a row at a stage of this call
+abbrev pub Nesting : Plan → Call → Duty
+Nesting plan k e change next = Gives plan k next
+
 nested_chain : (plan : Plan) (x : Stage) (push : List Stage) (k : Call) (rest : List Stage) → Chain plan (x ∷ push) k → Nested plan k rest
     → Fits plan x × Nested plan (call_of x) (push ++ rest)
 nested_chain plan x [] k rest chain nested = (chain.0, subst (λ z. Nested plan z rest) (sym chain.1) nested)
@@ -80,18 +87,25 @@ nested_chain plan x (y ∷ push) k rest chain nested =
 -- nothing awaits what hasn't started
 none_awaited : (plan : Plan) (a : Await) → May plan a none → ⊥
 none_awaited plan (await.SuspendLinks d f) (l, s, is, e) = cc
+none_awaited plan (await.SuspendDeferred d f) e = cc
 none_awaited plan (await.SuspendParent d f) (is, e) = cc
 none_awaited plan (await.ResumeParent r) (is, e) = cc
 none_awaited plan (await.ResumeSupplier r l) (s, is, e) = cc
+none_awaited plan (await.ResumeIdle r) e = cc
 none_awaited plan (await.ResumeUnwind r c) (l, s, is, e) = cc
 none_awaited plan (await.ResumePut r c) (is, e) = cc
-none_awaited plan (await.Return h d) (inl e) = cc
-none_awaited plan (await.Return h d) (inr (apart, odd, e)) = cc
-none_awaited plan (await.ReturnZero h d) (inl e) = cc
-none_awaited plan (await.ReturnZero h d) (inr (s, odd, e)) = cc
+none_awaited plan (await.Return h d) e = elim (helper_calls h d none e) [ raised e ↦ cc | lowered is e ↦ cc ]
+none_awaited plan (await.ReturnZero h d) m = elim (zero_calls plan h d none m) [
+  | zero_raised e ↦ cc
+  | zero_lowered odd e ↦ cc
+  | parents p ↦ let e = p.1 in cc
+  | suppliers p ↦ let e = p.3 in cc
+]
+none_awaited plan (await.DisableResume d) e = cc
+none_awaited plan (await.BarrierResume d) e = cc
 none_awaited plan (await.ActiveSupplier d l) (s, is, e) = cc
 none_awaited plan (await.ActiveUnwind d c) (l, s, is, e) = cc
-none_awaited plan _ e = cc
+none_awaited plan (await.SuppliersIdle d s) (l, is, e) = cc
 
 none_nested : (plan : Plan) (next : Then) (rest : List Stage) → IsNested plan (after_then next []) → Nested plan none rest
     → IsNested plan (after_then next rest)

@@ -1,5 +1,5 @@
 -- The rows of idle, of the helpers and of the control functions keep the shape of stacks.
-use Rattle.std.proofs.Common.{ℕ, ◌≡◌, Bool, false, bit_or, Option, Some, None, ℤ, refl, ap, inl, inr}
+use Rattle.std.proofs.Common.{ℕ, ◌≡◌, Bool, true, false, bit_or, Option, Some, None, ℤ, nat_abs, refl, ap, inl, inr}
 use Rattle.std.proofs.lemmas.Nat.{and_or_apart}
 use Rattle.pm_base.specs.declared.DevId.{DevId}
 use Rattle.pm_base.specs.declared.Req.{Req}
@@ -18,18 +18,20 @@ use Rattle.pm_model.specs.declared.stage.HelperStage.TheVariants as at
 use Rattle.pm_model.specs.declared.stage.IdleStage.{IdleStage}
 use Rattle.pm_model.specs.declared.stage.IdleStage.TheVariants as idle
 use Rattle.pm_model.specs.declared.stage.Stage.TheVariants as stage
-use Rattle.pm_model.specs.ControlTable.{enabling, disabling, disable_starts, disable_ends, barrier_idles, barrier_resumes, barrier_ends, active_starts, active_gives, active_unwinds, active_takes, active_links, suspended_starts, tells_supplier, suppliers_idle, forbidding, allowing, sets, schedules, link_adds, link_dels, control_starts, control_row}
+use Rattle.pm_model.specs.ControlTable.{enabling, disabling, disable_starts, disable_ends, barrier_idles, barrier_resumes, barrier_ends, active_starts, active_gives, active_unwinds, active_takes, active_links, suspended_starts, tells_supplier, suppliers_idle, forbidding, allowing, sets, schedules, link_adds, link_dels, is_pair_in, control_starts, control_row}
 use Rattle.pm_model.specs.Derived.{has, first_held, first_free, next_supplier}
 use Rattle.pm_model.specs.HelperTable.{flags_of, to_idle, to_suspend, to_resume, begins, helper_starts, put_suspends, carries_out, timer_fires, helper_row}
 use Rattle.pm_model.specs.IdleTable.{idle_verdict, idle_ends, after_put, idle_row}
-use Rattle.pm_model.specs.Promises.{is_get_sync}
 use Rattle.pm_model.specs.ResumeTable.{is_supplied}
-use Rattle.pm_model.specs.Row.{Row, calls}
+use Rattle.pm_model.specs.Row.{Row}
+use Rattle.pm_model.specs.SuspendTable.{tells_parent}
 use Rattle.pm_model.specs.Views.{Views, pending_of}
-use Rattle.pm_stacks.specs.Shape.{Fits, none, own, lowers, raises, May, call_of, idle_call, is_odd, lowering}
-use Rattle.pm_stacks.proofs.Found.{held_is, free_is}
-use Rattle.pm_stacks.proofs.Nesting.{Gives, odd_one, odd_five}
-use Rattle.pm_stacks.proofs.Obeying.{Obeys, ok, waiting, both, both_next}
+use Rattle.pm_model.specs.WellFormed.{called_for, control_device}
+use Rattle.pm_stacks.specs.Shape.{Fits, none, own, lowers, raises, MayZero, call_of, idle_call, is_odd, lowering, returns_resume, is_put_suspend}
+use Rattle.pm_stacks.proofs.Found.{HeldAreRuntime, held_is, free_is, next_is, pair_is}
+use Rattle.pm_stacks.proofs.Nesting.{Gives, Nesting, odd_one, odd_five}
+use Rattle.pm_stacks.proofs.Obeying.{Obeys, ok, waiting, either, both, both_next}
+use Rattle.pm_stacks.proofs.SuspendNests.{tells_has}
 
 -- the flag of autosuspend changes neither of the other two
 odd_auto : (f : ℕ) → is_odd (bit_or f AUTO) ≡ is_odd f
@@ -39,15 +41,15 @@ odd_auto f = rw (and_or_apart ASYNC f AUTO refl, and_or_apart NOWAIT f AUTO refl
 auto_call : (d : DevId) (f : ℕ) → lowering d (bit_or f AUTO) ≡ lowering d f
 auto_call d f = ap (lowers d) (odd_auto f)
 
-idle_verdict_nests : (plan : Plan) (v : Views) (t : ℕ) (d : DevId) (f : ℕ) → Obeys (Gives plan (lowering d f)) (idle_verdict plan v d f t)
+idle_verdict_nests : (plan : Plan) (v : Views) (t : ℕ) (d : DevId) (f : ℕ) → Obeys (Nesting plan (lowering d f)) (idle_verdict plan v d f t)
 unfolding idle_verdict
 idle_verdict_nests plan v t d f = search (both, ok, auto_call) depth 20
 
-after_put_nests : (plan : Plan) (v : Views) (d : DevId) (f : ℕ) → Obeys (Gives plan (lowering d f)) (after_put plan v d f)
+after_put_nests : (plan : Plan) (v : Views) (d : DevId) (f : ℕ) → Obeys (Nesting plan (lowering d f)) (after_put plan v d f)
 unfolding after_put
 after_put_nests plan v d f = search (both, ok) depth 12
 
-pub idle_nests : (plan : Plan) (v : Views) (t : ℕ) (s : IdleStage) → Obeys (Gives plan (idle_call s)) (idle_row plan v s t)
+pub idle_nests : (plan : Plan) (v : Views) (t : ℕ) (s : IdleStage) → Obeys (Nesting plan (idle_call s)) (idle_row plan v s t)
 unfolding idle_ends
 idle_nests plan v t (idle.Enter d f) = search ok depth 12
 idle_nests plan v t (idle.Verdict d f) = idle_verdict_nests plan v t d f
@@ -56,38 +58,20 @@ idle_nests plan v t (idle.Done d f c) = search (both_next, ok, auto_call) depth 
 idle_nests plan v t (idle.Queued d f) = search ok depth 12
 idle_nests plan v t (idle.AfterPut d f) = after_put_nests plan v d f
 
-code_raises : (plan : Plan) (h : Helper) (d : DevId) → May plan (await.Return h d) (raises d (flags_of h) Plain)
-code_raises plan h d = inl refl
+abbrev Nests : Plan → Option DevId → Row → Type 0
+Nests plan d row = Obeys (Nesting plan (own d)) row
 
-code_lowers : (plan : Plan) (h : Helper) (d : DevId) (odd : Bool) → is_get_sync h ≡ false → May plan (await.Return h d) (lowers d odd)
-code_lowers plan h d odd apart = inr (apart, odd, refl)
-
-zero_raises : (plan : Plan) (h : Helper) (d : DevId) → May plan (await.ReturnZero h d) (raises d 0 Plain)
-zero_raises plan h d = inl refl
-
-zero_lowers : (plan : Plan) (h : Helper) (d s : DevId) (odd : Bool) → May plan (await.ReturnZero h d) (lowers s odd)
-zero_lowers plan h d s odd = inr (s, odd, refl)
-
-begins_nest : (plan : Plan) (c : Command) (t : ℕ) → Gives plan own (begins c t)
+begins_nest : (plan : Plan) (c : Command) (t : ℕ) → Gives plan (own (called_for c.helper c.dev)) (begins c t)
 begins_nest plan c t = go c.helper
   where
-    raised : (h : Helper) → Gives plan own (calls (to_resume c.dev (flags_of h)) (await.Return h c.dev))
-    raised h = (tt, (tt, code_raises plan h c.dev, (tt, refl)))
-
-    idled : (h : Helper) → is_get_sync h ≡ false → Gives plan own (calls (to_idle c.dev (flags_of h)) (await.Return h c.dev))
-    idled h apart = (tt, (tt, code_lowers plan h c.dev _ apart, (tt, refl)))
-
-    suspended : (h : Helper) → is_get_sync h ≡ false → Gives plan own (calls (to_suspend c.dev (flags_of h)) (await.Return h c.dev))
-    suspended h apart = (tt, (tt, code_lowers plan h c.dev _ apart, (tt, refl)))
-
-    go : (h : Helper) → Gives plan own (begins (record c { helper = h }) t)
-    go helper.Resume = raised helper.Resume
-    go helper.RequestResume = raised helper.RequestResume
-    go helper.Idle = idled helper.Idle refl
-    go helper.RequestIdle = idled helper.RequestIdle refl
-    go helper.Suspend = suspended helper.Suspend refl
-    go helper.Autosuspend = suspended helper.Autosuspend refl
-    go helper.RequestAutosuspend = suspended helper.RequestAutosuspend refl
+    go : (h : Helper) → Gives plan (own (called_for h c.dev)) (begins (record c { helper = h }) t)
+    go helper.Resume = (tt, (tt, refl, (refl, refl)))
+    go helper.RequestResume = (tt, (tt, refl, (refl, refl)))
+    go helper.Idle = (tt, (tt, refl, (refl, refl)))
+    go helper.RequestIdle = (tt, (tt, refl, (refl, refl)))
+    go helper.Suspend = (tt, (tt, refl, (refl, refl)))
+    go helper.Autosuspend = (tt, (tt, refl, (refl, refl)))
+    go helper.RequestAutosuspend = (tt, (tt, refl, (refl, refl)))
     go helper.Delay = (tt, (tt, refl))
     go helper.GetSync = (tt, (tt, refl))
     go helper.Get = (tt, (tt, refl))
@@ -102,36 +86,39 @@ begins_nest plan c t = go c.helper
     go helper.PutSyncAutosuspend = (tt, (tt, refl))
     go _ = (tt, (refl, refl))
 
-abbrev Nests : Plan → Row → Type 0
-Nests plan row = Obeys (Gives plan own) row
-
-helper_starts_nest : (plan : Plan) (v : Views) (c : Command) → Nests plan (helper_starts v c)
+helper_starts_nest : (plan : Plan) (v : Views) (c : Command) → Nests plan (Some c.dev) (helper_starts v c)
 unfolding helper_starts
 helper_starts_nest plan v c = go c.helper
   where
-    go : (h : Helper) → Nests plan (helper_starts v (record c { helper = h }))
-    go helper.GetSync = search (ok, code_raises) depth 12
-    go helper.Get = search (ok, code_raises) depth 12
+    go : (h : Helper) → Nests plan (Some c.dev) (helper_starts v (record c { helper = h }))
+    go helper.GetSync = search ok depth 12
+    go helper.Get = search ok depth 12
     go helper.GetNoresume = search ok depth 12
     go helper.GetIfInUse = search (both, ok) depth 12
     go helper.GetIfActive = search (both, ok) depth 12
-    go helper.Put = search (both, ok, code_lowers) depth 12
-    go helper.PutSync = search (both, ok, code_lowers) depth 12
+    go helper.Put = search (both, ok) depth 12
+    go helper.PutSync = search (both, ok) depth 12
     go helper.PutAutosuspend = search (both, ok) depth 12
     go helper.PutSyncSuspend = search (both, ok) depth 12
     go helper.PutSyncAutosuspend = search (both, ok) depth 12
     go helper.PutNoidle = search (both, ok) depth 12
     go _ = ok tt
 
-put_suspends_nest : (plan : Plan) (v : Views) (c : Command) → is_get_sync c.helper ≡ false → Nests plan (put_suspends plan v c)
+put_suspends_nest : (plan : Plan) (v : Views) (c : Command) → is_put_suspend c.helper ≡ true → Nests plan (Some c.dev) (put_suspends plan v c)
 unfolding put_suspends
-put_suspends_nest plan v c apart = search (both, ok, code_lowers, apart) depth 12
+put_suspends_nest plan v c is = go c.helper is
+  where
+    go : (h : Helper) → is_put_suspend h ≡ true → Nests plan (Some c.dev) (put_suspends plan v (record c { helper = h }))
+    go helper.PutAutosuspend is = search (both, ok) depth 12
+    go helper.PutSyncSuspend is = search (both, ok) depth 12
+    go helper.PutSyncAutosuspend is = search (both, ok) depth 12
+    go _ is = cc
 
-timer_nests : (plan : Plan) (v : Views) (d : DevId) → Obeys (Gives plan none) (timer_fires v d)
+timer_nests : (plan : Plan) (v : Views) (d : DevId) → Obeys (Nesting plan none) (timer_fires v d)
 unfolding timer_fires
 timer_nests plan v d = ok (tt, tt, tt)
 
-pub helper_nests : (plan : Plan) (v : Views) (t : ℕ) (s : HelperStage) → Fits plan (stage.Helper s) → Obeys (Gives plan (call_of (stage.Helper s))) (helper_row plan v s t)
+pub helper_nests : (plan : Plan) (v : Views) (t : ℕ) (s : HelperStage) → Fits plan (stage.Helper s) → Obeys (Nesting plan (call_of (stage.Helper s))) (helper_row plan v s t)
 helper_nests plan v t (at.Call c) fits = ok (begins_nest plan c t)
 helper_nests plan v t (at.Work d) fits = ok (go (pending_of v d).request)
   where
@@ -145,91 +132,115 @@ helper_nests plan v t (at.PutSuspends c) fits = put_suspends_nest plan v c fits
 helper_nests plan v t (at.Delay ms since) fits = ok tt
 helper_nests plan v t (at.Ret h d c) fits = ok tt
 
-disable_starts_nest : (plan : Plan) (v : Views) (d : DevId) → Nests plan (disable_starts v d)
+disable_starts_nest : (plan : Plan) (v : Views) (d : DevId) → Nests plan (Some d) (disable_starts v d)
 unfolding disable_starts disabling
 disable_starts_nest plan v d = search (both, ok) depth 12
 
-disabling_nests : (plan : Plan) (v : Views) (d : DevId) → Nests plan (disabling v d)
+disabling_nests : (plan : Plan) (v : Views) (d : DevId) → Nests plan (Some d) (disabling v d)
 unfolding disabling
 disabling_nests plan v d = search (both, ok) depth 12
 
-disable_ends_nest : (plan : Plan) (v : Views) (d : DevId) → Nests plan (disable_ends v d)
+disable_ends_nest : (plan : Plan) (v : Views) (d : DevId) → Nests plan (Some d) (disable_ends v d)
 unfolding disable_ends
 disable_ends_nest plan v d = search (both, ok, waiting) depth 12
 
-barrier_idles_nest : (plan : Plan) (v : Views) (d : DevId) (c : ℤ) → Nests plan (barrier_idles v d c)
+barrier_idles_nest : (plan : Plan) (v : Views) (d : DevId) (c : ℤ) → Nests plan (Some d) (barrier_idles v d c)
 unfolding barrier_idles
 barrier_idles_nest plan v d c = search (both, ok) depth 12
 
-barrier_resumes_nest : (plan : Plan) (v : Views) (d : DevId) → Nests plan (barrier_resumes plan v d)
+barrier_resumes_nest : (plan : Plan) (v : Views) (d : DevId) → Nests plan (Some d) (barrier_resumes plan v d)
 unfolding barrier_resumes
 barrier_resumes_nest plan v d = search (both, ok, barrier_idles_nest) depth 12
 
-barrier_ends_nest : (plan : Plan) (v : Views) (d : DevId) (c : ℤ) → Nests plan (barrier_ends v d c)
+barrier_ends_nest : (plan : Plan) (v : Views) (d : DevId) (c : ℤ) → Nests plan (Some d) (barrier_ends v d c)
 unfolding barrier_ends
 barrier_ends_nest plan v d c = search (both, ok, waiting) depth 12
 
-active_starts_nest : (plan : Plan) (v : Views) (d : DevId) → Nests plan (active_starts plan v d)
+active_starts_nest : (plan : Plan) (v : Views) (d : DevId) → Nests plan (Some d) (active_starts plan v d)
 unfolding active_starts
 active_starts_nest plan v d = search (both, ok) depth 12
 
 active_gives_nest : (plan : Plan) (v : Views) (d : DevId) (c : ℤ) (x : Option (ℕ × DevId)) → is_supplied c ≡ false → first_held plan v d ≡ x
-    → Nests plan (active_gives d c x)
+    → Nests plan (Some d) (active_gives d c x)
 active_gives_nest plan v d c (Some link) bad e = ok (tt, (tt, (link.0, link.1, held_is plan v d link e, odd_five link.1), (bad, refl)))
 active_gives_nest plan v d c None bad e = search ok depth 12
 
-active_unwinds_nest : (plan : Plan) (v : Views) (d : DevId) (c : ℤ) → is_supplied c ≡ false → Nests plan (active_unwinds plan v d c)
+active_unwinds_nest : (plan : Plan) (v : Views) (d : DevId) (c : ℤ) → is_supplied c ≡ false → Nests plan (Some d) (active_unwinds plan v d c)
 unfolding active_unwinds
 active_unwinds_nest plan v d c bad = active_gives_nest plan v d c (first_held plan v d) bad refl
 
-active_takes_nest : (plan : Plan) (v : Views) (d : DevId) (x : Option (ℕ × DevId)) → first_free plan v d ≡ x → Nests plan (active_takes plan v d x)
+active_takes_nest : (plan : Plan) (v : Views) (d : DevId) (x : Option (ℕ × DevId)) → first_free plan v d ≡ x → Nests plan (Some d) (active_takes plan v d x)
 active_takes_nest plan v d (Some link) e = ok (tt, (tt, (link.1, free_is plan v d link e, refl), (tt, refl)))
 active_takes_nest plan v d None e = search (both, ok, active_unwinds_nest) depth 12
 
-active_links_nest : (plan : Plan) (v : Views) (d : DevId) → Nests plan (active_links plan v d)
+active_links_nest : (plan : Plan) (v : Views) (d : DevId) → Nests plan (Some d) (active_links plan v d)
 unfolding active_links
 active_links_nest plan v d = active_takes_nest plan v d (first_free plan v d) refl
 
-tells_nest : (plan : Plan) (v : Views) (d : DevId) (x : Option (ℕ × DevId)) → Nests plan (tells_supplier plan v d x)
-tells_nest plan v d (Some link) = search (ok, odd_one) depth 12
-tells_nest plan v d None = search (both, ok, zero_lowers) depth 12
+tells_nest : (plan : Plan) (v : Views) (d : DevId) (last : Option DevId) (x : Option (ℕ × DevId)) → next_supplier plan v d last ≡ x
+    → Nests plan (Some d) (tells_supplier plan v d x)
+tells_nest plan v d last (Some link) e = ok (tt, (tt, (link.0, next_is plan v d last link e, odd_one link.1), (tt, refl)))
+tells_nest plan v d last None e = search (either, ok, tells_has, odd_one) depth 12
 
-suppliers_nest : (plan : Plan) (v : Views) (d : DevId) (last : Option DevId) → Nests plan (suppliers_idle plan v d last)
+suppliers_nest : (plan : Plan) (v : Views) (d : DevId) (last : Option DevId) → Nests plan (Some d) (suppliers_idle plan v d last)
 unfolding suppliers_idle
-suppliers_nest plan v d last = tells_nest plan v d (next_supplier plan v d last)
+suppliers_nest plan v d last = tells_nest plan v d last (next_supplier plan v d last) refl
 
-sets_nest : (plan : Plan) (v : Views) (h : Helper) (d : DevId) (use_auto : Bool) (delay : ℤ) → is_get_sync h ≡ false → Nests plan (sets plan v h d use_auto delay)
+-- each of the helpers that set the autosuspend
+abbrev IsSetting : Plan → Helper → DevId → Type 0
+IsSetting plan h d = (returns_resume h ≡ false) × (called_for h d ≡ Some d) × MayZero plan h d (raises d 0 Plain) × MayZero plan h d (lowering d 8)
+
+even_eight : (d : DevId) → lowering d 8 ≡ lowers d false
+unfolding has
+even_eight d = refl
+
+sets_nest : (plan : Plan) (v : Views) (h : Helper) (d : DevId) (use_auto : Bool) (delay : ℤ) → IsSetting plan h d → Nests plan (Some d) (sets plan v h d use_auto delay)
 unfolding sets
-sets_nest plan v h d use_auto delay apart = search (both, ok, zero_raises, zero_lowers, apart) depth 12
+sets_nest plan v h d use_auto delay is = rw (← is.1) (search (both, ok, is.0, is.2, is.3) depth 12)
 
-control_starts_nest : (plan : Plan) (v : Views) (c : Command) (t : ℕ) → Nests plan (control_starts plan v c t)
-unfolding control_starts enabling suspended_starts forbidding allowing schedules link_adds link_dels
-control_starts_nest plan v c t = go c.helper
+dels_nest : (plan : Plan) (v : Views) (c s : DevId) → HeldAreRuntime plan v → Nests plan (Some c) (link_dels plan v c s)
+unfolding link_dels
+dels_nest plan v c s runtime = search (either, ok, told) depth 12
   where
-    go : (h : Helper) → Nests plan (control_starts plan v (record c { helper = h }) t)
-    go helper.ScheduleSuspend = search (both, ok, code_lowers) depth 12
+    told : is_pair_in plan c s v.held ≡ true → MayZero plan helper.LinkDel c (lowering s 5)
+    told is = let it = pair_is plan v c s runtime is in (it.link, s, it.is, odd_five s)
+
+odd_nine : (d : DevId) → lowering d 9 ≡ lowers d true
+unfolding has
+odd_nine d = refl
+
+control_starts_nest : (plan : Plan) (v : Views) (c : Command) (t : ℕ) → HeldAreRuntime plan v → Nests plan (Some c.dev) (control_starts plan v c t)
+unfolding control_starts enabling suspended_starts forbidding allowing schedules link_adds
+control_starts_nest plan v c t runtime = go c.helper
+  where
+    set : (h : Helper) → IsSetting plan h c.dev → (use_auto : Bool) (delay : ℤ) → Nests plan (Some c.dev) (sets plan v h c.dev use_auto delay)
+    set h is use_auto delay = sets_nest plan v h c.dev use_auto delay is
+
+    go : (h : Helper) → Nests plan (Some c.dev) (control_starts plan v (record c { helper = h }) t)
+    go helper.ScheduleSuspend = search (both, ok) depth 12
     go helper.Enable = search (both, ok) depth 12
     go helper.Disable = disable_starts_nest plan v c.dev
     go helper.Barrier = search ok depth 12
     go helper.SetActive = active_starts_nest plan v c.dev
     go helper.SetSuspended = search (both, ok) depth 12
-    go helper.Allow = search (both, ok, zero_lowers) depth 12
-    go helper.Forbid = search (both, ok, zero_raises) depth 12
-    go helper.UseAutosuspend = sets_nest plan v _ c.dev _ _ refl
-    go helper.DontUseAutosuspend = sets_nest plan v _ c.dev _ _ refl
-    go helper.SetAutosuspendDelay = sets_nest plan v _ c.dev _ _ refl
+    go helper.Allow = search (both, ok, odd_nine) depth 12
+    go helper.Forbid = search (both, ok) depth 12
+    go helper.UseAutosuspend = set _ (refl, refl, inl refl, inr (even_eight c.dev)) _ _
+    go helper.DontUseAutosuspend = set _ (refl, refl, inl refl, inr (even_eight c.dev)) _ _
+    go helper.SetAutosuspendDelay = set _ (refl, refl, inl refl, inr (even_eight c.dev)) _ _
     go helper.LinkAdd = search (both, ok) depth 12
-    go helper.LinkDel = search (both, ok, zero_lowers) depth 12
+    go helper.LinkDel = dels_nest plan v c.dev (record { 0 = nat_abs c.number }) runtime
     go _ = ok tt
 
-pub control_nests : (plan : Plan) (v : Views) (t : ℕ) (s : ControlStage) → Fits plan (stage.Control s) → Nests plan (control_row plan v s t)
-control_nests plan v t (control.Start c) h = control_starts_nest plan v c t
-control_nests plan v t (control.DisablePut d) h = search ok depth 12
-control_nests plan v t (control.Disable d) h = disabling_nests plan v d
-control_nests plan v t (control.Disabled d) h = disable_ends_nest plan v d
-control_nests plan v t (control.BarrierResume d) h = barrier_resumes_nest plan v d
-control_nests plan v t (control.BarrierIdle d c) h = barrier_idles_nest plan v d c
-control_nests plan v t (control.BarrierWait d c) h = barrier_ends_nest plan v d c
-control_nests plan v t (control.ActiveLinks d) h = active_links_nest plan v d
-control_nests plan v t (control.ActiveUnwind d c) h = active_unwinds_nest plan v d c h
-control_nests plan v t (control.SuppliersIdle d last) h = suppliers_nest plan v d last
+pub control_nests : (plan : Plan) (v : Views) (t : ℕ) (s : ControlStage) → HeldAreRuntime plan v → Fits plan (stage.Control s)
+    → Nests plan (Some (control_device s)) (control_row plan v s t)
+control_nests plan v t (control.Start c) runtime h = control_starts_nest plan v c t runtime
+control_nests plan v t (control.DisablePut d) runtime h = search ok depth 12
+control_nests plan v t (control.Disable d) runtime h = disabling_nests plan v d
+control_nests plan v t (control.Disabled d) runtime h = disable_ends_nest plan v d
+control_nests plan v t (control.BarrierResume d) runtime h = barrier_resumes_nest plan v d
+control_nests plan v t (control.BarrierIdle d c) runtime h = barrier_idles_nest plan v d c
+control_nests plan v t (control.BarrierWait d c) runtime h = barrier_ends_nest plan v d c
+control_nests plan v t (control.ActiveLinks d) runtime h = active_links_nest plan v d
+control_nests plan v t (control.ActiveUnwind d c) runtime h = active_unwinds_nest plan v d c h
+control_nests plan v t (control.SuppliersIdle d last) runtime h = suppliers_nest plan v d last

@@ -18,13 +18,14 @@ use Rattle.pm_model.specs.ResumeTable.{leaves, resume_returns, resume_verdict, r
 use Rattle.pm_model.specs.Row.{Row, writes, goes, back}
 use Rattle.pm_model.specs.SuspendTable.{may_not_wait}
 use Rattle.pm_model.specs.Views.{Views}
-use Rattle.pm_stacks.specs.Shape.{Fits, IsMarked, IsEndCode, resume_call, raising}
-use Rattle.pm_stacks.proofs.Found.{held_is, free_is, front, rear}
-use Rattle.pm_stacks.proofs.Nesting.{Gives, odd_one, odd_five}
+use Rattle.pm_stacks.specs.Shape.{Fits, HoldsParent, IsMarked, IsEndCode, resume_call, raising}
+use Rattle.pm_stacks.proofs.Found.{held_is, free_is}
+use Rattle.pm_stacks.proofs.Tests.{front, rear, none_of}
+use Rattle.pm_stacks.proofs.Nesting.{Nesting, odd_one, odd_five}
 use Rattle.pm_stacks.proofs.Obeying.{Obeys, ok, waiting, either, both}
 
 abbrev Nests : Plan → ResumeCall → Row → Type 0
-Nests plan r row = Obeys (Gives plan (raising r)) row
+Nests plan r row = Obeys (Nesting plan (raising r)) row
 
 returns_nest : (plan : Plan) (r : ResumeCall) (c : ℤ) (change : Change) → Nests plan r (resume_returns plan r c change)
 unfolding leaves
@@ -32,10 +33,10 @@ returns_nest plan r c change = leaves_nest (r.held && has_parent plan r.dev) ref
   where
     leaves_nest : (b : Bool) → r.held && has_parent plan r.dev ≡ b
         → Nests plan r (writes (event.Return cb.Resume r.dev c) change (if b then goes (stage.Resume (resume.Parent r c)) else back c))
-    leaves_nest true has = ok (tt, (rear _ _ has, refl))
+    leaves_nest true has = ok (tt, (has, refl))
     leaves_nest false has = ok tt
 
-minds_has : (plan : Plan) (v : Views) (d : DevId) (tried : Bool) → minds_parent plan v d && not tried ≡ true → has_parent plan d ≡ true
+pub minds_has : (plan : Plan) (v : Views) (d : DevId) (tried : Bool) → minds_parent plan v d && not tried ≡ true → has_parent plan d ≡ true
 unfolding minds_parent
 minds_has plan v d tried e = front _ _ (front _ _ (front _ _ e))
 
@@ -67,13 +68,10 @@ links_nest plan v r t m = takes_nest plan v r t (first_free plan v r.dev) m refl
 
 -- a code that isn't good is none of 0, 1 and -13
 bad_ends : (c : ℤ) → is_supplied c ≡ false → IsEndCode c
-bad_ends c e = go (int_eq c (pos 0)) (int_eq c (pos 1)) (int_eq c EACCES) e
-  where
-    go : (x y z : Bool) → x || y || z ≡ false → (y ≡ false) × (z ≡ false)
-    go false false false e = (refl, refl)
-    go false false true e = cc
-    go false true z e = cc
-    go true y z e = cc
+bad_ends c e = let none = none_of _ _ _ e in (none.1, none.2)
+
+pub holds_has : (plan : Plan) (r : ResumeCall) → HoldsParent plan r → has_parent plan r.dev ≡ true
+holds_has plan r holds = rear _ _ holds
 
 gives_nest : (plan : Plan) (v : Views) (r : ResumeCall) (c : ℤ) (x : Option (ℕ × DevId)) → is_supplied c ≡ false → first_held plan v r.dev ≡ x
     → Nests plan r (resume_gives v r c x)
@@ -101,7 +99,7 @@ unfolding resume_domain
 domain_nests plan v r c bad = search (both, ok, unwinds_nest) depth 12
 
 pub resume_nests : (plan : Plan) (v : Views) (t : ℕ) (s : ResumeStage) → HasCodes plan → Fits plan (stage.Resume s)
-    → Obeys (Gives plan (raising (resume_call s))) (resume_row plan v s t)
+    → Obeys (Nesting plan (raising (resume_call s))) (resume_row plan v s t)
 resume_nests plan v t (resume.Enter r) codes h = search ok depth 12
 resume_nests plan v t (resume.Verdict r tried) codes h = verdict_nests plan v r tried
 resume_nests plan v t (resume.Waiting r tried) codes h = search (both, waiting, verdict_nests) depth 12
@@ -112,6 +110,6 @@ resume_nests plan v t (resume.Running r since) codes h = ends_nest plan v r code
 resume_nests plan v t (resume.Resumed r) codes h = search ok depth 12
 resume_nests plan v t (resume.Idle r) codes h = search (ok, odd_one) depth 12
 resume_nests plan v t (resume.Done r c) codes h = returns_nest plan r c _
-resume_nests plan v t (resume.Parent r c) codes h = search (ok, odd_five) depth 12
+resume_nests plan v t (resume.Parent r c) codes h = search (ok, odd_five, holds_has) depth 12
 resume_nests plan v t (resume.Domain r c) codes h = domain_nests plan v r c h
 resume_nests plan v t (resume.Unwind r c) codes h = unwinds_nest plan v r c h

@@ -12,17 +12,13 @@ use Rattle.pm_model.specs.SuspendTable.{suspend_row, suspend_verdict, suspend_en
 use Rattle.pm_model.specs.Views.{Views}
 use Rattle.pm_stacks.specs.Shape.{Fits, IsSyncOrQuiet, suspend_call, lowering}
 use Rattle.pm_base.specs.declared.codes.TheConstants.{ASYNC}
-use Rattle.pm_stacks.proofs.Found.{held_is, front}
-use Rattle.pm_stacks.proofs.Nesting.{Gives, odd_one, odd_five}
+use Rattle.pm_stacks.proofs.Found.{held_is}
+use Rattle.pm_stacks.proofs.Tests.{front, second}
+use Rattle.pm_stacks.proofs.Nesting.{Nesting, odd_one, odd_five}
 use Rattle.pm_stacks.proofs.Obeying.{Obeys, ok, waiting, either, both, both_next}
 
 abbrev Nests : Plan → DevId → ℕ → Row → Type 0
-Nests plan d f row = Obeys (Gives plan (lowering d f)) row
-
--- a test that the row before it left out
-second : (a b : Bool) → a && b ≡ false → a ≡ true → b ≡ false
-second true b e is = e
-second false b e is = cc
+Nests plan d f row = Obeys (Nesting plan (lowering d f)) row
 
 sync : (plan : Plan) (d : DevId) (f : ℕ) → has f ASYNC ≡ false → IsSyncOrQuiet plan d f
 sync plan d f e = inl e
@@ -47,7 +43,7 @@ domain_nests : (plan : Plan) (v : Views) (d : DevId) (f : ℕ) → has f ASYNC �
 unfolding suspend_domain
 domain_nests plan v d f sync = search (both, ok, links_nest) depth 12
 
-tells_has : (plan : Plan) (v : Views) (d : DevId) → tells_parent plan v d ≡ true → has_parent plan d ≡ true
+pub tells_has : (plan : Plan) (v : Views) (d : DevId) → tells_parent plan v d ≡ true → has_parent plan d ≡ true
 tells_has plan v d tells = front _ _ tells
 
 parent_nests : (plan : Plan) (v : Views) (d : DevId) (f : ℕ) → IsSyncOrQuiet plan d f → Nests plan d f (suspend_parent plan v d f)
@@ -59,7 +55,7 @@ unfolding suspend_ends
 ends_nest plan v t d f sync = search (both_next, ok) depth 12
 
 pub suspend_nests : (plan : Plan) (v : Views) (t : ℕ) (s : SuspendStage) → Fits plan (stage.Suspend s)
-    → Obeys (Gives plan (suspend_call s)) (suspend_row plan v s t)
+    → Obeys (Nesting plan (suspend_call s)) (suspend_row plan v s t)
 suspend_nests plan v t (suspend.Enter d f) h = search ok depth 12
 suspend_nests plan v t (suspend.Verdict d f) h = verdict_nests plan v t d f
 suspend_nests plan v t (suspend.Waiting d f) h = search (both, waiting, verdict_nests) depth 12

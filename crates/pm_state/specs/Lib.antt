@@ -1,4 +1,3 @@
-pub mod Devices
 pub mod Standing
 pub mod Tests
 pub mod Turns

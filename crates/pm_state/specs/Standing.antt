@@ -1,5 +1,5 @@
 -- Where a run of a plan stands, and what one line makes of it (this project's own).
-use Rattle.std.specs.Prelude.{◌≡◌, ◌<◌, drop, length}
+use Rattle.std.specs.Prelude.{◌≡◌, ◌<◌, drop, length, true}
 use Rattle.pm_base.specs.declared.ActorId.{ActorId}
 use Rattle.pm_base.specs.declared.ActorId.TheVariants.{Caller, Work, Timer}
 use Rattle.pm_base.specs.declared.DevId.{DevId}
@@ -7,12 +7,12 @@ use Rattle.pm_model.specs.declared.event.Line.{Line}
 use Rattle.pm_model.specs.declared.plan.Plan.{Plan}
 use Rattle.pm_model.specs.declared.stage.Change.{Change}
 use Rattle.pm_model.specs.declared.stage.Then.{Then}
+use Rattle.pm_model.specs.CanTake.{can_free}
 use Rattle.pm_model.specs.ChangeViews.{change_views}
 use Rattle.pm_model.specs.Events.{by_event}
 use Rattle.pm_model.specs.Handing.{after_then}
 use Rattle.pm_model.specs.Views.{Views}
 use Rattle.pm_model.specs.World.{World, counts_call, place, with_place}
-use Rattle.pm_device.specs.Fitting.{CanFree}
 use Rattle.pm_device.specs.Parts.{Counters, IsFor, Shape}
 
 -- what the counters were made for, and where the run stands
@@ -47,6 +47,6 @@ after_write plan w c line next =
       called = counts_call line.actor line.event w.called;
     }) line.actor (after_then next (drop 1 (place w line.actor)))
 
--- a forced suspend finds the counts that the held links took
+-- a forced suspend of any device finds the counts that its held links took
 abbrev pub CanFreeAny : Plan → Views → Type 0
-CanFreeAny plan v = (d : DevId) → CanFree plan v d
+CanFreeAny plan v = (d : DevId) → can_free plan v d ≡ true

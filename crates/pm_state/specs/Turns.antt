@@ -1,5 +1,5 @@
 -- What an actor does at a moment (this project's own).
-use Rattle.std.specs.Prelude.{◌≡◌, ◌+◌, ◌<◌, ◌||◌, ℕ, Bool, true, Option, Some, None, is_some, length, not}
+use Rattle.std.specs.Prelude.{◌≡◌, ◌+◌, ◌<◌, ◌||◌, ℕ, Bool, true, false, Option, Some, None, is_some, length, not}
 use Rattle.pm_base.specs.declared.ActorId.{ActorId}
 use Rattle.pm_base.specs.declared.Cb.TheVariants as cb
 use Rattle.pm_model.specs.declared.plan.Plan.{Plan}
@@ -10,14 +10,15 @@ use Rattle.pm_model.specs.declared.stage.ResumeStage.TheVariants as resume
 use Rattle.pm_model.specs.declared.stage.Stage.{Stage}
 use Rattle.pm_model.specs.declared.stage.Stage.TheVariants as stage
 use Rattle.pm_model.specs.declared.stage.SuspendStage.TheVariants as suspend
+use Rattle.pm_model.specs.declared.stage.Then.{Then}
 use Rattle.pm_model.specs.PlanRows.{ms_of}
 use Rattle.pm_model.specs.Views.{Views}
+use Rattle.pm_model.specs.WellFormed.{is_well_formed}
 use Rattle.pm_model.specs.World.{World, move, place, stage_at}
-use Rattle.pm_model.specs.declared.stage.Then.{Then}
 use Rattle.pm_place.specs.Place.{is_level}
 use Rattle.pm_state.specs.declared.acting.Turn.{Turn}
 use Rattle.pm_state.specs.declared.acting.Turn.TheVariants as turn
-use Rattle.pm_state.specs.Tests.{fits, tells}
+use Rattle.pm_state.specs.Tests.{fits}
 
 -- when the callback that runs at a stage ends
 abbrev pub running_due : Plan → Stage → Option ℕ
@@ -56,7 +57,7 @@ ending_of plan w actor t = ending_by plan w.views t (stage_at plan w actor)
 
 abbrev pub runs_at : Plan → Option Stage → Bool
 runs_at plan (Some s) = is_some (running_due plan s)
-runs_at plan None = not true
+runs_at plan None = false
 
 -- a callback that an actor began runs
 abbrev pub is_running : Plan → World → ActorId → Bool
@@ -76,14 +77,17 @@ abbrev pub TurnEndsLevel : World → ActorId → Turn → Type 0
 TurnEndsLevel w actor (turn.Writes s e c next) = EndsLevel w actor next
 TurnEndsLevel w actor _ = Unit {0}
 
--- a line that would be written fails the tests
+-- a line that would be written fails the tests; and a stage under a call, which has no move, isn't one to stand at
 abbrev pub fails_move : Plan → World → ActorId → Option Move → Bool
 fails_move plan w actor (Some (Write e c next)) = not (fits plan w actor c e)
-fails_move plan w actor _ = not true
+fails_move plan w actor (Some (Late at)) = false
+fails_move plan w actor (Some (Wait d)) = false
+fails_move plan w actor None = true
 
+-- so does a stage that isn't well formed
 abbrev pub fails_stage : Plan → World → ActorId → ℕ → Option Stage → Bool
-fails_stage plan w actor t (Some s) = not (tells plan w.views s) || fails_move plan w actor (move plan w.views s t)
-fails_stage plan w actor t None = not true
+fails_stage plan w actor t (Some s) = not (is_well_formed plan w.views s) || fails_move plan w actor (move plan w.views s t)
+fails_stage plan w actor t None = false
 
 -- what an actor would do at t fails the tests
 abbrev pub fails : Plan → World → ActorId → ℕ → Bool

@@ -1,17 +1,18 @@
 //! What an actor does at a moment.
 
-ghost use Rattle.std.specs.Prelude.{◌≡◌, ◌≢◌, ◌<◌, ◌&&◌, ◌^◌, is_some, not, true, Some};
+ghost use Rattle.std.specs.Prelude.{◌≡◌, ◌≢◌, ◌<◌, ◌&&◌, ◌^◌, is_some, not, true};
 ghost use Rattle.pm_device.specs.Parts.{IsFor};
+ghost use Rattle.pm_model.specs.WellFormed.{is_well_formed};
 ghost use Rattle.pm_model.specs.World.{move, place};
 ghost use Rattle.pm_model.specs.Lawful.{is_empty_place};
 ghost use Rattle.pm_place.specs.Place.{is_level};
 ghost use Rattle.pm_model.specs.declared.plan.Plan.{Plan as APlan};
-ghost use Rattle.pm_state.specs.Standing.{IsActor, IsOf};
-ghost use Rattle.pm_state.specs.Tests.{tells};
-ghost use Rattle.pm_state.specs.Turns.{HasPassed, TurnEndsLevel, by_move, ending_of, fails, fails_stage, is_running, running_due, turn_of};
+ghost use Rattle.pm_state.specs.Standing.{CanFreeAny, IsActor, IsOf};
+ghost use Rattle.pm_state.specs.Turns.{HasPassed, TurnEndsLevel, by_move, ending_of, fails, fails_move, is_running, running_due, turn_of};
 
+use crate::moves::move_at;
 use crate::state::State;
-use crate::tests_of_stages::tells;
+use crate::tests_of_stages::is_well_formed;
 use pm_base::{ActorId, Cb, DevId};
 use pm_device::{Parts, ms_of};
 use pm_model::{Change, Event, IdleStage, Move, Plan, ResumeStage, Stage, SuspendStage, Then};
@@ -43,7 +44,7 @@ pub enum Turn {
 // When the callback that runs at a stage ends.
 fn running_due(plan: &Plan, parts: &Parts, stage: Stage) -> Option<u64>
     requires made_for { IsFor plan.now parts.now.shape }
-    requires told { tells plan.now parts.now.views stage ≡ true }
+    requires well_formed { is_well_formed plan.now parts.now.views stage ≡ true }
     ensures { result ≡ running_due plan.now stage }
 {
     match stage {
@@ -82,16 +83,18 @@ fn runs(stage: Stage) -> bool
 }
 
 impl State {
-    // What an actor does at the stage at which it stands.
+    // What an actor does at a well formed stage.
     fn acts(&self, plan: &Plan, actor: ActorId, stage: Stage, time: u64) -> Turn
         requires is_of { IsOf plan.now self.now }
         requires in_range { IsActor plan.now actor }
+        requires frees { CanFreeAny plan.now self.now.world.views }
+        requires well_formed { is_well_formed plan.now self.now.world.views stage ≡ true }
         requires in_time { time < 2 ^ 63 }
         ensures turn { result ≢ Turn.Stuck → result ≡ by_move stage (move plan.now self.now.world.views stage time) }
         ensures passed { HasPassed plan.now self.now.world actor result }
-        ensures stuck { result ≡ Turn.Stuck → fails_stage plan.now self.now.world actor time (Some stage) ≡ true }
+        ensures stuck { result ≡ Turn.Stuck → fails_move plan.now self.now.world actor (move plan.now self.now.world.views stage time) ≡ true }
     {
-        match self.next(plan, stage, time) {
+        match move_at(plan, &self.parts, stage, time) {
             Some(Move::Write(event, change, then)) => {
                 if self.fits(plan, actor, change, event) {
                     Turn::Writes {
@@ -115,6 +118,7 @@ impl State {
     pub fn turn(&self, plan: &Plan, actor: ActorId, time: u64) -> Turn
         requires is_of { IsOf plan.now self.now }
         requires in_range { IsActor plan.now actor }
+        requires frees { CanFreeAny plan.now self.now.world.views }
         requires in_time { time < 2 ^ 63 }
         ensures turn { result ≢ Turn.Stuck → result ≡ turn_of plan.now self.now.world actor time }
         ensures passed { HasPassed plan.now self.now.world actor result }
@@ -123,7 +127,7 @@ impl State {
         let Some(stage) = self.stage_at(plan, actor) else {
             return Turn::Resting;
         };
-        if !tells(plan, &self.parts, stage) {
+        if !is_well_formed(plan, &self.parts, stage) {
             return Turn::Stuck;
         }
         match running_due(plan, &self.parts, stage) {
@@ -142,7 +146,7 @@ impl State {
     }
 
     // Where the actor's stack would have to grow, the end of a callback is stuck.
-    #[tactic(auto, using(crate::proofs::Told::first_of_two, crate::proofs::Told::second_of_two, crate::proofs::Fitting::is_open))]
+    #[tactic(auto, using(crate::proofs::Fitting::first_of_two, crate::proofs::Fitting::second_of_two, crate::proofs::Fitting::is_open))]
     fn level(&self, plan: &Plan, actor: ActorId, turn: Turn) -> Turn
         requires is_of { IsOf plan.now self.now }
         requires in_range { IsActor plan.now actor }
@@ -176,15 +180,19 @@ impl State {
     pub fn ending(&self, plan: &Plan, actor: ActorId, time: u64) -> Turn
         requires is_of { IsOf plan.now self.now }
         requires in_range { IsActor plan.now actor }
+        requires frees { CanFreeAny plan.now self.now.world.views }
         requires in_time { time < 2 ^ 63 }
         ensures turn { result ≢ Turn.Stuck → result ≡ ending_of plan.now self.now.world actor time }
         ensures passed { HasPassed plan.now self.now.world actor result }
         ensures level { TurnEndsLevel self.now.world actor result }
     {
-        match self.stage_at(plan, actor) {
-            Some(stage) => self.level(plan, actor, self.acts(plan, actor, stage, time)),
-            None => Turn::Resting,
+        let Some(stage) = self.stage_at(plan, actor) else {
+            return Turn::Resting;
+        };
+        if !is_well_formed(plan, &self.parts, stage) {
+            return Turn::Stuck;
         }
+        self.level(plan, actor, self.acts(plan, actor, stage, time))
     }
 
     /// Whether a callback that the actor began runs.

@@ -1,18 +1,17 @@
 //! The device of a stage.
 
 ghost use Rattle.std.specs.Prelude.{◌≡◌};
-ghost use Rattle.pm_control.specs.ControlMove as controls;
-ghost use Rattle.pm_idle.specs.IdleMove as idles;
-ghost use Rattle.pm_resume.specs.ResumeMove as resumes;
-ghost use Rattle.pm_state.specs.Devices.{device_at, helper_device};
-ghost use Rattle.pm_suspend.specs.SuspendMove as suspends;
+ghost use Rattle.pm_model.specs.WellFormed.{await_device, called_for, control_device, device_of, helper_device, idle_device, resume_device, suspend_device};
 
 use pm_base::DevId;
-use pm_model::{ControlStage, HelperStage, IdleStage, ResumeStage, Stage, SuspendStage};
+use pm_linetext::takes_device;
+use pm_model::{
+    Await, ControlStage, Helper, HelperStage, IdleStage, ResumeStage, Stage, SuspendStage,
+};
 
 // The device of a stage of idle.
-pub(crate) fn idle_device(stage: IdleStage) -> DevId
-    ensures { result ≡ idles.device_of stage }
+fn idle_device(stage: IdleStage) -> DevId
+    ensures { result ≡ idle_device stage }
 {
     match stage {
         IdleStage::Enter { dev, .. }
@@ -25,8 +24,8 @@ pub(crate) fn idle_device(stage: IdleStage) -> DevId
 }
 
 // The device of a stage of suspend.
-pub(crate) fn suspend_device(stage: SuspendStage) -> DevId
-    ensures { result ≡ suspends.device_of stage }
+fn suspend_device(stage: SuspendStage) -> DevId
+    ensures { result ≡ suspend_device stage }
 {
     match stage {
         SuspendStage::Enter { dev, .. }
@@ -42,8 +41,8 @@ pub(crate) fn suspend_device(stage: SuspendStage) -> DevId
 }
 
 // The device of a stage of resume.
-pub(crate) fn resume_device(stage: ResumeStage) -> DevId
-    ensures { result ≡ resumes.device_of stage }
+fn resume_device(stage: ResumeStage) -> DevId
+    ensures { result ≡ resume_device stage }
 {
     match stage {
         ResumeStage::Enter { call }
@@ -63,8 +62,8 @@ pub(crate) fn resume_device(stage: ResumeStage) -> DevId
 }
 
 // The device of a stage of a control function.
-pub(crate) fn control_device(stage: ControlStage) -> DevId
-    ensures { result ≡ controls.device_of stage }
+fn control_device(stage: ControlStage) -> DevId
+    ensures { result ≡ control_device stage }
 {
     match stage {
         ControlStage::Start { command } => command.dev,
@@ -80,22 +79,57 @@ pub(crate) fn control_device(stage: ControlStage) -> DevId
     }
 }
 
-// The device of a stage of a helper, of a work item or of a timer, if it has one.
+// The device for which a helper is called; a delay has none.
+fn called_for(helper: Helper, dev: DevId) -> Option<DevId>
+    ensures { result ≡ called_for helper dev }
+{
+    if takes_device(helper) {
+        Some(dev)
+    } else {
+        None
+    }
+}
+
+// The device of a stage of a helper, of a work item or of a timer.
 fn helper_device(stage: HelperStage) -> Option<DevId>
     ensures { result ≡ helper_device stage }
 {
     match stage {
-        HelperStage::Call { .. } | HelperStage::Delay { .. } => None,
-        HelperStage::Work { dev } | HelperStage::Timer { dev } | HelperStage::Ret { dev, .. } => {
-            Some(dev)
-        }
+        HelperStage::Call { command } => called_for(command.helper, command.dev),
+        HelperStage::Work { dev } | HelperStage::Timer { dev } => Some(dev),
         HelperStage::Start { command } | HelperStage::PutSuspends { command } => Some(command.dev),
+        HelperStage::Delay { .. } => None,
+        HelperStage::Ret { helper, dev, .. } => called_for(helper, dev),
     }
 }
 
-/// The device of a stage that writes a line, if it has one.
+// The device of a stage under a call.
+fn await_device(stage: Await) -> Option<DevId>
+    ensures { result ≡ await_device stage }
+{
+    match stage {
+        Await::SuspendLinks { dev, .. }
+        | Await::SuspendDeferred { dev, .. }
+        | Await::SuspendParent { dev, .. }
+        | Await::DisableResume { dev }
+        | Await::BarrierResume { dev }
+        | Await::ActiveSupplier { dev, .. }
+        | Await::ActiveUnwind { dev, .. }
+        | Await::SuppliersIdle { dev, .. } => Some(dev),
+        Await::ResumeParent { call }
+        | Await::ResumeSupplier { call, .. }
+        | Await::ResumeIdle { call }
+        | Await::ResumeUnwind { call, .. }
+        | Await::ResumePut { call, .. } => Some(call.dev),
+        Await::Return { helper, dev } | Await::ReturnZero { helper, dev } => called_for(
+            helper, dev,
+        ),
+    }
+}
+
+/// The device of a stage; a delay has none.
 pub fn device_of(stage: Stage) -> Option<DevId>
-    ensures { result ≡ device_at stage }
+    ensures { result ≡ device_of stage }
 {
     match stage {
         Stage::Idle(stage) => Some(idle_device(stage)),
@@ -103,6 +137,6 @@ pub fn device_of(stage: Stage) -> Option<DevId>
         Stage::Resume(stage) => Some(resume_device(stage)),
         Stage::Helper(stage) => helper_device(stage),
         Stage::Control(stage) => Some(control_device(stage)),
-        Stage::Await(_) => None,
+        Stage::Await(stage) => await_device(stage),
     }
 }

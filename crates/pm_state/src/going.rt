@@ -9,7 +9,7 @@ ghost use Rattle.pm_state.specs.Tests.{fits, fits_call};
 ghost use Rattle.pm_state.specs.Turns.{EndsLevel};
 
 use crate::state::State;
-use crate::tests_of_events::{fits_change, fits_event, has_room};
+use crate::tests_of_events::{can_take, has_room};
 use crate::tests_of_lines::is_event_of;
 use pm_apply::apply;
 use pm_base::{ActorId, NoMemory};
@@ -31,14 +31,14 @@ impl State {
         }
     }
 
-    /// Whether the counters can take a line with this change and this event. It takes no memory.
+    /// Whether a line with this change and this event passes the tests. It takes no memory.
     pub fn fits(&self, plan: &Plan, actor: ActorId, change: Change, event: Event) -> bool
         requires is_of { IsOf plan.now self.now }
         requires in_range { IsActor plan.now actor }
+        requires frees { CanFreeAny plan.now self.now.world.views }
         ensures { result ≡ fits plan.now self.now.world actor change event }
     {
-        fits_change(plan, &self.parts, change)
-            && fits_event(plan, &self.parts, event)
+        can_take(plan, &self.parts, change, event)
             && self.fits_call(plan, actor, event)
             && is_event_of(plan.devices.len(), event)
     }
@@ -89,7 +89,6 @@ impl State {
 
     /// Writes the line of a stage: its effects, and what takes the stage's place. After `NoMemory`
     /// nothing is changed.
-    #[tactic(auto, using(crate::proofs::Fitting::can_happen, crate::proofs::Told::first_of_two, crate::proofs::Told::second_of_two))]
     pub fn go(
         &mut self,
         plan: &Plan,
@@ -100,7 +99,6 @@ impl State {
         requires is_of { IsOf plan.now self.old }
         requires in_range { IsActor plan.now line.now.actor }
         requires fits { fits plan.now self.old.world line.now.actor change line.now.event ≡ true }
-        requires frees { CanFreeAny plan.now self.old.world.views }
         requires in_time { line.now.time < 2 ^ 63 }
         ensures ok { OnOk result (self.new ≡ record self.old { world = after_write plan.now self.old.world change line.now then }) }
         ensures err { OnErr result (self.new ≡ self.old) }
@@ -112,13 +110,11 @@ impl State {
     }
 
     /// The same where the stack takes no more room. It takes no memory.
-    #[tactic(auto, using(crate::proofs::Fitting::can_happen, crate::proofs::Told::first_of_two, crate::proofs::Told::second_of_two))]
     pub fn go_level(&mut self, plan: &Plan, change: Change, line: &Line, then: Then)
         requires is_of { IsOf plan.now self.old }
         requires in_range { IsActor plan.now line.now.actor }
         requires fits { fits plan.now self.old.world line.now.actor change line.now.event ≡ true }
         requires level { EndsLevel self.old.world line.now.actor then }
-        requires frees { CanFreeAny plan.now self.old.world.views }
         requires in_time { line.now.time < 2 ^ 63 }
         ensures { self.new ≡ record self.old { world = after_write plan.now self.old.world change line.now then } }
     {

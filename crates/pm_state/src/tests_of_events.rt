@@ -1,9 +1,11 @@
 //! Whether the counters can take a line. No law over whole runs says so as yet, so it is tested.
 
-ghost use Rattle.std.specs.Prelude.{◌≡◌, ◌<◌, ◌&&◌, length, nat_lt};
+ghost use Rattle.std.specs.Prelude.{◌≡◌, ◌<◌, ◌&&◌, length};
 ghost use Rattle.pm_device.specs.Parts.{IsFor};
-ghost use Rattle.pm_state.specs.Tests.{fits_change, fits_event, fits_get, fits_put, has_room, is_in};
+ghost use Rattle.pm_model.specs.CanTake.{can_change, can_get, can_happen, can_put, can_take, has_room};
 ghost use Rattle.pm_model.specs.Views.{device};
+ghost use Rattle.pm_model.specs.WellFormed.{is_in};
+ghost use Rattle.pm_state.specs.Standing.{CanFreeAny};
 
 use crate::tests_of_stages::is_in;
 use pm_base::{DevId, MAX_MS, Why};
@@ -18,36 +20,28 @@ pub fn has_room(count: u32) -> bool
 }
 
 // The depth of a device can rise by one.
-fn fits_disabling(plan: &Plan, parts: &Parts, dev: DevId) -> bool
+fn can_disable(plan: &Plan, parts: &Parts, dev: DevId) -> bool
     requires { IsFor plan.now parts.now.shape }
     ensures { result ≡ (is_in (length plan.now.devices) dev && has_room (device parts.now.views dev).depth) }
 {
     is_in(plan.devices.len(), dev) && has_room(parts.device(dev).depth)
 }
 
-// The depth of a device can fall by one.
-fn fits_enabling(plan: &Plan, parts: &Parts, dev: DevId) -> bool
-    requires { IsFor plan.now parts.now.shape }
-    ensures { result ≡ (is_in (length plan.now.devices) dev && nat_lt 0 (device parts.now.views dev).depth) }
-{
-    is_in(plan.devices.len(), dev) && parts.device(dev).depth > 0
-}
-
 // The counters can take the change that a row names.
-pub fn fits_change(plan: &Plan, parts: &Parts, change: Change) -> bool
+fn can_change(plan: &Plan, parts: &Parts, change: Change) -> bool
     requires { IsFor plan.now parts.now.shape }
-    ensures { result ≡ fits_change (length plan.now.devices) parts.now.views change }
+    ensures { result ≡ can_change (length plan.now.devices) parts.now.views change }
 {
     let devices = plan.devices.len();
     match change {
         Change::Same | Change::Link { .. } => true,
-        Change::Enable { dev } => fits_enabling(plan, parts, dev),
         Change::Disable { dev } | Change::DisableBusy { dev } | Change::DisableAtOnce { dev } =>
-            fits_disabling(plan, parts, dev),
+            can_disable(plan, parts, dev),
         Change::Set { dev, delay, .. } => {
             is_in(devices, dev) && -i64::from(MAX_MS) <= delay && delay <= i64::from(MAX_MS)
         }
-        Change::CancelRequest { dev }
+        Change::Enable { dev }
+        | Change::CancelRequest { dev }
         | Change::Disarm { dev }
         | Change::Cancel { dev }
         | Change::CancelAll { dev }
@@ -60,9 +54,9 @@ pub fn fits_change(plan: &Plan, parts: &Parts, change: Change) -> bool
     }
 }
 
-fn fits_get(parts: &Parts, dev: DevId, why: Why) -> bool
+fn can_get(parts: &Parts, dev: DevId, why: Why) -> bool
     requires { dev.0 < length parts.now.shape.parents }
-    ensures { result ≡ fits_get parts.now.views dev why }
+    ensures { result ≡ can_get parts.now.views dev why }
 {
     let device = parts.device(dev);
     match why {
@@ -71,9 +65,9 @@ fn fits_get(parts: &Parts, dev: DevId, why: Why) -> bool
     }
 }
 
-fn fits_put(parts: &Parts, dev: DevId, why: Why) -> bool
+fn can_put(parts: &Parts, dev: DevId, why: Why) -> bool
     requires { dev.0 < length parts.now.shape.parents }
-    ensures { result ≡ fits_put parts.now.views dev why }
+    ensures { result ≡ can_put parts.now.views dev why }
 {
     let device = parts.device(dev);
     match why {
@@ -82,15 +76,18 @@ fn fits_put(parts: &Parts, dev: DevId, why: Why) -> bool
     }
 }
 
-// A count that is taken fits, one that is given back is there, and one more begin can be counted.
-pub fn fits_event(plan: &Plan, parts: &Parts, event: Event) -> bool
-    requires { IsFor plan.now parts.now.shape }
-    ensures { result ≡ fits_event (length plan.now.devices) parts.now.views event }
+// The counters can take the event. That a forced suspend finds the counts that the held links took is a
+// law over whole runs.
+#[tactic(auto, using(crate::proofs::Fitting::can_say_any))]
+fn can_happen(plan: &Plan, parts: &Parts, event: Event) -> bool
+    requires made_for { IsFor plan.now parts.now.shape }
+    requires frees { CanFreeAny plan.now parts.now.views }
+    ensures { result ≡ can_happen plan.now parts.now.views event }
 {
     let devices = plan.devices.len();
     match event {
-        Event::Get { dev, why } => is_in(devices, dev) && fits_get(parts, dev, why),
-        Event::Put { dev, why } => is_in(devices, dev) && fits_put(parts, dev, why),
+        Event::Get { dev, why } => is_in(devices, dev) && can_get(parts, dev, why),
+        Event::Put { dev, why } => is_in(devices, dev) && can_put(parts, dev, why),
         Event::Begin { dev, cb } => is_in(devices, dev) && has_room(parts.begun(dev, cb)),
         Event::State { dev, .. }
         | Event::End { dev, .. }
@@ -99,4 +96,13 @@ pub fn fits_event(plan: &Plan, parts: &Parts, event: Event) -> bool
         | Event::Timer { dev, .. } => is_in(devices, dev),
         _ => true,
     }
+}
+
+// The counters can take a row's change and then its event.
+pub fn can_take(plan: &Plan, parts: &Parts, change: Change, event: Event) -> bool
+    requires made_for { IsFor plan.now parts.now.shape }
+    requires frees { CanFreeAny plan.now parts.now.views }
+    ensures { result ≡ can_take plan.now parts.now.views change event }
+{
+    can_change(plan, parts, change) && can_happen(plan, parts, event)
 }

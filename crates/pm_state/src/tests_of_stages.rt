@@ -1,11 +1,12 @@
-//! Whether the line of a stage can be told. No law over whole runs says so as yet, so it is tested.
+//! Whether a stage is well formed. No law over whole runs says so as yet, so it is tested.
 
-ghost use Rattle.std.specs.Prelude.{◌≡◌, ◌+◌, ◌<◌, length};
+ghost use Rattle.std.specs.Prelude.{◌≡◌, ◌+◌, ◌<◌, length, true};
+ghost use Rattle.std.specs.Option.{option_map_or};
 ghost use Rattle.pm_device.specs.Parts.{IsFor};
 ghost use Rattle.pm_model.specs.IsPlan.{is_command, is_operand, least_ms};
-ghost use Rattle.pm_state.specs.Tests.{has_begun, is_in, is_moment, tells, tells_control, tells_helper, tells_idle, tells_resume, tells_suspend};
+ghost use Rattle.pm_model.specs.WellFormed.{can_tell, can_tell_helper, device_of, has_begun, is_in, is_moment, is_well_formed};
 
-use crate::devices::{control_device, idle_device, resume_device, suspend_device};
+use crate::devices::device_of;
 use pm_base::{Cb, DevId, MAX_MS};
 use pm_device::{Parts, has_parent, ms_of};
 use pm_linetext::{operand_of, takes_device};
@@ -35,61 +36,6 @@ fn has_begun(plan: &Plan, parts: &Parts, cb: Cb, dev: DevId, since: u64) -> bool
     ensures { result ≡ has_begun plan.now parts.now.views cb dev since }
 {
     parts.begun(dev, cb) > 0 && has_later(since, u64::from(ms_of(plan, cb, dev)))
-}
-
-fn tells_idle(plan: &Plan, parts: &Parts, stage: IdleStage) -> bool
-    requires { IsFor plan.now parts.now.shape }
-    ensures { result ≡ tells_idle plan.now parts.now.views stage }
-{
-    let devices = plan.devices.len();
-    match stage {
-        IdleStage::Running { dev, since, .. } => {
-            is_in(devices, dev) && has_begun(plan, parts, Cb::Idle, dev, since)
-        }
-        _ => is_in(devices, idle_device(stage)),
-    }
-}
-
-fn tells_suspend(plan: &Plan, parts: &Parts, stage: SuspendStage) -> bool
-    requires { IsFor plan.now parts.now.shape }
-    ensures { result ≡ tells_suspend plan.now parts.now.views stage }
-{
-    let devices = plan.devices.len();
-    match stage {
-        SuspendStage::Running { dev, since, .. } => {
-            is_in(devices, dev) && has_begun(plan, parts, Cb::Suspend, dev, since)
-        }
-        _ => is_in(devices, suspend_device(stage)),
-    }
-}
-
-fn tells_resume(plan: &Plan, parts: &Parts, stage: ResumeStage) -> bool
-    requires { IsFor plan.now parts.now.shape }
-    ensures { result ≡ tells_resume plan.now parts.now.views stage }
-{
-    let devices = plan.devices.len();
-    match stage {
-        ResumeStage::Running { call, since } => {
-            is_in(devices, call.dev) && has_begun(plan, parts, Cb::Resume, call.dev, since)
-        }
-        ResumeStage::Parent { call, .. } => {
-            is_in(devices, call.dev) && call.held && has_parent(plan, call.dev)
-        }
-        _ => is_in(devices, resume_device(stage)),
-    }
-}
-
-fn tells_helper(devices: usize, stage: HelperStage) -> bool
-    ensures { result ≡ tells_helper devices stage }
-{
-    match stage {
-        HelperStage::Work { dev } | HelperStage::Timer { dev } => is_in(devices, dev),
-        HelperStage::Start { command } | HelperStage::PutSuspends { command } => {
-            is_in(devices, command.dev)
-        }
-        HelperStage::Delay { ms, since } => ms >= 0 && has_later(since, ms.unsigned_abs()),
-        HelperStage::Call { .. } | HelperStage::Ret { .. } => true,
-    }
 }
 
 // The least number of milliseconds that a helper takes.
@@ -131,29 +77,65 @@ fn is_command(devices: usize, command: Command) -> bool
     has_device && is_operand(devices, helper, operand_of(helper), number)
 }
 
-fn tells_control(devices: usize, stage: ControlStage) -> bool
-    ensures { result ≡ tells_control devices stage }
+fn can_tell_helper(devices: usize, stage: HelperStage) -> bool
+    ensures { result ≡ can_tell_helper devices stage }
 {
     match stage {
-        ControlStage::Start { command } => {
-            is_in(devices, command.dev) && is_command(devices, command)
-        }
-        _ => is_in(devices, control_device(stage)),
+        HelperStage::Call { command }
+        | HelperStage::Start { command }
+        | HelperStage::PutSuspends { command } => is_command(devices, command),
+        HelperStage::Delay { ms, since } => ms >= 0 && has_later(since, ms.unsigned_abs()),
+        HelperStage::Work { .. } | HelperStage::Timer { .. } | HelperStage::Ret { .. } => true,
     }
 }
 
-// The line of a stage can be told; a stage under a call has none.
-pub fn tells(plan: &Plan, parts: &Parts, stage: Stage) -> bool
-    requires { IsFor plan.now parts.now.shape }
-    ensures { result ≡ tells plan.now parts.now.views stage }
+// What the line of a stage needs beside its device.
+fn can_tell(plan: &Plan, parts: &Parts, stage: Stage) -> bool
+    requires made_for { IsFor plan.now parts.now.shape }
+    requires in_range { option_map_or (is_in (length plan.now.devices)) (device_of stage) true ≡ true }
+    ensures { result ≡ can_tell plan.now parts.now.views stage }
 {
-    let devices = plan.devices.len();
     match stage {
-        Stage::Idle(stage) => tells_idle(plan, parts, stage),
-        Stage::Suspend(stage) => tells_suspend(plan, parts, stage),
-        Stage::Resume(stage) => tells_resume(plan, parts, stage),
-        Stage::Helper(stage) => tells_helper(devices, stage),
-        Stage::Control(stage) => tells_control(devices, stage),
-        Stage::Await(_) => false,
+        Stage::Idle(stage) => match stage {
+            IdleStage::Running { dev, since, .. } => has_begun(plan, parts, Cb::Idle, dev, since),
+            _ => true,
+        },
+        Stage::Suspend(stage) => match stage {
+            SuspendStage::Running { dev, since, .. } => {
+                has_begun(plan, parts, Cb::Suspend, dev, since)
+            }
+            _ => true,
+        },
+        Stage::Resume(stage) => match stage {
+            ResumeStage::Running { call, since } => {
+                has_begun(plan, parts, Cb::Resume, call.dev, since)
+            }
+            ResumeStage::Parent { call, .. } => call.held && has_parent(plan, call.dev),
+            _ => true,
+        },
+        Stage::Helper(stage) => can_tell_helper(plan.devices.len(), stage),
+        Stage::Control(stage) => match stage {
+            ControlStage::Start { command } => is_command(plan.devices.len(), command),
+            _ => true,
+        },
+        Stage::Await(_) => true,
     }
+}
+
+// The device of a stage, if it has one, is one of so many.
+fn has_device_in(devices: usize, stage: Stage) -> bool
+    ensures { result ≡ option_map_or (is_in devices) (device_of stage) true }
+{
+    match device_of(stage) {
+        Some(dev) => is_in(devices, dev),
+        None => true,
+    }
+}
+
+// A stage is well formed: its device is one of the plan's, and its line can be told.
+pub fn is_well_formed(plan: &Plan, parts: &Parts, stage: Stage) -> bool
+    requires { IsFor plan.now parts.now.shape }
+    ensures { result ≡ is_well_formed plan.now parts.now.views stage }
+{
+    has_device_in(plan.devices.len(), stage) && can_tell(plan, parts, stage)
 }

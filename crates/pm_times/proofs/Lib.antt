@@ -1,0 +1,3 @@
+pub mod Timeless
+pub mod Deciding
+pub mod Testing
