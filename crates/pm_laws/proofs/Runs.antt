@@ -101,7 +101,7 @@ row_keeps plan v t (stage.Control s) r k e = same_row plan v t (stage.Control s)
 row_keeps plan v t (stage.Await s) r k e = cc
 
 -- a line that is permitted is written by its row
-written : (due t : ℕ) (o : Option Row) (e : Event) (c : Change) (next : Then) → option_map (timed due t) o ≡ Some (Write e c next)
+pub written : (due t : ℕ) (o : Option Row) (e : Event) (c : Change) (next : Then) → option_map (timed due t) o ≡ Some (Write e c next)
     → o ≡ Some (writes e c next)
 written due t None e c next h = cc
 written due t (Some (waits d)) e c next h = go (nat_lt t due) h

@@ -34,7 +34,7 @@ pub views_next : (plan : Plan) (w : World) (line : Line) (p : Paid plan w line)
     → (after_line plan w line (row_at plan w line.actor line.time)).views ≡ by_event plan line.time line.event (change_views plan line.time p.change w.views)
 views_next plan w line p = ap (λ r. let x : World = after_line plan w line r in x.views) p.leads ∙ views_after plan w line p.change p.next
 
-says_or : {A : Type 0} (o : Option A) (s : A) → unwrap_or o s ≡ (elim o as (λ _. A) [ Some x ↦ x | None ↦ s ])
+pub says_or : {A : Type 0} (o : Option A) (s : A) → unwrap_or o s ≡ (elim o as (λ _. A) [ Some x ↦ x | None ↦ s ])
 says_or (Some x) s = refl
 says_or None s = refl
 

@@ -13,8 +13,9 @@ use Rattle.pm_model.specs.declared.stage.Stage.{Stage}
 use Rattle.pm_model.specs.declared.stage.Stage.TheVariants as stage
 use Rattle.pm_model.specs.declared.stage.Then.{Then}
 use Rattle.pm_model.specs.Counted.{is_same}
-use Rattle.pm_model.specs.Handing.{take_code, on_handed, after_code, after_back, after_then}
+use Rattle.pm_model.specs.Handing.{take_code, after_code, after_back, after_then}
 use Rattle.pm_model.specs.ResumeTable.{is_supplied}
+use Rattle.pm_model.proofs.Arrivals.{on_handed, after_await}
 use Rattle.pm_model.specs.World.{World, place, with_place, stage_at}
 use Rattle.pm_sums.specs.Sums.{one, tally, weigh}
 use Rattle.pm_sums.proofs.Tally.{weigh_is}
@@ -38,7 +39,8 @@ handed_falls f a (handed.Back c) rest further is below = omega (arith, below c, 
 
 code_falls : (f : Stage → ℕ) → IsFalling f → (rest : List Stage) (c : ℤ) → sum_by f (after_code rest c) ≤ sum_by f rest
 code_falls f is [] c = omega arith
-code_falls f is (stage.Await a ∷ rest) c = handed_falls f a (take_code a c) rest (after_code rest) (is.handed a c) (code_falls f is rest)
+code_falls f is (stage.Await a ∷ rest) c =
+    rw (after_await a c rest) (handed_falls f a (take_code a c) rest (after_code rest) (is.handed a c) (code_falls f is rest))
 code_falls f is (s ∷ rest) c = omega arith
 
 then_falls : (f : Stage → ℕ) → IsFalling f → (next : Then) (rest : List Stage) → sum_by f (after_then next rest) ≤ weigh f (shown next) + sum_by f rest

@@ -25,8 +25,7 @@ use Rattle.pm_laws.proofs.Rows.{said}
 use Rattle.pm_stacks.specs.Shape.{Fits, resume_call}
 use Rattle.pm_pends.specs.Pends.{asks, link_of, is_for, is_up, pends}
 use Rattle.pm_pends.proofs.Falling.{left}
-use Rattle.pm_pends.proofs.Pending.{same_self}
-use Rattle.pm_stacks.proofs.Found.{rear}
+use Rattle.pm_stacks.proofs.Tests.{rear, same_self}
 
 -- what a line owes to the links for which resumes of d are called
 pub record Owing (v : Views) (s : Stage) (d : DevId) (e : Event) (next : Then) : Type 0 where

@@ -1,13 +1,8 @@
 -- A row that takes a link calls the resume of its supplier.
-use Rattle.std.proofs.Common.{ℕ, zero, suc, ◌≡◌, ◌<◌, ◌⊎◌, Bool, true, false, not, ◌&&◌, ◌||◌, List, [], ◌∷◌, slice_get, Option, Some, None, ℤ, nat_eq, if◌then◌else◌, ap, refl, sym, ◌∙◌, subst, arith, inl, inr}
-use Rattle.std.specs.List.{list_any}
-use Rattle.std.proofs.lemmas.Bool.{false≢true}
+use Rattle.std.proofs.Common.{ℕ, ◌≡◌, ◌<◌, ◌⊎◌, Bool, true, false, ◌&&◌, Option, Some, None, ℤ, nat_eq, if◌then◌else◌, refl, sym, subst, arith, inl, inr}
 use Rattle.pm_model.specs.declared.stage.Change.{Change}
 use Rattle.pm_model.specs.declared.event.Word.TheVariants as word
-use Rattle.pm_model.specs.declared.rows.LinkRow.{LinkRow}
 use Rattle.pm_model.specs.Counted.{is_same, only_if, says_held}
-use Rattle.pm_model.specs.IsPlan.{are_distinct, is_same_pair}
-use Rattle.pm_laws.proofs.Links.{distinct_links}
 use Rattle.pm_base.specs.declared.DevId.{DevId}
 use Rattle.pm_base.specs.declared.Why.TheVariants as why
 use Rattle.pm_model.specs.declared.event.Command.{Command}
@@ -44,8 +39,9 @@ use Rattle.pm_model.specs.World.{row}
 use Rattle.pm_sums.specs.Sums.{one, plus}
 use Rattle.pm_stacks.specs.Shape.{IsLink}
 use Rattle.pm_pends.proofs.Falling.{left}
-use Rattle.pm_stacks.proofs.Found.{free_is, front, rear, same_device}
-use Rattle.pm_pends.proofs.Pending.{same_self}
+use Rattle.pm_stacks.proofs.Found.{free_is}
+use Rattle.pm_stacks.proofs.PlanLaw.{one_link}
+use Rattle.pm_stacks.proofs.Tests.{same_device, same_self}
 
 -- where an event takes a link, its supplier's resume is pending
 abbrev pub Takes : Plan → Event → Then → Type 0
@@ -190,36 +186,6 @@ row_takes plan v t (stage.Resume s) r e = taking_same plan _ r e (resume_rows pl
 row_takes plan v t (stage.Helper s) r e = taking_same plan _ r e (helper_rows plan v t s)
 row_takes plan v t (stage.Control s) r e = taking_same plan _ r e (control_rows plan v t s)
 row_takes plan v t (stage.Await s) r e = cc
-
--- a pair has one link
-any_same : (row other : LinkRow) (rows : List LinkRow) (n : ℕ) → slice_get rows n ≡ Some other → row.consumer ≡ other.consumer → row.supplier ≡ other.supplier
-    → list_any (is_same_pair row) rows ≡ true
-any_same row other [] n e c s = cc
-any_same row other (x ∷ rows) zero e c s =
-    let it : x ≡ other = cc in
-    let same : is_same_pair row x ≡ true = rw (it, c, s, same_self other.consumer.0, same_self other.supplier.0) refl in rw same refl
-any_same row other (x ∷ rows) (suc n) e c s = or_rear _ _ (any_same row other rows n e c s)
-  where
-    or_rear : (a b : Bool) → b ≡ true → a || b ≡ true
-    or_rear true b e = refl
-    or_rear false b e = e
-
-one_place : (rows : List LinkRow) (m n : ℕ) (a b : LinkRow) → are_distinct is_same_pair rows ≡ true → slice_get rows m ≡ Some a → slice_get rows n ≡ Some b
-    → a.consumer ≡ b.consumer → a.supplier ≡ b.supplier → m ≡ n
-one_place [] m n a b d e f c s = cc
-one_place (x ∷ rows) zero zero a b d e f c s = refl
-one_place (x ∷ rows) (suc m) (suc n) a b d e f c s = ap suc (one_place rows m n a b (rear _ _ d) e f c s)
-one_place (x ∷ rows) zero (suc n) a b d e f c s =
-    let it : x ≡ a = cc in
-    let some = any_same x b rows n f (ap (λ (r : LinkRow). r.consumer) it ∙ c) (ap (λ (r : LinkRow). r.supplier) it ∙ s) in
-    let k : false ≡ true = rw some at (front (not (list_any (is_same_pair x) rows)) (are_distinct is_same_pair rows) d) in absurd (false≢true k)
-one_place (x ∷ rows) (suc m) zero a b d e f c s =
-    let it : x ≡ b = cc in
-    let some = any_same x a rows m e (ap (λ (r : LinkRow). r.consumer) it ∙ sym c) (ap (λ (r : LinkRow). r.supplier) it ∙ sym s) in
-    let k : false ≡ true = rw some at (front (not (list_any (is_same_pair x) rows)) (are_distinct is_same_pair rows) d) in absurd (false≢true k)
-
-one_link : (plan : Plan) (l k : ℕ) (d s : DevId) → IsLink plan l d s → IsLink plan k d s → l ≡ k
-one_link plan l k d s (a, e, ca, sa) (b, f, cb, sb) = one_place plan.links l k a b (distinct_links plan) e f (ca ∙ sym cb) (sa ∙ sym sb)
 
 -- a link that is held after a line was held before it, or is pending now
 pub taken_by : (plan : Plan) (l : ℕ) (d s : DevId) (q : Option ℕ) (e : Event) (next : Then) (old : Bool) → IsLink plan l d s → Takes plan e next

@@ -1,25 +1,23 @@
 -- For which link a resume was called, and whether its supplier is still on its way (device_link.rst).
-use Rattle.std.specs.Prelude.{ℕ, Bool, true, false, not, ◌&&◌, ◌||◌, List, [], ◌∷◌, Option, Some, None, ℤ, pos, nat_eq, slice_get}
-use Rattle.std.specs.Option.{option_map}
-use Rattle.pm_model.specs.declared.plan.Plan.{Plan}
+use Rattle.std.specs.Prelude.{ℕ, Bool, true, false, not, ◌&&◌, ◌||◌, List, Option, Some, None, ℤ, pos, nat_eq, slice_get}
+use Rattle.std.specs.Option.{option_map, option_map_or}
 use Rattle.std.specs.Ordering.{int_eq}
 use Rattle.pm_base.specs.declared.DevId.{DevId}
-use Rattle.pm_base.specs.declared.codes.TheConstants.{EACCES}
+use Rattle.pm_model.specs.declared.plan.Plan.{Plan}
 use Rattle.pm_model.specs.declared.stage.Await.{Await}
 use Rattle.pm_model.specs.declared.stage.Await.TheVariants as await
 use Rattle.pm_model.specs.declared.stage.ControlStage.TheVariants as control
-use Rattle.pm_model.specs.declared.stage.Handed.{Handed}
-use Rattle.pm_model.specs.declared.stage.Handed.TheVariants as handed
 use Rattle.pm_model.specs.declared.stage.Purpose.{Purpose}
 use Rattle.pm_model.specs.declared.stage.Purpose.TheVariants as purpose
 use Rattle.pm_model.specs.declared.stage.ResumeStage.TheVariants as resume
-use Rattle.pm_model.specs.declared.stage.SuspendStage.TheVariants as suspend
 use Rattle.pm_model.specs.declared.stage.Stage.{Stage}
 use Rattle.pm_model.specs.declared.stage.Stage.TheVariants as stage
+use Rattle.pm_model.specs.declared.stage.SuspendStage.TheVariants as suspend
 use Rattle.pm_model.specs.Counted.{is_same}
-use Rattle.pm_model.specs.Excuse.{is_answer}
-use Rattle.pm_model.specs.Handing.{take_code}
+use Rattle.pm_model.specs.Excuse.{awaits_supplier}
+use Rattle.pm_model.specs.Handing.{arrival}
 use Rattle.pm_model.specs.ResumeTable.{is_supplied}
+use Rattle.pm_model.specs.World.{top}
 use Rattle.pm_sums.specs.Sums.{one}
 use Rattle.pm_stacks.specs.Shape.{Call, raises, call_of}
 
@@ -70,8 +68,8 @@ falls_back d (stage.Await (await.ResumeUnwind r c)) = one (is_same d r.dev)
 falls_back d (stage.Await (await.ActiveUnwind e c)) = one (is_same d e)
 falls_back d _ = 0
 
--- 1 at a stage for which the suppliers of d have to be up: those of laws.md, where a stage that awaits a supplier's
--- resume counts as the stage at which it goes on
+-- 1 at a stage for which the suppliers of d have to be up; one that awaits a supplier's resume counts as the stage at which
+-- it goes on
 abbrev pub needs_supplier : DevId → Stage → ℕ
 needs_supplier d (stage.Suspend (suspend.Running e f since)) = one (is_same d e)
 needs_supplier d (stage.Resume (resume.Links r)) = one (is_same d r.dev)
@@ -84,24 +82,9 @@ needs_supplier d (stage.Await (await.ResumeSupplier r link)) = one (is_same d r.
 needs_supplier d (stage.Await (await.ActiveSupplier e link)) = one (is_same d e)
 needs_supplier d _ = 0
 
--- the stage that a code comes to, and the code with which it comes
-abbrev pub lands_at : Handed → Await → ℤ → (ℤ → Option (Await × ℤ)) → Option (Await × ℤ)
-lands_at (handed.Goes s) a c further = Some (a, c)
-lands_at (handed.Back k) a c further = further k
-
-abbrev pub lands : List Stage → ℤ → Option (Await × ℤ)
-lands [] c = None
-lands (stage.Await a ∷ rest) c = lands_at (take_code a c) a c (lands rest)
-lands (s ∷ rest) c = None
-
--- the answer to the resume of link l's supplier isn't that it is up
-abbrev pub is_bad_answer : ℕ → Option (Await × ℤ) → Bool
-is_bad_answer l None = false
-is_bad_answer l (Some p) = not (is_up p.1) && is_for l (awaits p.0)
-
-abbrev pub is_denial : ℕ → Option (Await × ℤ) → Bool
-is_denial l None = false
-is_denial l (Some p) = is_answer l p.0 && int_eq p.1 EACCES
+-- the code that is handed down this stack comes to the resume of link l's supplier, and doesn't say that it is up
+abbrev pub is_bad_answer : ℕ → List Stage → ℤ → Bool
+is_bad_answer l stack c = let come = arrival stack c in not (is_up come.1) && option_map_or (awaits_supplier l) (top None come.0) false
 
 -- the device whose link this is
 abbrev pub consumer : Plan → ℕ → Option DevId

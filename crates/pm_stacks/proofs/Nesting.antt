@@ -20,7 +20,7 @@ use Rattle.pm_stacks.proofs.Standing.{IsStart, Stands}
 use Rattle.pm_stacks.proofs.Zeros.{raised, lowered, helper_calls, zero_raised, zero_lowered, parents, suppliers, zero_calls}
 
 -- the stage that goes on belongs to the call that awaited
-abbrev GoesOn : Plan → Await → Handed → Type 0
+abbrev pub GoesOn : Plan → Await → Handed → Type 0
 GoesOn plan a (handed.Goes s) = IsAwake s × (Fits plan (stage.Await a) → Fits plan s) × (call_of s ≡ call_of (stage.Await a))
 GoesOn plan a (handed.Back k) = Unit {0}
 
@@ -29,7 +29,7 @@ either_goes : (plan : Plan) (a : Await) (b : Bool) (x y : Handed) → (b ≡ tru
 either_goes plan a true x y p q = p refl
 either_goes plan a false x y p q = q refl
 
-goes_on : (plan : Plan) (a : Await) (c : ℤ) → GoesOn plan a (take_code a c)
+pub goes_on : (plan : Plan) (a : Await) (c : ℤ) → GoesOn plan a (take_code a c)
 unfolding take_code
 goes_on plan (await.ActiveSupplier d link) c = either_goes plan (await.ActiveSupplier d link) (is_supplied c) _ _ (λ _. (tt, λ h. tt, refl)) (λ bad. (tt, λ h. bad, refl))
 goes_on plan (await.ResumePut r kept) c = tt
@@ -66,7 +66,7 @@ abbrev pub GivesBack : Plan → Call → Option ℤ → List Stage → Type 0
 GivesBack plan k None push = StartsAwake push × Chain plan push k
 GivesBack plan k (Some c) push = Unit {0}
 
-abbrev Stays : Plan → Call → Then → Type 0
+abbrev pub Stays : Plan → Call → Then → Type 0
 Stays plan k next = GivesBack plan k next.back next.push
 
 -- what starts at an empty place makes a stack of its own
@@ -85,7 +85,7 @@ nested_chain plan x (y ∷ push) k rest chain nested =
     let below = nested_chain plan y push k rest chain.2 nested in (chain.0, (chain.1, below.0, below.1))
 
 -- nothing awaits what hasn't started
-none_awaited : (plan : Plan) (a : Await) → May plan a none → ⊥
+pub none_awaited : (plan : Plan) (a : Await) → May plan a none → ⊥
 none_awaited plan (await.SuspendLinks d f) (l, s, is, e) = cc
 none_awaited plan (await.SuspendDeferred d f) e = cc
 none_awaited plan (await.SuspendParent d f) (is, e) = cc

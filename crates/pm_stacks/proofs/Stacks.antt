@@ -1,5 +1,5 @@
 -- The stacks of all actors keep their shape, after every lawful list of lines.
-use Rattle.std.proofs.Common.{ℕ, zero, suc, ◌≡◌, ◌<◌, ◌≤◌, Bool, true, false, ◌&&◌, List, [], ◌∷◌, Some, None, drop, length, map, slice_get, slice_set, slice_index_or, ap, refl, sym, ◌∙◌, subst, inl, inr, arith}
+use Rattle.std.proofs.Common.{ℕ, zero, suc, ◌≡◌, ◌<◌, ◌≤◌, Bool, true, false, ◌&&◌, List, [], ◌∷◌, Some, drop, length, map, slice_get, slice_set, slice_index_or, ap, refl, sym, ◌∙◌, subst, inl, inr, arith}
 use Rattle.std.specs.Option.{option_and_then, unwrap_or}
 use Rattle.std.proofs.lemmas.Bool.{false≢true}
 use Rattle.std.proofs.lemmas.Bool.Decides.{eqb_tells}
@@ -33,7 +33,6 @@ use Rattle.pm_laws.proofs.Runs.{Holds, Paid, permitted, lawful_holds, views_afte
 use Rattle.pm_laws.proofs.Switches.{held_after}
 use Rattle.pm_stacks.specs.Fit.{HasDelays}
 use Rattle.pm_stacks.specs.Shape.{Fits, call_of, IsNested, AreNested}
-use Rattle.pm_stacks.proofs.Codes.{has_codes}
 use Rattle.pm_stacks.proofs.Found.{HeldAreRuntime}
 use Rattle.pm_stacks.proofs.Nesting.{Gives, Nesting, nested_goes, stands_nested}
 use Rattle.pm_stacks.proofs.Obeying.{Duty, Obeys}
@@ -50,20 +49,20 @@ use Rattle.pm_stacks.proofs.SuspendTells.{suspend_tells, idle_tells}
 use Rattle.pm_stacks.proofs.Telling.{IsChanging, IsSound, IsTelling, Telling}
 use Rattle.pm_stacks.proofs.Tests.{same_device}
 
--- a property of all places holds where one place is replaced by a stack that has it
-pub stack_set : (P : List Stage → Type 0) (stacks : List (List Stage)) (i j : ℕ) (stack : List Stage) → i < length stacks → P stack → P (slice_index_or stacks j [])
-    → P (slice_index_or (slice_set stacks i stack) j [])
+-- what each place has, it has where one place is replaced by a stack that has it
+stack_set : (P : ℕ → List Stage → Type 0) (stacks : List (List Stage)) (i j : ℕ) (stack : List Stage) → i < length stacks → P i stack → P j (slice_index_or stacks j [])
+    → P j (slice_index_or (slice_set stacks i stack) j [])
 stack_set P stacks i j stack within new old =
     elim (eqb_tells j i) [
-      | inl q ↦ subst P (sym (get_or-set_at stacks i j stack [] q.1 within)) new
-      | inr q ↦ subst P (sym (get_or-set_other stacks i j stack [] q.1)) old
+      | inl q ↦ subst (P j) (sym (get_or-set_at stacks i j stack [] q.1 within)) (subst (λ k. P k stack) (sym q.1) new)
+      | inr q ↦ subst (P j) (sym (get_or-set_other stacks i j stack [] q.1)) old
     ]
 
-pub place_set : (P : List Stage → Type 0) (w : World) (a b : ActorId) (stack : List Stage) → IsPlaced w a → P stack → P (place w b)
-    → P (place (with_place w a stack) b)
-place_set P w (Caller c) (Caller d) stack placed new old = stack_set P w.caller_places c d stack placed new old
-place_set P w (Work c) (Work d) stack placed new old = stack_set P w.work_places c d stack placed new old
-place_set P w (Timer c) (Timer d) stack placed new old = stack_set P w.timer_places c d stack placed new old
+place_set : (P : ActorId → List Stage → Type 0) (w : World) (a b : ActorId) (stack : List Stage) → IsPlaced w a → P a stack → P b (place w b)
+    → P b (place (with_place w a stack) b)
+place_set P w (Caller c) (Caller d) stack placed new old = stack_set (λ i. P (Caller i)) w.caller_places c d stack placed new old
+place_set P w (Work c) (Work d) stack placed new old = stack_set (λ i. P (Work i)) w.work_places c d stack placed new old
+place_set P w (Timer c) (Timer d) stack placed new old = stack_set (λ i. P (Timer i)) w.timer_places c d stack placed new old
 place_set P w (Caller c) b stack placed new old = old
 place_set P w (Work c) b stack placed new old = old
 place_set P w (Timer c) b stack placed new old = old
@@ -74,7 +73,7 @@ obeys_same P x r e o = let same : x ≡ r = cc in subst (Obeys P) same o
 row_nests : (plan : Plan) (v : Views) (t : ℕ) (s : Stage) (r : Row) → HeldAreRuntime plan v → Fits plan s → row plan v s t ≡ Some r → Obeys (Nesting plan (call_of s)) r
 row_nests plan v t (stage.Idle s) r runtime h e = obeys_same _ _ r e (idle_nests plan v t s)
 row_nests plan v t (stage.Suspend s) r runtime h e = obeys_same _ _ r e (suspend_nests plan v t s h)
-row_nests plan v t (stage.Resume s) r runtime h e = obeys_same _ _ r e (resume_nests plan v t s (has_codes plan) h)
+row_nests plan v t (stage.Resume s) r runtime h e = obeys_same _ _ r e (resume_nests plan v t s h)
 row_nests plan v t (stage.Helper s) r runtime h e = obeys_same _ _ r e (helper_nests plan v t s h)
 row_nests plan v t (stage.Control s) r runtime h e = obeys_same _ _ r e (control_nests plan v t s runtime h)
 row_nests plan v t (stage.Await s) r runtime h e = cc
@@ -116,9 +115,9 @@ told plan w last line p holds k le =
       tells = (row_tells plan w.views line.time p.stage _ k.delays nested.1 sound (paid_row plan w line p)).paid;
     }
 
--- a property of all places that each later list keeps holds after a line where the actor's new stack has it
-stack_placed : (P : List Stage → Type 0) (w : World) (v : Views) (called : List ℕ) (a b : ActorId) (stack : List Stage) → IsPlaced w a → P stack
-    → ((b : ActorId) → P (place w b)) → P (place (with_place (record w { views = v; called = called }) a stack) b)
+-- and the places after a line don't depend on the views
+pub stack_placed : (P : ActorId → List Stage → Type 0) (w : World) (v : Views) (called : List ℕ) (a b : ActorId) (stack : List Stage) → IsPlaced w a → P a stack
+    → ((b : ActorId) → P b (place w b)) → P b (place (with_place (record w { views = v; called = called }) a stack) b)
 stack_placed P w v called a b stack placed new old = place_set P (record w { views = v; called = called }) a b stack (still a placed) new (same b)
   where
     still : (a : ActorId) → IsPlaced w a → IsPlaced (record w { views = v; called = called }) a
@@ -126,7 +125,7 @@ stack_placed P w v called a b stack placed new old = place_set P (record w { vie
     still (Work d) placed = placed
     still (Timer d) placed = placed
 
-    same : (b : ActorId) → P (place (record w { views = v; called = called }) b)
+    same : (b : ActorId) → P b (place (record w { views = v; called = called }) b)
     same (Caller d) = old (Caller d)
     same (Work d) = old (Work d)
     same (Timer d) = old (Timer d)
@@ -164,8 +163,8 @@ changing_delays plan c is = tt
 stacked_line : (plan : Plan) (w : World) (last : ℕ) (line : Line) (p : Paid plan w line) → Holds plan w → Stacked plan w last → last ≤ line.time
     → Stacked plan (after_line plan w line (Some (writes line.event p.change p.next))) line.time
 stacked_line plan w last line p holds k le = record {
-  nested = λ b. stack_placed (IsNested plan) w after _ line.actor b stack placed (nested_goes plan p.stage (place w line.actor) p.next st (λ fits. it.nests) (k.nested line.actor)) k.nested;
-  sound = λ b. subst (λ x. AreSound plan x line.time (place now b)) (sym views_are) (stack_placed (AreSound plan after line.time) w after _ line.actor b stack placed sound_stack (λ b. later (place w b) (k.sound b)));
+  nested = λ b. stack_placed (λ _. IsNested plan) w after _ line.actor b stack placed (nested_goes plan p.stage (place w line.actor) p.next st (λ fits. it.nests) (k.nested line.actor)) k.nested;
+  sound = λ b. subst (λ x. AreSound plan x line.time (place now b)) (sym views_are) (stack_placed (λ _. AreSound plan after line.time) w after _ line.actor b stack placed sound_stack (λ b. later (place w b) (k.sound b)));
   delays = subst HasDelays (sym views_are) (line_delays plan line.time line.event p.change w.views k.delays (changing_delays plan p.change it.tells.1));
   runtime = subst (HeldAreRuntime plan) (sym views_are) runtime_now;
 }
@@ -212,15 +211,16 @@ stacked_line plan w last line p holds k le = record {
         let turned = held_after plan line.time line.event (change_views plan line.time p.change w.views) l row (record { row_is = is; within = omega (arith, p.beside.entries.held, slice_get_within plan.links l row is) }) in
         held_by plan l row line.event (is_held (change_views plan line.time p.change w.views) l) is it.tells.0 (λ was. k.runtime l row is (sym same ∙ was)) (sym turned ∙ held)
 
-empty_nested : {A : Type 0} (plan : Plan) (l : List A) (i : ℕ) → IsNested plan (slice_index_or (map (λ _. []) l) i [])
-empty_nested plan [] i = tt
-empty_nested plan (x ∷ l) zero = tt
-empty_nested plan (x ∷ l) (suc i) = empty_nested plan l i
+-- every place is empty before any line
+empty_at : {A : Type 0} (l : List A) (i : ℕ) → (let none : List Stage = [] in slice_index_or (map (λ _. none) l) i none ≡ none)
+empty_at [] i = refl
+empty_at (x ∷ l) zero = refl
+empty_at (x ∷ l) (suc i) = empty_at l i
 
-empty_sound : {A : Type 0} (plan : Plan) (v : Views) (l : List A) (i : ℕ) → AreSound plan v 0 (slice_index_or (map (λ _. []) l) i [])
-empty_sound plan v [] i = tt
-empty_sound plan v (x ∷ l) zero = tt
-empty_sound plan v (x ∷ l) (suc i) = empty_sound plan v l i
+pub empty_place : (plan : Plan) (a : ActorId) → place (start plan) a ≡ []
+empty_place plan (Caller c) = empty_at plan.callers c
+empty_place plan (Work d) = empty_at plan.devices d
+empty_place plan (Timer d) = empty_at plan.devices d
 
 none_held : {A : Type 0} (l : List A) (i : ℕ) → slice_index_or (map (λ _. false) l) i false ≡ false
 none_held [] i = refl
@@ -228,17 +228,12 @@ none_held (x ∷ l) zero = refl
 none_held (x ∷ l) (suc i) = none_held l i
 
 start_stacked : (plan : Plan) → Stacked plan (start plan) 0
-start_stacked plan = record { nested = nested; sound = sound; delays = start_delays plan; runtime = λ l row is held. absurd (false≢true (sym (none_held plan.links l) ∙ held)) }
-  where
-    nested : AreNested plan (start plan)
-    nested (Caller c) = empty_nested plan plan.callers c
-    nested (Work d) = empty_nested plan plan.devices d
-    nested (Timer d) = empty_nested plan plan.devices d
-
-    sound : (a : ActorId) → AreSound plan (start plan).views 0 (place (start plan) a)
-    sound (Caller c) = empty_sound plan (start plan).views plan.callers c
-    sound (Work d) = empty_sound plan (start plan).views plan.devices d
-    sound (Timer d) = empty_sound plan (start plan).views plan.devices d
+start_stacked plan = record {
+  nested = λ a. rw (empty_place plan a) tt;
+  sound = λ a. rw (empty_place plan a) tt;
+  delays = start_delays plan;
+  runtime = λ l row is held. absurd (false≢true (sym (none_held plan.links l) ∙ held));
+}
 
 pub stacked : (plan : Plan) (h : List Line) → IsLawful plan h → Stacked plan (world plan h) (last_time h)
 stacked plan [] lawful = start_stacked plan
