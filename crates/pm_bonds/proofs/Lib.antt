@@ -7,3 +7,4 @@ pub mod Nests
 pub mod Domains
 pub mod Entries
 pub mod Marked
+pub mod Parents

@@ -275,6 +275,17 @@ owner_rests plan h line k test c x holds falls within owner m silent light =
     let parts = own_counts test c (dev_of k.kind) (to k.kind) m in
     omega (arith, need_now plan h line k test c falls within, a.others, ap one a.inactive)
 
+-- nor does a device that stood, and that the line turns to another status than Active, need anything
+pub starter_rests : (plan : Plan) (h : History) (line : Line) (k : HasKind plan h line) (test : Phase → Bool) (c : DevId) (turned_to : Status) → Holds plan (world plan h) → Falls test
+    → c.0 < length plan.devices → is_same c (dev_of k.kind) ≡ true → is_moving (world plan h).views c ≡ false → turn k.kind ≡ Some turned_to → is_active_status turned_to ≡ false
+    → passes test (to k.kind) ≡ 0 → need test (world plan (line ∷ h)) c ≡ 0
+starter_rests plan h line k test c turned_to holds falls within m stands turns down light =
+    let st : Status = (device (world plan h).views c).status in
+    let none = nobody st _ (tally (at_part test c) k.others) _ stands (owned_at plan h line k c holds within) (some_parts test c k.others) in
+    let turns_down : one (is_active_status (unwrap_or (says k.kind c) st)) ≡ 0 = rw (turns, m) (ap one down) in
+    let parts = own_counts test c (dev_of k.kind) (to k.kind) m in
+    omega (arith, need_now plan h line k test c falls within)
+
 -- before any line nothing is needed
 pub start_need : (plan : Plan) (test : Phase → Bool) (c : DevId) → need test (world plan []) c ≡ 0
 start_need plan test c =

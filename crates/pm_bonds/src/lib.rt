@@ -40,3 +40,10 @@ pub fn domains_nest()
 pub fn domain_stays()
     ensures { (plan : Plan) (h : History) (d : DevId) → IsLawful plan h → DomainStays plan h d }
 {}
+
+/// A device that is Active, or whose owner is at S2, R2, R3, R4, R4b or R4c, has its parent Active, unless it is excused
+/// (`runtime_pm.rst`, section 2). At these R stages the mark held is set where there is a parent.
+pub fn parent_stays()
+    ensures stays { (plan : Plan) (h : History) (d p : DevId) → IsLawful plan h → parent plan d ≡ Some p → ParentStays plan h d p }
+    ensures marked { (plan : Plan) (h : History) (a : ActorId) → IsLawful plan h → list_all (is_marked plan) (place (world plan h) a) ≡ true }
+{}
