@@ -4,6 +4,7 @@ use Rattle.std.proofs.lemmas.Grind.{common_steps}
 use Rattle.std.proofs.lemmas.List.{reverse-append}
 use Rattle.pm_base.specs.declared.ActorId.{ActorId}
 use Rattle.pm_base.specs.declared.ActorId.TheVariants.{Caller, Work, Timer}
+use Rattle.pm_base.specs.declared.DevId.{DevId}
 use Rattle.pm_model.specs.declared.event.Event.{Event}
 use Rattle.pm_model.specs.declared.event.Line.{Line}
 use Rattle.pm_model.specs.declared.plan.Plan.{Plan}
@@ -12,14 +13,17 @@ use Rattle.pm_model.specs.declared.stage.Move.TheVariants.{Write, Late, Wait}
 use Rattle.pm_model.specs.declared.stage.Change.{Change}
 use Rattle.pm_model.specs.declared.stage.Stage.{Stage}
 use Rattle.pm_model.specs.declared.stage.Then.{Then}
+use Rattle.pm_model.specs.Events.{held_from}
 use Rattle.pm_model.specs.Lawful.{Permits, last_time}
-use Rattle.pm_model.specs.LineOf.{is_actor_of, is_event_of, is_line_of}
-use Rattle.pm_model.specs.Views.{Views}
+use Rattle.pm_model.specs.LineOf.{is_actor_of, is_line_of}
+use Rattle.pm_model.specs.Views.{Views, device}
 use Rattle.pm_model.specs.World.{World, move, stage_at, world}
 use Rattle.pm_state.specs.declared.acting.Turn.{Turn}
 use Rattle.pm_state.specs.declared.acting.Turn.TheVariants as turn
-use Rattle.pm_state.specs.Standing.{IsActor, Standing, after_write}
-use Rattle.pm_state.specs.Tests.{fits, fits_call, fits_change, fits_event}
+use Rattle.pm_device.proofs.FreeLemmas.{can_free_all}
+use Rattle.pm_state.proofs.Fitting.{event_of_plan}
+use Rattle.pm_state.specs.Standing.{CanFreeAny, IsActor, Standing, after_write}
+use Rattle.pm_state.specs.Tests.{fits}
 use Rattle.pm_state.specs.Turns.{by_move, by_running, by_stage, ending_by, ending_of, running_due, turn_of}
 use Rattle.pm_turns.specs.Seats.{Seats}
 use Rattle.pm_book.specs.Pages.{Adds, IsKept, MayWrite, Pages, moment_from, world_of}
@@ -31,13 +35,10 @@ reverse-push lines lines' line h = subst (λ l. reverse l ≡ line ∷ reverse l
 permits : (p : Pages) (s : Stage) (line : Line) (c : Change) (next : Then) → MayWrite p s line c next → Permits p.plan p.lines line
 permits p s line c next may = record { stage = s; stands = may.stands; change = c; next = next; gives = may.gives; in_time = may.later }
 
-second_of_two : (a b : Bool) → a && b ≡ true → b ≡ true
-second_of_two a true h = refl
-second_of_two true false h = h
-second_of_two false false h = h
-
-fits_plan : (plan : Plan) (w : World) (actor : ActorId) (c : Change) (e : Event) → fits plan w actor c e ≡ true → is_event_of (length plan.devices) e ≡ true
-fits_plan plan w actor c e h = second_of_two (fits_change (length plan.devices) w.views c && fits_event (length plan.devices) w.views e && fits_call w actor e) _ h
+-- in the world of a lawful list a forced suspend finds its counts, as the law of held counts says
+pub can_free_any : (plan : Plan) (h : List Line) (w : World) → w ≡ world plan h
+    → ((d : DevId) (s : ℕ) → held_from plan (world plan h).views.held d s ≤ (device (world plan h).views (record { 0 = s })).usage) → CanFreeAny plan w.views
+can_free_any plan h w same law = λ d. can_free_all plan w.views d (λ s within. subst (λ (x : World). held_from plan x.views.held d s ≤ (device x.views (record { 0 = s })).usage) (sym same) (law d s))
 
 all_three : (a b c : Bool) → a ≡ true → b ≡ true → c ≡ true → a && b && c ≡ true
 all_three a b c x y z = cc (x, y, z)
@@ -52,7 +53,7 @@ actor_of plan (Timer d) h = below _ _ h
 
 line_of : (p : Pages) (s : Stage) (line : Line) (c : Change) (next : Then) → IsActor p.plan line.actor → MayWrite p s line c next → is_line_of p.plan line ≡ true
 line_of p s line c next actor may =
-    all_three (nat_lt line.time (2 ^ 63)) _ _ (below _ _ may.in_time) (actor_of p.plan line.actor actor) (fits_plan p.plan (world_of p) line.actor c line.event may.fits)
+    all_three (nat_lt line.time (2 ^ 63)) _ _ (below _ _ may.in_time) (actor_of p.plan line.actor actor) (event_of_plan p.plan (world_of p) line.actor c line.event may.fits)
 
 both : (a b : Bool) → a ≡ true → b ≡ true → a && b ≡ true
 both a b x y = cc (x, y)

@@ -48,7 +48,6 @@ impl Book {
         ensures ok { OnOk result (self.new ≡ record self.old { lines = line ∷ self.old.lines }) }
         ensures err { OnErr result (self.new ≡ self.old) }
     {
-        held_counts_are_taken();
         self.turns.reserve(line.event)?;
         self.lines
             .make_room(matches!(line.event, Event::Begin { .. }))?;
@@ -70,7 +69,6 @@ impl Book {
         if self.lines.ends() == 0 {
             return false;
         }
-        held_counts_are_taken();
         self.state.go_level(&self.plan, change, &line, then);
         self.lines.push_end(line);
         self.turns.settle(&self.plan, &self.state, stage, &line);
@@ -113,6 +111,7 @@ impl Book {
             return Ok(Step::AtLimit);
         }
         let time = self.moment(now);
+        held_counts_are_taken();
         match self.state.turn(&self.plan, actor, time) {
             Turn::Resting => Ok(Step::Resting),
             Turn::Running(at) => Ok(Step::Running(at)),
@@ -143,6 +142,7 @@ impl Book {
             return EndStep::AtLimit;
         }
         let time = self.moment(now);
+        held_counts_are_taken();
         match self.state.ending(&self.plan, actor, time) {
             Turn::Early(at) => EndStep::Early(at),
             Turn::Writes {

@@ -38,3 +38,4 @@ pub mod Spelling
 pub mod Text
 pub mod FirstBad
 pub mod NoWhy
+pub mod Verdict

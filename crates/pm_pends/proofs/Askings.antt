@@ -1,5 +1,5 @@
 -- What the shape of a stack says of links: a resume for a link stands above the stage that awaits it.
-use Rattle.std.proofs.Common.{ℕ, ◌≡◌, List, [], ◌∷◌, Some, None, ap, refl, ◌∙◌, inl, inr}
+use Rattle.std.proofs.Common.{ℕ, ◌≡◌, List, [], ◌∷◌, Some, None, ap, refl, ◌∙◌}
 use Rattle.std.specs.Option.{option_map}
 use Rattle.pm_base.specs.declared.DevId.{DevId}
 use Rattle.pm_model.specs.declared.plan.Plan.{Plan}

@@ -18,7 +18,7 @@ use Rattle.pm_model.specs.declared.stage.Stage.{Stage}
 use Rattle.pm_model.specs.declared.stage.Stage.TheVariants as stage
 use Rattle.pm_model.specs.Counted.{is_same}
 use Rattle.pm_model.specs.Excuse.{awaits_supplier, is_denied}
-use Rattle.pm_model.specs.Handing.{arrival, gone_on, take_code, after_code}
+use Rattle.pm_model.specs.Handing.{arrival, take_code, after_code}
 use Rattle.pm_model.specs.ResumeTable.{is_supplied}
 use Rattle.pm_model.specs.World.{top}
 use Rattle.pm_model.proofs.Arrivals.{on_handed, after_await}

@@ -1,12 +1,8 @@
 -- A row that takes a link calls the resume of its supplier.
-use Rattle.std.proofs.Common.{ℕ, zero, suc, ◌≡◌, ◌<◌, ◌⊎◌, Bool, true, false, not, ◌&&◌, ◌||◌, List, [], ◌∷◌, slice_get, Option, Some, None, ℤ, nat_eq, if◌then◌else◌, ap, refl, sym, ◌∙◌, subst, arith, inl, inr}
-use Rattle.std.specs.List.{list_any}
-use Rattle.std.proofs.lemmas.Bool.{false≢true}
+use Rattle.std.proofs.Common.{ℕ, ◌≡◌, ◌<◌, ◌⊎◌, Bool, true, false, ◌&&◌, Option, Some, None, ℤ, nat_eq, if◌then◌else◌, refl, sym, subst, arith, inl, inr}
 use Rattle.pm_model.specs.declared.stage.Change.{Change}
 use Rattle.pm_model.specs.declared.event.Word.TheVariants as word
-use Rattle.pm_model.specs.declared.rows.LinkRow.{LinkRow}
 use Rattle.pm_model.specs.Counted.{is_same, only_if, says_held}
-use Rattle.pm_model.specs.IsPlan.{are_distinct, is_same_pair}
 use Rattle.pm_base.specs.declared.DevId.{DevId}
 use Rattle.pm_base.specs.declared.Why.TheVariants as why
 use Rattle.pm_model.specs.declared.event.Command.{Command}

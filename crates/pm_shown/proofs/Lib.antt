@@ -9,3 +9,4 @@ pub mod Apart
 pub mod Replay
 pub mod Merging
 pub mod Empty
+pub mod BadLines

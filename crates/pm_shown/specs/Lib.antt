@@ -1,4 +1,5 @@
 pub mod Shown
 pub mod Broken
 pub mod Pieces
+pub mod BadTexts
 pub mod ThreeIslands

@@ -5,6 +5,7 @@
 #![tactic(auto, unfolding(pm_runs::proofs::CallTable::call_table))]
 
 pub mod broken;
+pub mod first_bad;
 pub mod islands;
 pub mod kept;
 pub mod pieces;

@@ -26,7 +26,7 @@ use Rattle.pm_model.specs.Lawful.{IsLawful, last_time}
 use Rattle.pm_model.specs.Row.{Row, writes, waits}
 use Rattle.pm_model.specs.Views.{Views, pending_of}
 use Rattle.pm_model.specs.WellFormed.{called_for}
-use Rattle.pm_model.specs.World.{World, row, place, after_line, start, world}
+use Rattle.pm_model.specs.World.{World, row, place, after_line, world}
 use Rattle.pm_model.proofs.Arrivals.{on_handed, after_await}
 use Rattle.pm_laws.proofs.Runs.{Paid, permitted, lawful_holds}
 use Rattle.pm_laws.proofs.Places.{IsPlaced, is_placed}
@@ -153,8 +153,8 @@ based_stack : (plan : Plan) (w : World) (line : Line) (p : Paid plan w line) →
 based_stack plan w line p it nested based = let st = stands plan w line.actor p.stage p.stands in elim st.either [
   | inl q ↦ rw q.0 (start_leaves plan w.views line.time line.actor p.stage (writes line.event p.change p.next) (stands_ready plan w line.actor p.stage p.stands q.0) (paid_row plan w line p) (record { paid = it.nests }))
   | inr is ↦
-    let base : IsBase plan line.actor (bottom (call_of p.stage) (drop 1 (place w line.actor))) = let all : IsOver (IsBase plan line.actor) (p.stage ∷ drop 1 (place w line.actor)) = subst (IsOver (IsBase plan line.actor)) is (based line.actor) in all in
-    gives_over plan line.actor (call_of p.stage) p.next (drop 1 (place w line.actor)) (has_started plan line.actor (call_of p.stage) (drop 1 (place w line.actor)) nested.2 base) it.nests nested.2 base
+      let base : IsBase plan line.actor (bottom (call_of p.stage) (drop 1 (place w line.actor))) = let all : IsOver (IsBase plan line.actor) (p.stage ∷ drop 1 (place w line.actor)) = subst (IsOver (IsBase plan line.actor)) is (based line.actor) in all in
+      gives_over plan line.actor (call_of p.stage) p.next (drop 1 (place w line.actor)) (has_started plan line.actor (call_of p.stage) (drop 1 (place w line.actor)) nested.2 base) it.nests nested.2 base
 ]
 
 based_line : (plan : Plan) (w : World) (line : Line) (p : Paid plan w line) → IsPlaced w line.actor → IsOver (IsBase plan line.actor) (after_then p.next (drop 1 (place w line.actor)))

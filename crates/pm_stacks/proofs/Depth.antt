@@ -1,5 +1,5 @@
 -- How deep a stack can be: the room falls strictly from a stage to the one above it.
-use Rattle.std.proofs.Common.{ℕ, ◌≡◌, ◌+◌, ◌<◌, ◌≤◌, Bool, true, false, List, [], ◌∷◌, Option, Some, None, length, if◌then◌else◌, refl, inl, inr, arith}
+use Rattle.std.proofs.Common.{ℕ, ◌≡◌, ◌+◌, ◌<◌, ◌≤◌, Bool, true, false, List, [], ◌∷◌, Some, None, length, refl, inl, inr, arith}
 use Rattle.pm_base.specs.declared.DevId.{DevId}
 use Rattle.pm_base.specs.declared.codes.TheConstants.{ASYNC}
 use Rattle.pm_model.specs.declared.event.Helper.{Helper}

@@ -1,5 +1,5 @@
 -- Every open stage, and every stage at which an actor stands, is fit and well formed; every setting and change is the plan's.
-use Rattle.std.proofs.Common.{ℕ, zero, suc, ◌≡◌, ◌+◌, ◌<◌, ◌≤◌, ◌^◌, Bool, true, ◌&&◌, List, [], ◌∷◌, Option, Some, None, ℤ, pos, neg_ℤ, int_le, length, nat_abs, nat_le, nat_lt, slice_get, ap, refl, sym, ◌∙◌, subst, arith, inl, inr}
+use Rattle.std.proofs.Common.{ℕ, zero, suc, ◌≡◌, ◌+◌, ◌<◌, ◌≤◌, ◌^◌, true, ◌&&◌, List, [], ◌∷◌, Option, Some, None, ℤ, pos, neg_ℤ, int_le, length, nat_abs, nat_le, slice_get, ap, refl, sym, ◌∙◌, subst, arith}
 use Rattle.std.specs.List.{All}
 use Rattle.std.specs.Option.{option_and_then, option_map_or}
 use Rattle.std.proofs.lemmas.Bool.{and_from, leb-true, lt-ltb}
@@ -126,7 +126,7 @@ changing_can plan v (change.DisableAtOnce d) room is = and_from _ _ is (room d)
 changing_can plan v _ room is = is
 
 -- what the row of a permitted line tells
-line_told : (plan : Plan) (h : List Line) (line : Line) → IsLawful plan h → (p : Permits plan h line) → IsTelling plan line.event × IsChanging plan p.change
+pub line_told : (plan : Plan) (h : List Line) (line : Line) → IsLawful plan h → (p : Permits plan h line) → IsTelling plan line.event × IsChanging plan p.change
 line_told plan h line lawful p =
     let w = world plan h in
     let holds = lawful_holds plan h lawful in

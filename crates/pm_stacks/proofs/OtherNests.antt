@@ -9,7 +9,6 @@ use Rattle.pm_model.specs.declared.event.Command.{Command}
 use Rattle.pm_model.specs.declared.event.Helper.{Helper}
 use Rattle.pm_model.specs.declared.event.Helper.TheVariants as helper
 use Rattle.pm_model.specs.declared.plan.Plan.{Plan}
-use Rattle.pm_model.specs.declared.stage.Await.TheVariants as await
 use Rattle.pm_model.specs.declared.stage.Purpose.TheVariants.{Plain}
 use Rattle.pm_model.specs.declared.stage.ControlStage.{ControlStage}
 use Rattle.pm_model.specs.declared.stage.ControlStage.TheVariants as control
@@ -20,11 +19,10 @@ use Rattle.pm_model.specs.declared.stage.IdleStage.TheVariants as idle
 use Rattle.pm_model.specs.declared.stage.Stage.TheVariants as stage
 use Rattle.pm_model.specs.ControlTable.{enabling, disabling, disable_starts, disable_ends, barrier_idles, barrier_resumes, barrier_ends, active_starts, active_gives, active_unwinds, active_takes, active_links, suspended_starts, tells_supplier, suppliers_idle, forbidding, allowing, sets, schedules, link_adds, link_dels, is_pair_in, control_starts, control_row}
 use Rattle.pm_model.specs.Derived.{has, first_held, first_free, next_supplier}
-use Rattle.pm_model.specs.HelperTable.{flags_of, to_idle, to_suspend, to_resume, begins, helper_starts, put_suspends, carries_out, timer_fires, helper_row}
+use Rattle.pm_model.specs.HelperTable.{begins, helper_starts, put_suspends, carries_out, timer_fires, helper_row}
 use Rattle.pm_model.specs.IdleTable.{idle_verdict, idle_ends, after_put, idle_row}
 use Rattle.pm_model.specs.ResumeTable.{is_supplied}
 use Rattle.pm_model.specs.Row.{Row}
-use Rattle.pm_model.specs.SuspendTable.{tells_parent}
 use Rattle.pm_model.specs.Views.{Views, pending_of}
 use Rattle.pm_model.specs.WellFormed.{called_for, control_device}
 use Rattle.pm_stacks.specs.Shape.{Fits, none, own, lowers, raises, MayZero, call_of, idle_call, is_odd, lowering, returns_resume, is_put_suspend}

@@ -1,5 +1,5 @@
 -- The rows of the helpers and of the control functions tell what is the plan's.
-use Rattle.std.proofs.Common.{ℕ, ◌≡◌, Bool, true, false, ◌&&◌, Option, Some, None, ℤ, pos, int_le, nat_abs, length, nat_eq, nat_lt, if◌then◌else◌, refl}
+use Rattle.std.proofs.Common.{ℕ, ◌≡◌, Bool, true, false, Option, Some, None, ℤ, nat_abs, length, nat_eq, nat_lt, if◌then◌else◌, refl}
 use Rattle.std.specs.Option.{option_map_or}
 use Rattle.pm_base.specs.declared.DevId.{DevId}
 use Rattle.pm_base.specs.declared.Req.{Req}
@@ -10,7 +10,6 @@ use Rattle.pm_model.specs.declared.event.Helper.{Helper}
 use Rattle.pm_model.specs.declared.event.Helper.TheVariants as helper
 use Rattle.pm_model.specs.declared.event.WorkAct.TheVariants.{Run}
 use Rattle.pm_model.specs.declared.plan.Plan.{Plan}
-use Rattle.pm_model.specs.declared.stage.Await.TheVariants as await
 use Rattle.pm_model.specs.declared.stage.Change.TheVariants as change
 use Rattle.pm_model.specs.declared.stage.ControlStage.{ControlStage}
 use Rattle.pm_model.specs.declared.stage.ControlStage.TheVariants as control
@@ -21,7 +20,7 @@ use Rattle.pm_model.specs.declared.stage.Then.{Then}
 use Rattle.pm_model.specs.Changes.{has_auto_timer}
 use Rattle.pm_model.specs.ControlTable.{enabling, disabling, disable_starts, disable_ends, barrier_idles, barrier_resumes, barrier_ends, active_starts, active_gives, active_unwinds, active_takes, active_links, suspended_starts, tells_supplier, suppliers_idle, forbidding, allowing, sets, schedules, link_adds, link_dels, control_starts, control_row}
 use Rattle.pm_model.specs.Derived.{first_held, first_free, next_supplier}
-use Rattle.pm_model.specs.HelperTable.{flags_of, begins, helper_starts, put_suspends, carries_out, timer_fires, helper_row}
+use Rattle.pm_model.specs.HelperTable.{begins, helper_starts, put_suspends, carries_out, timer_fires, helper_row}
 use Rattle.pm_model.specs.IsPlan.{is_command, is_operand}
 use Rattle.pm_model.specs.LineOf.{is_device_of}
 use Rattle.pm_model.specs.Row.{Row, writes}

@@ -1,10 +1,9 @@
 -- What an empty place has to start: a caller's next command, the item of a work item's device, or a timer's.
-use Rattle.std.proofs.Common.{ℕ, ◌≡◌, Bool, true, false, List, [], ◌∷◌, Option, Some, None, slice_get, if◌then◌else◌, ap, refl, sym, ◌∙◌, subst}
+use Rattle.std.proofs.Common.{ℕ, ◌≡◌, Bool, true, false, [], Option, Some, None, slice_get, if◌then◌else◌, refl, sym, subst}
 use Rattle.std.specs.Option.{option_and_then, option_map}
 use Rattle.pm_base.specs.declared.ActorId.{ActorId}
 use Rattle.pm_base.specs.declared.ActorId.TheVariants.{Caller, Work, Timer}
 use Rattle.pm_base.specs.declared.Armed.{Armed}
-use Rattle.pm_base.specs.declared.DevId.{DevId}
 use Rattle.pm_model.specs.declared.event.Command.{Command}
 use Rattle.pm_model.specs.declared.plan.Plan.{Plan}
 use Rattle.pm_model.specs.declared.rows.CallerRow.{CallerRow}
@@ -35,7 +34,7 @@ scripted plan w c command e = go (slice_get plan.callers c) refl e
     go None is e = cc
     go (Some caller) is e = record { caller = caller; at = called_by w c; calls = is; is = e }
 
-ready_is : (plan : Plan) (w : World) (a : ActorId) (s : Stage) → ready plan w a ≡ Some s → IsReady plan a s
+pub ready_is : (plan : Plan) (w : World) (a : ActorId) (s : Stage) → ready plan w a ≡ Some s → IsReady plan a s
 ready_is plan w (Caller c) s e = go (next_command plan w c) refl e
   where
     go : (o : Option Command) → next_command plan w c ≡ o → option_map (λ command. stage.Helper (at.Call command)) o ≡ Some s → IsReady plan (Caller c) s

@@ -6,7 +6,7 @@ use Rattle.pm_base.specs.declared.Cb.TheVariants as cb
 use Rattle.pm_model.specs.declared.stage.Change.{Change}
 use Rattle.pm_model.specs.declared.event.Event.TheVariants as event
 use Rattle.pm_base.specs.declared.DevId.{DevId}
-use Rattle.pm_base.specs.declared.codes.TheConstants.{NOWAIT, EACCES, EINPROGRESS}
+use Rattle.pm_base.specs.declared.codes.TheConstants.{NOWAIT, EINPROGRESS}
 use Rattle.pm_model.specs.declared.plan.Plan.{Plan}
 use Rattle.pm_model.specs.declared.stage.ResumeCall.{ResumeCall}
 use Rattle.pm_model.specs.declared.stage.ResumeStage.{ResumeStage}
@@ -19,6 +19,7 @@ use Rattle.pm_model.specs.Row.{Row, writes, goes, back}
 use Rattle.pm_model.specs.SuspendTable.{may_not_wait}
 use Rattle.pm_model.specs.Views.{Views}
 use Rattle.pm_stacks.specs.Shape.{Fits, HoldsParent, IsMarked, IsEndCode, resume_call, raising}
+use Rattle.pm_stacks.proofs.Codes.{callback_ends}
 use Rattle.pm_stacks.proofs.Found.{held_is, free_is}
 use Rattle.pm_stacks.proofs.Tests.{front, rear, none_of}
 use Rattle.pm_stacks.proofs.Nesting.{Nesting, odd_one, odd_five}
@@ -40,6 +41,16 @@ pub minds_has : (plan : Plan) (v : Views) (d : DevId) (tried : Bool) → minds_p
 unfolding minds_parent
 minds_has plan v d tried e = front _ _ (front _ _ (front _ _ e))
 
+-- and the mark held is set by then
+minds_held : (plan : Plan) (v : Views) (r : ResumeCall) (tried : Bool) → has_parent plan r.dev && not r.held ≡ false → minds_parent plan v r.dev && not tried ≡ true
+    → HoldsParent plan r
+minds_held plan v r tried taken minds = go (has_parent plan r.dev) r.held (minds_has plan v r.dev tried minds) taken
+  where
+    go : (has held : Bool) → has ≡ true → has && not held ≡ false → held && has ≡ true
+    go true true is taken = refl
+    go true false is taken = cc
+    go false held is taken = cc
+
 no_wait : (a b : Bool) (f : ℕ) → a && may_not_wait f ≡ false → b && may_not_wait f ≡ false → a || b ≡ true → may_not_wait f ≡ false
 no_wait true b f x y e = x
 no_wait false true f x y e = y
@@ -55,7 +66,7 @@ end_codes f = go (has f NOWAIT)
 
 verdict_nests : (plan : Plan) (v : Views) (r : ResumeCall) (tried : Bool) → Nests plan r (resume_verdict plan v r tried)
 unfolding resume_verdict
-verdict_nests plan v r tried = search (either, ok, returns_nest, minds_has, no_wait, end_codes) depth 40
+verdict_nests plan v r tried = search (either, ok, returns_nest, minds_has, minds_held, no_wait, end_codes) depth 40
 
 takes_nest : (plan : Plan) (v : Views) (r : ResumeCall) (t : ℕ) (x : Option (ℕ × DevId)) → IsMarked plan r → first_free plan v r.dev ≡ x
     → Nests plan r (resume_takes plan v r t x)
@@ -82,34 +93,29 @@ unwinds_nest : (plan : Plan) (v : Views) (r : ResumeCall) (c : ℤ) → is_suppl
 unfolding resume_unwinds
 unwinds_nest plan v r c bad = gives_nest plan v r c (first_held plan v r.dev) bad refl
 
--- a callback's code is one of the plan's
-abbrev pub HasCodes : Plan → Type 0
-HasCodes plan = (v : Views) (k : Cb) (d : DevId) → IsEndCode (callback_code plan v k d)
+bad_code : (plan : Plan) (v : Views) (k : Cb) (d : DevId) → int_eq (callback_code plan v k d) (pos 0) ≡ false → is_supplied (callback_code plan v k d) ≡ false
+bad_code plan v k d e = let ends = callback_ends plan v k d in rw (e, ends.0, ends.1) refl
 
-bad_code : (plan : Plan) (v : Views) (k : Cb) (d : DevId) → HasCodes plan → int_eq (callback_code plan v k d) (pos 0) ≡ false
-    → is_supplied (callback_code plan v k d) ≡ false
-bad_code plan v k d codes e = rw (e, (codes v k d).0, (codes v k d).1) refl
-
-ends_nest : (plan : Plan) (v : Views) (r : ResumeCall) → HasCodes plan → IsMarked plan r → Nests plan r (resume_ends plan v r)
+ends_nest : (plan : Plan) (v : Views) (r : ResumeCall) → IsMarked plan r → Nests plan r (resume_ends plan v r)
 unfolding resume_ends
-ends_nest plan v r codes m = search (either, ok, bad_code) depth 12
+ends_nest plan v r m = search (either, ok, bad_code) depth 12
 
 domain_nests : (plan : Plan) (v : Views) (r : ResumeCall) (c : ℤ) → is_supplied c ≡ false → Nests plan r (resume_domain plan v r c)
 unfolding resume_domain
 domain_nests plan v r c bad = search (both, ok, unwinds_nest) depth 12
 
-pub resume_nests : (plan : Plan) (v : Views) (t : ℕ) (s : ResumeStage) → HasCodes plan → Fits plan (stage.Resume s)
+pub resume_nests : (plan : Plan) (v : Views) (t : ℕ) (s : ResumeStage) → Fits plan (stage.Resume s)
     → Obeys (Nesting plan (raising (resume_call s))) (resume_row plan v s t)
-resume_nests plan v t (resume.Enter r) codes h = search ok depth 12
-resume_nests plan v t (resume.Verdict r tried) codes h = verdict_nests plan v r tried
-resume_nests plan v t (resume.Waiting r tried) codes h = search (both, waiting, verdict_nests) depth 12
-resume_nests plan v t (resume.Links r) codes h = links_nest plan v r t h
-resume_nests plan v t (resume.Supplied r c) codes h = search (either, links_nest, unwinds_nest) depth 12
-resume_nests plan v t (resume.Callback r) codes h = search ok depth 12
-resume_nests plan v t (resume.Running r since) codes h = ends_nest plan v r codes h
-resume_nests plan v t (resume.Resumed r) codes h = search ok depth 12
-resume_nests plan v t (resume.Idle r) codes h = search (ok, odd_one) depth 12
-resume_nests plan v t (resume.Done r c) codes h = returns_nest plan r c _
-resume_nests plan v t (resume.Parent r c) codes h = search (ok, odd_five, holds_has) depth 12
-resume_nests plan v t (resume.Domain r c) codes h = domain_nests plan v r c h
-resume_nests plan v t (resume.Unwind r c) codes h = unwinds_nest plan v r c h
+resume_nests plan v t (resume.Enter r) h = search ok depth 12
+resume_nests plan v t (resume.Verdict r tried) h = verdict_nests plan v r tried
+resume_nests plan v t (resume.Waiting r tried) h = search (both, waiting, verdict_nests) depth 12
+resume_nests plan v t (resume.Links r) h = links_nest plan v r t h
+resume_nests plan v t (resume.Supplied r c) h = search (either, links_nest, unwinds_nest) depth 12
+resume_nests plan v t (resume.Callback r) h = search ok depth 12
+resume_nests plan v t (resume.Running r since) h = ends_nest plan v r h
+resume_nests plan v t (resume.Resumed r) h = search ok depth 12
+resume_nests plan v t (resume.Idle r) h = search (ok, odd_one) depth 12
+resume_nests plan v t (resume.Done r c) h = returns_nest plan r c _
+resume_nests plan v t (resume.Parent r c) h = search (ok, odd_five, holds_has) depth 12
+resume_nests plan v t (resume.Domain r c) h = domain_nests plan v r c h
+resume_nests plan v t (resume.Unwind r c) h = unwinds_nest plan v r c h

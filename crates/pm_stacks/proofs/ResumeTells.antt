@@ -16,7 +16,7 @@ use Rattle.pm_model.specs.Row.{Row, writes, goes, back}
 use Rattle.pm_model.specs.Views.{Views}
 use Rattle.pm_model.specs.WellFormed.{is_in, resume_device}
 use Rattle.pm_stacks.specs.Fit.{is_result, resume_code}
-use Rattle.pm_stacks.specs.Shape.{Fits, HoldsParent, resume_call}
+use Rattle.pm_stacks.specs.Shape.{Fits, resume_call}
 use Rattle.pm_stacks.proofs.Found.{held_is, free_is}
 use Rattle.pm_stacks.proofs.Obeying.{Obeys, ok, waiting, either, both}
 use Rattle.pm_stacks.proofs.PlanLaw.{parent_in, supplier_in}

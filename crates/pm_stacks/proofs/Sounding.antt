@@ -1,5 +1,5 @@
 -- Every open stage stays sound where an actor's stage gives way.
-use Rattle.std.proofs.Common.{ℕ, ◌≡◌, ◌<◌, ◌≤◌, Bool, true, false, List, [], ◌∷◌, ◌++◌, drop, Option, Some, None, ℤ, length, nat_eq, nat_lt, if◌then◌else◌, refl, sym, ◌∙◌, subst, arith, inl, inr}
+use Rattle.std.proofs.Common.{ℕ, ◌≡◌, ◌<◌, ◌≤◌, Bool, true, false, List, [], ◌∷◌, ◌++◌, drop, Option, Some, None, ℤ, length, nat_eq, nat_lt, if◌then◌else◌, refl, sym, subst, arith, inl, inr}
 use Rattle.std.specs.Option.{option_map_or}
 use Rattle.std.proofs.lemmas.Bool.{lt-ltb, ltb-true}
 use Rattle.pm_base.specs.declared.ActorId.{ActorId}
@@ -15,7 +15,6 @@ use Rattle.pm_model.specs.declared.stage.Await.{Await}
 use Rattle.pm_model.specs.declared.stage.Await.TheVariants as await
 use Rattle.pm_model.specs.declared.stage.Handed.{Handed}
 use Rattle.pm_model.specs.declared.stage.Handed.TheVariants as handed
-use Rattle.pm_model.specs.declared.stage.HelperStage.TheVariants as at
 use Rattle.pm_model.specs.declared.stage.IdleStage.TheVariants as idle
 use Rattle.pm_model.specs.declared.stage.ResumeStage.TheVariants as resume
 use Rattle.pm_model.specs.declared.stage.Stage.{Stage}
@@ -33,7 +32,7 @@ use Rattle.pm_model.specs.World.{World, place, stage_at}
 use Rattle.pm_model.proofs.Arrivals.{on_handed, after_await}
 use Rattle.pm_laws.specs.Sizes.{HasPlaces}
 use Rattle.pm_laws.proofs.Places.{IsPlaced}
-use Rattle.pm_stacks.specs.Fit.{IsTold, is_result}
+use Rattle.pm_stacks.specs.Fit.{is_result}
 use Rattle.pm_stacks.proofs.PlanLaw.{command_lawful}
 use Rattle.pm_stacks.proofs.Readying.{IsReady, stands_ready}
 use Rattle.pm_stacks.proofs.Standing.{Stands}
@@ -52,13 +51,13 @@ more_told : (plan : Plan) (v v' : Views) (k : Cb) (d : DevId) → HasBegunMore p
 more_told plan v v' k d more inside some = omega (arith, some, more k d (ltb-true _ _ inside))
 
 sound_later : (plan : Plan) (v v' : Views) (t t' : ℕ) → HasBegunMore plan v v' → t ≤ t' → (s : Stage) → IsSound plan v t s → IsSound plan v' t' s
-sound_later plan v v' t t' more le (stage.Idle (idle.Running d f since)) (inside, small, good, begun, told) =
+sound_later plan v v' t t' more le (stage.Idle (idle.Running d f since)) (inside, small, good, timely, told) =
     (inside, small, good, omega arith, more_told plan v v' cb.Idle d more inside told)
-sound_later plan v v' t t' more le (stage.Suspend (suspend.Running d f since)) (inside, small, good, begun, told) =
+sound_later plan v v' t t' more le (stage.Suspend (suspend.Running d f since)) (inside, small, good, timely, told) =
     (inside, small, good, omega arith, more_told plan v v' cb.Suspend d more inside told)
-sound_later plan v v' t t' more le (stage.Resume (resume.Running r since)) (inside, small, good, begun, told) =
+sound_later plan v v' t t' more le (stage.Resume (resume.Running r since)) (inside, small, good, timely, told) =
     (inside, small, good, omega arith, more_told plan v v' cb.Resume r.dev more inside told)
-sound_later plan v v' t t' more le s (inside, small, good, begun, told) = (inside, small, good, omega arith, told)
+sound_later plan v v' t t' more le s (inside, small, good, timely, told) = (inside, small, good, omega arith, told)
 
 pub all_later : (plan : Plan) (v v' : Views) (t t' : ℕ) → HasBegunMore plan v v' → t ≤ t' → (stack : List Stage) → AreSound plan v t stack → AreSound plan v' t' stack
 all_later plan v v' t t' more le [] all = tt
@@ -69,13 +68,13 @@ abbrev pub HasBegunBy : Plan → Event → Views → Type 0
 HasBegunBy plan e v = (k : Cb) (d : DevId) → d.0 < length plan.devices → e ≡ event.Begin d k → 0 < begun v k d
 
 fresh_sound : (plan : Plan) (v v' : Views) (t : ℕ) (e : Event) → HasBegunBy plan e v' → (s : Stage) → IsFresh plan v t e s → IsSound plan v' t s
-fresh_sound plan v v' t e by (stage.Idle (idle.Running d f since)) (inside, small, good, begun, begins) =
-    (inside, small, good, begun, by cb.Idle d (ltb-true _ _ inside) begins)
-fresh_sound plan v v' t e by (stage.Suspend (suspend.Running d f since)) (inside, small, good, begun, begins) =
-    (inside, small, good, begun, by cb.Suspend d (ltb-true _ _ inside) begins)
-fresh_sound plan v v' t e by (stage.Resume (resume.Running r since)) (inside, small, good, begun, begins) =
-    (inside, small, good, begun, by cb.Resume r.dev (ltb-true _ _ inside) begins)
-fresh_sound plan v v' t e by s (inside, small, good, begun, told) = (inside, small, good, begun, told)
+fresh_sound plan v v' t e by (stage.Idle (idle.Running d f since)) (inside, small, good, timely, begins) =
+    (inside, small, good, timely, by cb.Idle d (ltb-true _ _ inside) begins)
+fresh_sound plan v v' t e by (stage.Suspend (suspend.Running d f since)) (inside, small, good, timely, begins) =
+    (inside, small, good, timely, by cb.Suspend d (ltb-true _ _ inside) begins)
+fresh_sound plan v v' t e by (stage.Resume (resume.Running r since)) (inside, small, good, timely, begins) =
+    (inside, small, good, timely, by cb.Resume r.dev (ltb-true _ _ inside) begins)
+fresh_sound plan v v' t e by s (inside, small, good, timely, told) = (inside, small, good, timely, told)
 
 -- a stage that goes on with a code is as sound as it was
 abbrev HandsSound : Plan → Views → ℕ → Handed → Type 0
@@ -88,13 +87,13 @@ either_sound plan v t false x y p q = q
 
 hands_sound : (plan : Plan) (v : Views) (t : ℕ) (a : Await) (c : ℤ) → is_result c ≡ true → IsSound plan v t (stage.Await a) → HandsSound plan v t (take_code a c)
 unfolding take_code
-hands_sound plan v t (await.ResumePut r kept) c good (inside, small, is, begun, told) = is
-hands_sound plan v t (await.ResumeSupplier r link) c good (inside, small, is, begun, told) = (inside, small, good, begun, tt)
-hands_sound plan v t (await.ActiveSupplier d link) c good (inside, small, is, begun, told) =
-    either_sound plan v t (is_supplied c) _ _ (inside, small, is, begun, tt) (inside, small, good, begun, tt)
-hands_sound plan v t (await.Return h d) c good (inside, small, is, begun, told) = (inside, small, good, begun, told)
-hands_sound plan v t (await.ReturnZero h d) c good (inside, small, is, begun, told) = (inside, small, refl, begun, told)
-hands_sound plan v t _ c good (inside, small, is, begun, told) = (inside, small, is, begun, tt)
+hands_sound plan v t (await.ResumePut r kept) c good (inside, small, is, timely, told) = is
+hands_sound plan v t (await.ResumeSupplier r link) c good (inside, small, is, timely, told) = (inside, small, good, timely, tt)
+hands_sound plan v t (await.ActiveSupplier d link) c good (inside, small, is, timely, told) =
+    either_sound plan v t (is_supplied c) _ _ (inside, small, is, timely, tt) (inside, small, good, timely, tt)
+hands_sound plan v t (await.Return h d) c good (inside, small, is, timely, told) = (inside, small, good, timely, told)
+hands_sound plan v t (await.ReturnZero h d) c good (inside, small, is, timely, told) = (inside, small, refl, timely, told)
+hands_sound plan v t _ c good (inside, small, is, timely, told) = (inside, small, is, timely, tt)
 
 handed_sound : (plan : Plan) (v : Views) (t : ℕ) (h : Handed) (rest : List Stage) → HandsSound plan v t h → AreSound plan v t rest
     → ((k : ℤ) → is_result k ≡ true → AreSound plan v t (after_code rest k)) → AreSound plan v t (on_handed h rest (after_code rest))

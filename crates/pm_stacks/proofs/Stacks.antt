@@ -1,5 +1,5 @@
 -- The stacks of all actors keep their shape, after every lawful list of lines.
-use Rattle.std.proofs.Common.{ℕ, zero, suc, ◌≡◌, ◌<◌, ◌≤◌, Bool, true, false, ◌&&◌, List, [], ◌∷◌, Some, None, drop, length, map, slice_get, slice_set, slice_index_or, ap, refl, sym, ◌∙◌, subst, inl, inr, arith}
+use Rattle.std.proofs.Common.{ℕ, zero, suc, ◌≡◌, ◌<◌, ◌≤◌, Bool, true, false, ◌&&◌, List, [], ◌∷◌, Some, drop, length, map, slice_get, slice_set, slice_index_or, ap, refl, sym, ◌∙◌, subst, inl, inr, arith}
 use Rattle.std.specs.Option.{option_and_then, unwrap_or}
 use Rattle.std.proofs.lemmas.Bool.{false≢true}
 use Rattle.std.proofs.lemmas.Bool.Decides.{eqb_tells}
@@ -33,7 +33,6 @@ use Rattle.pm_laws.proofs.Runs.{Holds, Paid, permitted, lawful_holds, views_afte
 use Rattle.pm_laws.proofs.Switches.{held_after}
 use Rattle.pm_stacks.specs.Fit.{HasDelays}
 use Rattle.pm_stacks.specs.Shape.{Fits, call_of, IsNested, AreNested}
-use Rattle.pm_stacks.proofs.Codes.{has_codes}
 use Rattle.pm_stacks.proofs.Found.{HeldAreRuntime}
 use Rattle.pm_stacks.proofs.Nesting.{Gives, Nesting, nested_goes, stands_nested}
 use Rattle.pm_stacks.proofs.Obeying.{Duty, Obeys}
@@ -74,7 +73,7 @@ obeys_same P x r e o = let same : x ≡ r = cc in subst (Obeys P) same o
 row_nests : (plan : Plan) (v : Views) (t : ℕ) (s : Stage) (r : Row) → HeldAreRuntime plan v → Fits plan s → row plan v s t ≡ Some r → Obeys (Nesting plan (call_of s)) r
 row_nests plan v t (stage.Idle s) r runtime h e = obeys_same _ _ r e (idle_nests plan v t s)
 row_nests plan v t (stage.Suspend s) r runtime h e = obeys_same _ _ r e (suspend_nests plan v t s h)
-row_nests plan v t (stage.Resume s) r runtime h e = obeys_same _ _ r e (resume_nests plan v t s (has_codes plan) h)
+row_nests plan v t (stage.Resume s) r runtime h e = obeys_same _ _ r e (resume_nests plan v t s h)
 row_nests plan v t (stage.Helper s) r runtime h e = obeys_same _ _ r e (helper_nests plan v t s h)
 row_nests plan v t (stage.Control s) r runtime h e = obeys_same _ _ r e (control_nests plan v t s runtime h)
 row_nests plan v t (stage.Await s) r runtime h e = cc

@@ -1,6 +1,5 @@
 -- The rows of suspend and of idle tell what is the plan's.
 use Rattle.std.proofs.Common.{ℕ, ◌≡◌, true, Option, Some, None, length, nat_lt, refl}
-use Rattle.pm_base.specs.declared.Cb.TheVariants as cb
 use Rattle.pm_base.specs.declared.DevId.{DevId}
 use Rattle.pm_model.specs.declared.plan.Plan.{Plan}
 use Rattle.pm_model.specs.declared.stage.IdleStage.{IdleStage}

@@ -1,5 +1,5 @@
 -- What a row tells and leaves: devices, flags, codes and times are the plan's.
-use Rattle.std.proofs.Common.{ℕ, ◌≡◌, ◌<◌, ◌≤◌, Bool, true, false, not, ◌&&◌, List, [], ◌∷◌, Option, Some, None, ℤ, pos, int_le, length, nat_lt, bit_or, if◌then◌else◌, refl, arith}
+use Rattle.std.proofs.Common.{ℕ, ◌≡◌, ◌≤◌, Bool, true, false, List, [], ◌∷◌, Option, Some, None, ℤ, pos, int_le, length, nat_lt, bit_or, if◌then◌else◌, refl, arith}
 use Rattle.std.specs.Option.{option_map_or}
 use Rattle.std.proofs.lemmas.Bool.{and_from, lt-ltb, ltb-true}
 use Rattle.std.proofs.lemmas.Nat.{or_lt}
@@ -17,13 +17,11 @@ use Rattle.pm_model.specs.declared.event.WorkAct.TheVariants.{Queue}
 use Rattle.pm_model.specs.declared.plan.Plan.{Plan}
 use Rattle.pm_model.specs.declared.stage.Change.{Change}
 use Rattle.pm_model.specs.declared.stage.Change.TheVariants as change
-use Rattle.pm_model.specs.declared.stage.HelperStage.TheVariants as at
 use Rattle.pm_model.specs.declared.stage.IdleStage.TheVariants as idle
 use Rattle.pm_model.specs.declared.stage.ResumeStage.TheVariants as resume
 use Rattle.pm_model.specs.declared.stage.Stage.{Stage}
 use Rattle.pm_model.specs.declared.stage.Stage.TheVariants as stage
 use Rattle.pm_model.specs.declared.stage.SuspendStage.TheVariants as suspend
-use Rattle.pm_model.specs.declared.stage.Then.{Then}
 use Rattle.pm_model.specs.Derived.{callback_code, fields, has, refusal}
 use Rattle.pm_model.specs.IsPlan.{is_code, is_command}
 use Rattle.pm_model.specs.LineOf.{is_device_of, is_why_of, is_work_line}

@@ -1,7 +1,6 @@
 -- What every open stage of a run has, and what every setting and every change is (this project's own).
 use Rattle.std.specs.Prelude.{ℕ, ◌≡◌, ◌<◌, ◌≤◌, Bool, true, ◌&&◌, ℤ, pos, neg_ℤ, int_le, length, nat_lt}
 use Rattle.std.specs.Option.{option_map_or}
-use Rattle.pm_base.specs.declared.ActorId.{ActorId}
 use Rattle.pm_base.specs.declared.Cb.TheVariants as cb
 use Rattle.pm_base.specs.declared.DevId.{DevId}
 use Rattle.pm_base.specs.declared.limits.TheConstants.{MAX_MS, MIN_CODE}

@@ -187,7 +187,7 @@ IsBottom _ = Unit {0}
 abbrev pub IsMarked : Plan → ResumeCall → Type 0
 IsMarked plan r = has_parent plan r.dev && not r.held ≡ false
 
--- a code that ends a resume which has begun, and that no parent's count waits for
+-- a code with which a resume ends that found its device neither Active nor disabled
 abbrev pub IsEndCode : ℤ → Type 0
 IsEndCode c = (int_eq c (pos 1) ≡ false) × (int_eq c EACCES ≡ false)
 
@@ -199,7 +199,8 @@ HoldsParent plan r = r.held && has_parent plan r.dev ≡ true
 abbrev pub IsSyncOrQuiet : Plan → DevId → ℕ → Type 0
 IsSyncOrQuiet plan d f = (has f ASYNC ≡ false) ⊎ (no_callbacks plan d ≡ true)
 
--- what holds of each stage
+-- what a stage of its kind has: a suspend that has begun its callback is no asynchronous one, one that waits may wait, a
+-- resume that goes on holds a count on the parent, and codes are those of a failure, or of an end
 abbrev pub Fits : Plan → Stage → Type 0
 Fits plan (stage.Suspend (suspend.Waiting d f)) = may_not_wait f ≡ false
 Fits plan (stage.Suspend (suspend.Running d f since)) = has f ASYNC ≡ false
@@ -221,6 +222,7 @@ Fits plan (stage.Resume (resume.Parent r c)) = HoldsParent plan r
 Fits plan (stage.Resume (resume.Domain r c)) = is_supplied c ≡ false
 Fits plan (stage.Resume (resume.Unwind r c)) = is_supplied c ≡ false
 Fits plan (stage.Control (control.ActiveUnwind d c)) = is_supplied c ≡ false
+Fits plan (stage.Await (await.ResumeParent r)) = HoldsParent plan r
 Fits plan (stage.Await (await.ResumeSupplier r link)) = IsMarked plan r
 Fits plan (stage.Await (await.ResumeUnwind r c)) = is_supplied c ≡ false
 Fits plan (stage.Await (await.ResumePut r c)) = HoldsParent plan r
@@ -231,7 +233,7 @@ Fits plan (stage.Helper (at.PutSuspends c)) = is_put_suspend c.helper ≡ true
 Fits plan (stage.Control (control.Start c)) = returns_resume c.helper ≡ false
 Fits plan _ = Unit {0}
 
--- below a stage of this call stand only stages that await the one above
+-- below a stage of this call each stage awaits the one above it, and is one of its kind
 abbrev pub Nested : Plan → Call → List Stage → Type 0
 Nested plan k [] = IsBottom k
 Nested plan k (s ∷ rest) = MayOver plan s k × Fits plan s × Nested plan (call_of s) rest

@@ -1,6 +1,5 @@
 -- Bytes that are cut at their newlines.
-use Rattle.std.proofs.Common.{ℕ, zero, suc, ◌≡◌, ◌≢◌, ◌+◌, ◌≤◌, ◌⊎◌, inl, inr, Bool, true, false, not, ◌&&◌, List, [], ◌∷◌, ◌++◌, length, nat_eq, take, reverse, if◌then◌else◌, ap, refl, sym, ◌∙◌, arith}
-use Rattle.std.specs.List.{list_all, starts_with}
+use Rattle.std.proofs.Common.{ℕ, zero, suc, ◌≡◌, ◌≢◌, ◌≤◌, ◌⊎◌, inl, inr, Bool, true, false, not, List, [], ◌∷◌, ◌++◌, length, nat_eq, reverse, if◌then◌else◌, ap, refl, sym, ◌∙◌, arith}
 use Rattle.std.proofs.lemmas.Bool.{and_from, and_parts, eqb-true, not-true}
 use Rattle.std.proofs.lemmas.List.{reverse-append, append_assoc, append_cancel_right, reverse-reverse}
 use Rattle.std.proofs.lemmas.List.Folds.{list_all-append}
@@ -94,7 +93,7 @@ pub none_left : (n : ℕ) → first_lines n [] ≡ []
 none_left zero = refl
 none_left (suc n) = refl
 
-first_piece : (n : ℕ) (p rest : List ℕ) → is_within_line p ≡ true → first_lines (suc n) (p ++ (10 ∷ rest)) ≡ p ++ (10 ∷ first_lines n rest)
+pub first_piece : (n : ℕ) (p rest : List ℕ) → is_within_line p ≡ true → first_lines (suc n) (p ++ (10 ∷ rest)) ≡ p ++ (10 ∷ first_lines n rest)
 first_piece n [] rest c = refl
 first_piece n (b ∷ p) rest c =
     let parts = and_parts (is_inside b) (is_within_line p) c in
@@ -103,6 +102,13 @@ first_piece n (b ∷ p) rest c =
 
 pub one_piece : (n : ℕ) (p : List ℕ) → is_within_line p ≡ true → first_lines (suc n) (p ++ newline) ≡ p ++ newline
 one_piece n p c = first_piece n p [] c ∙ ap (λ x. p ++ (10 ∷ x)) (none_left n)
+
+pub one_cut : (r : List ℕ) → is_within_line r ≡ true → first_lines 1 r ≡ r
+one_cut [] c = refl
+one_cut (b ∷ r) c =
+    let parts = and_parts (is_inside b) (is_within_line r) c in
+    let differ : nat_eq b 10 ≡ false = not-true (nat_eq b 10) parts.0 in
+    rw differ (ap (λ x. b ∷ x) (one_cut r parts.1))
 
 -- The first lines of bytes with one more line are first lines of the bytes, or all.
 pub front_or_all :

@@ -1,5 +1,5 @@
 -- Whether bytes are the text of a line that may come next is decided: by reading them, and by computing the move.
-use Rattle.std.proofs.Common.{ℕ, ◌≡◌, ◌<◌, ◌≤◌, ◌^◌, ◌⊎◌, inl, inr, Bool, true, false, ◌&&◌, List, [], ◌∷◌, Option, Some, None, Result, Ok, Err, length, nat_le, nat_lt, ap, refl, sym, subst, ◌∙◌, arith}
+use Rattle.std.proofs.Common.{ℕ, ◌≡◌, ◌<◌, ◌≤◌, ◌^◌, ◌⊎◌, inl, inr, Bool, true, false, ◌&&◌, List, [], ◌∷◌, Option, Some, None, Result, Ok, Err, length, nat_le, nat_lt, ap, refl, subst, ◌∙◌, arith}
 use Rattle.std.specs.List.{list_all}
 use Rattle.std.specs.Str.{bytes_eq}
 use Rattle.std.proofs.lemmas.Bool.{and_parts, ltb-true}
@@ -16,13 +16,13 @@ use Rattle.pm_model.specs.declared.stage.Move.TheVariants.{Write, Late, Wait}
 use Rattle.pm_model.specs.declared.stage.Stage.{Stage}
 use Rattle.pm_model.specs.declared.stage.Then.{Then}
 use Rattle.pm_model.specs.FirstBad.{AreLinesOf}
-use Rattle.pm_model.specs.Lawful.{IsLawful, Permits, last_time}
+use Rattle.pm_model.specs.Lawful.{Permits, last_time}
 use Rattle.pm_model.specs.LineOf.{is_actor_of, is_event_of, is_line_of}
 use Rattle.pm_model.specs.NoWhy.{IsPermittedSometime, at_time}
 use Rattle.pm_model.specs.Spelling.{line_text}
 use Rattle.pm_model.specs.Text.{IsTextBehind, names_of}
 use Rattle.pm_model.specs.World.{move, stage_at, world}
-use Rattle.pm_texts.proofs.Formats.{IsTextIn, line_is, one_line}
+use Rattle.pm_texts.proofs.Formats.{line_is, one_line}
 use Rattle.pm_times.specs.Times.{IsPermittedAt, moments}
 use Rattle.pm_times.proofs.Deciding.{found}
 use Rattle.pm_texts.specs.Next.{IsNext}
@@ -75,8 +75,8 @@ event_decided plan line is e =
         let texts = (bytes_eq-Decides (line_text (names_of plan) (record line { event = e })) (line_text (names_of plan) line)).0 y in
         inl (ap (λ (l : Line). l.event) (distinct1 plan (record line { event = e }) line x is texts))
     go true x false y = inr (λ same.
-      let texts = (bytes_eq-Decides (line_text (names_of plan) (record line { event = e })) (line_text (names_of plan) line)).1 (ap (λ (l : Line). line_text (names_of plan) l) (other same)) in
-      cc (y, texts))
+        let texts = (bytes_eq-Decides (line_text (names_of plan) (record line { event = e })) (line_text (names_of plan) line)).1 (ap (λ (l : Line). line_text (names_of plan) l) (other same)) in
+        cc (y, texts))
 
 -- a line of the plan may come next at a time, or may not
 pub permits_decided : (plan : Plan) (h : List Line) (line : Line) → is_line_of plan line ≡ true → (t : ℕ) → Decided (Permits plan h (at_time line t))
@@ -96,30 +96,30 @@ permits_decided plan h line is t = at_stage (stage_at plan (world plan h) line.a
     })
     at_event s stands e c next gives (inl same) false late = inr (λ p. let in_time : last_time h ≤ t = p.in_time in grind (arith, nat_tests))
     at_event s stands e c next gives (inr other) b late = inr (λ p.
-      let stood : stage_at plan (world plan h) line.actor ≡ Some p.stage = p.stands in
-      let one : s ≡ p.stage = cc in
-      let moved : move plan (world plan h).views s t ≡ Some (Write line.event p.change p.next) = rw one p.gives in
-      let same : e ≡ line.event = cc in
-      other same)
+        let stood : stage_at plan (world plan h) line.actor ≡ Some p.stage = p.stands in
+        let one : s ≡ p.stage = cc in
+        let moved : move plan (world plan h).views s t ≡ Some (Write line.event p.change p.next) = rw one p.gives in
+        let same : e ≡ line.event = cc in
+        other same)
 
     at_move :
         (s : Stage) → stage_at plan (world plan h) line.actor ≡ Some s
         → (m : Option Move) → move plan (world plan h).views s t ≡ m → Decided (Permits plan h (at_time line t))
     at_move s stands None e = inr (λ p.
-      let stood : stage_at plan (world plan h) line.actor ≡ Some p.stage = p.stands in
-      let one : s ≡ p.stage = cc in
-      let moved : move plan (world plan h).views s t ≡ Some (Write line.event p.change p.next) = rw one p.gives in
-      cc)
+        let stood : stage_at plan (world plan h) line.actor ≡ Some p.stage = p.stands in
+        let one : s ≡ p.stage = cc in
+        let moved : move plan (world plan h).views s t ≡ Some (Write line.event p.change p.next) = rw one p.gives in
+        cc)
     at_move s stands (Some (Late at)) e = inr (λ p.
-      let stood : stage_at plan (world plan h) line.actor ≡ Some p.stage = p.stands in
-      let one : s ≡ p.stage = cc in
-      let moved : move plan (world plan h).views s t ≡ Some (Write line.event p.change p.next) = rw one p.gives in
-      cc)
+        let stood : stage_at plan (world plan h) line.actor ≡ Some p.stage = p.stands in
+        let one : s ≡ p.stage = cc in
+        let moved : move plan (world plan h).views s t ≡ Some (Write line.event p.change p.next) = rw one p.gives in
+        cc)
     at_move s stands (Some (Wait d)) e = inr (λ p.
-      let stood : stage_at plan (world plan h) line.actor ≡ Some p.stage = p.stands in
-      let one : s ≡ p.stage = cc in
-      let moved : move plan (world plan h).views s t ≡ Some (Write line.event p.change p.next) = rw one p.gives in
-      cc)
+        let stood : stage_at plan (world plan h) line.actor ≡ Some p.stage = p.stands in
+        let one : s ≡ p.stage = cc in
+        let moved : move plan (world plan h).views s t ≡ Some (Write line.event p.change p.next) = rw one p.gives in
+        cc)
     at_move s stands (Some (Write x c next)) e =
         at_event s stands x c next e (event_decided plan line is x) (nat_le (last_time h) t) refl
 
@@ -134,8 +134,8 @@ next_decided f plan h p of_plan = read (spelled_decided f plan (last_time h) (ea
     permitted line spelled (inl permits) true room = inl (record { line = line; spelled = spelled; permits = permits; room = ltb-true (length h) plan.lines room })
     permitted line spelled (inl permits) false room = inr (λ next. let fits : length h < plan.lines = next.room in grind (arith, nat_tests))
     permitted line spelled (inr never) b room = inr (λ next.
-      let same : next.line ≡ line = one_line f plan (last_time h) next.line line p next.spelled spelled in
-      never (let P : Line → Type 0 = λ l. Permits plan h l in subst P same next.permits))
+        let same : next.line ≡ line = one_line f plan (last_time h) next.line line p next.spelled spelled in
+        never (let P : Line → Type 0 = λ l. Permits plan h l in subst P same next.permits))
 
     read : ((line : Line) × IsTextBehind f plan (last_time h) line p) ⊎ ((line : Line) → IsTextBehind f plan (last_time h) line p → ⊥) → Decided (IsNext f plan h p)
     read (inl (line, spelled)) = permitted line spelled (permits_decided plan h line (line_is f plan (last_time h) line p spelled) line.time) (nat_lt (length h) plan.lines) refl

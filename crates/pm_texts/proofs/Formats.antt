@@ -1,16 +1,16 @@
 -- The text of a list in one of the formats: format 2 where that is true. It decides the list, and its first byte the
 -- format.
-use Rattle.std.proofs.Common.{ℕ, zero, suc, ◌≡◌, ◌+◌, ◌-◌, ◌%◌, ◌/◌, ◌<◌, ◌≤◌, ◌⊎◌, inl, inr, Bool, true, false, not, ◌&&◌, List, [], ◌∷◌, ◌++◌, codes, decimal, length, nat_eq, nat_lt, reverse, take, if◌then◌else◌, ap, refl, sym, subst, ◌∙◌, arith}
+use Rattle.std.proofs.Common.{ℕ, zero, suc, ◌≡◌, ◌≢◌, ◌+◌, ◌-◌, ◌%◌, ◌/◌, ◌<◌, inl, inr, Bool, true, false, not, List, [], ◌∷◌, ◌++◌, codes, decimal, nat_eq, nat_lt, reverse, if◌then◌else◌, ap, refl, sym, subst, ◌∙◌, arith}
 use Rattle.std.specs.Fmt.{digits, digits_onto, digit_glyph}
-use Rattle.std.specs.List.{list_all, starts_with}
-use Rattle.std.proofs.lemmas.Bool.{and_from, and_parts, eqb-true, not-true}
+use Rattle.std.specs.List.{list_all}
+use Rattle.std.proofs.lemmas.Bool.{and_from, and_parts, not-true}
 use Rattle.std.proofs.lemmas.Bool.Decides.{nat_tests}
 use Rattle.std.proofs.lemmas.Grind.{flat_map-append}
 use Rattle.std.proofs.lemmas.List.{reverse-append, append_assoc}
 use Rattle.pm_lineread.proofs.Answered.{distinct1, distinct2}
 use Rattle.pm_model.specs.declared.event.Line.{Line}
 use Rattle.pm_model.specs.declared.plan.Plan.{Plan}
-use Rattle.pm_model.specs.FirstBad.{AreLinesOf, IsText1, IsText2, StandsFor, TimesDontFall, is_format2}
+use Rattle.pm_model.specs.FirstBad.{AreLinesOf, StandsFor, TimesDontFall, is_format2}
 use Rattle.pm_model.specs.Lawful.{last_time}
 use Rattle.pm_model.specs.LineOf.{is_line_of}
 use Rattle.pm_model.specs.NoWhy.{is_within_line}
@@ -236,6 +236,17 @@ lines_other names (line ∷ lines) =
 pub format_is : (f : Bool) (plan : Plan) (bytes : List ℕ) (h : List Line) → IsTextIn f plan bytes h → is_format2 bytes ≡ f
 format_is true plan bytes h (of_plan, rise, same) = let begins : is_format2 (text2 plan (reverse h)) ≡ true = refl in ap (λ x. is_format2 x) same ∙ begins
 format_is false plan bytes h (of_plan, rise, same) = ap (λ x. is_format2 x) same ∙ lines_other (names_of plan) (reverse h)
+
+-- and so it is where bytes follow the text of some lines
+pub begins_as : (f : Bool) (plan : Plan) (h : List Line) (more : List ℕ) → text_in f plan h ≢ [] → is_format2 (text_in f plan h ++ more) ≡ f
+begins_as true plan h more some = refl
+begins_as false plan h more some = go (reverse h) some
+  where
+    go : (lines : List Line) → lines_text (names_of plan) lines ≢ [] → is_format2 (lines_text (names_of plan) lines ++ more) ≡ false
+    go [] none = absurd (none refl)
+    go (line ∷ lines) any =
+        let begins : begins_other (lines_text (names_of plan) (line ∷ lines) ++ more) ≡ true = search (grows, decimal_other) depth 20 in
+        other_format (lines_text (names_of plan) (line ∷ lines) ++ more) begins
 
 pub text_by_format : (plan : Plan) (bytes : List ℕ) (h : List Line) → StandsFor plan bytes h → IsTextIn (is_format2 bytes) plan bytes h
 text_by_format plan bytes h stands = go (stands_in plan bytes h stands)

@@ -1,18 +1,18 @@
 -- Bytes with one more line are lawful text exactly where the line may come next; and the front of lawful text is lawful.
-use Rattle.std.proofs.Common.{ℕ, zero, suc, ◌≡◌, ◌≢◌, ◌<◌, ◌⊎◌, inl, inr, Bool, true, false, not, ◌&&◌, List, [], ◌∷◌, ◌++◌, codes, length, nat_eq, take, if◌then◌else◌, ap, refl, sym, subst, ◌∙◌, arith}
+use Rattle.std.proofs.Common.{ℕ, zero, suc, ◌≡◌, ◌<◌, inl, inr, Bool, true, false, List, [], ◌∷◌, ◌++◌, codes, length, nat_eq, if◌then◌else◌, ap, refl, sym, subst, ◌∙◌}
 use Rattle.std.specs.List.{starts_with}
 use Rattle.std.proofs.lemmas.Bool.{and_parts, eqb-true, not-true}
 use Rattle.pm_model.specs.declared.event.Line.{Line}
 use Rattle.pm_model.specs.declared.plan.Plan.{Plan}
-use Rattle.pm_model.specs.FirstBad.{IsLawfulText, TimesDontFall, first_lines, front, is_format2}
+use Rattle.pm_model.specs.FirstBad.{IsLawfulText, first_lines, front, is_format2}
 use Rattle.pm_model.specs.Lawful.{IsLawful, Permits, last_time}
 use Rattle.pm_model.specs.NoWhy.{is_within_line}
-use Rattle.pm_model.specs.Spelling.{header, newline}
+use Rattle.pm_model.specs.Spelling.{newline}
 use Rattle.pm_model.specs.Text.{IsTextBehind}
 use Rattle.pm_texts.specs.Next.{IsNext}
 use Rattle.pm_texts.proofs.OneLine.{is_inside}
-use Rattle.pm_texts.proofs.Bytes.{IsWhole, Next, cut_not_whole, front_or_all, next_line, none_left, one_piece}
-use Rattle.pm_texts.proofs.Formats.{IsTextIn, format_is, in_line, line_in, no_lines, one_list, one_more, split_text, stands_for, stands_in, text_before, text_by_format, text_in, text_more, text_whole, last_spelled}
+use Rattle.pm_texts.proofs.Bytes.{IsWhole, Next, front_or_all, next_line, none_left, one_piece}
+use Rattle.pm_texts.proofs.Formats.{IsTextIn, in_line, line_in, no_lines, one_list, one_more, split_text, stands_for, text_before, text_by_format, text_in, text_more, text_whole, last_spelled}
 
 pub record IsLawfulIn (f : Bool) (plan : Plan) (bytes : List ℕ) : Type 0 where
   pub h : List Line

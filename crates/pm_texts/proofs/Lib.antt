@@ -6,3 +6,5 @@ pub mod Deciding
 pub mod Walk
 pub mod Numbered
 pub mod WhyBad
+pub mod Behind
+pub mod OneVerdict

@@ -1,18 +1,17 @@
 -- A piece has as many lines before it as the list that they are the text of.
-use Rattle.std.proofs.Common.{ℕ, zero, suc, ◌≡◌, ◌≢◌, ◌+◌, ◌<◌, inl, inr, Bool, true, false, not, ◌&&◌, List, [], ◌∷◌, ◌++◌, codes, length, nat_eq, if◌then◌else◌, ap, refl, sym, subst, ◌∙◌, arith}
-use Rattle.std.proofs.lemmas.Bool.{and_parts, eqb-true, not-true}
+use Rattle.std.proofs.Common.{ℕ, zero, suc, ◌≡◌, ◌+◌, Bool, true, false, List, [], ◌∷◌, ◌++◌, length, nat_eq, if◌then◌else◌, ap, refl, sym, subst, ◌∙◌, arith}
+use Rattle.std.proofs.lemmas.Bool.{and_parts, not-true}
 use Rattle.pm_model.specs.declared.event.Line.{Line}
 use Rattle.pm_model.specs.declared.plan.Plan.{Plan}
 use Rattle.pm_model.specs.FirstBad.{IsLawfulText, StandsFor, first_lines, front, is_format2}
-use Rattle.pm_model.specs.Lawful.{IsLawful, Permits, last_time}
+use Rattle.pm_model.specs.Lawful.{last_time}
 use Rattle.pm_model.specs.NoWhy.{AreBefore, IsCut, IsPiece, is_within_line}
-use Rattle.pm_model.specs.Spelling.{header, newline}
-use Rattle.pm_model.specs.Text.{IsTextBehind}
+use Rattle.pm_model.specs.Spelling.{newline}
 use Rattle.pm_texts.specs.Next.{IsNext}
 use Rattle.pm_texts.proofs.OneLine.{is_inside}
 use Rattle.pm_texts.proofs.Bytes.{IsWhole, cut_not_whole, none_empty}
 use Rattle.pm_texts.proofs.Formats.{IsTextIn, in_line, line_in, one_more, stands_for, text_by_format, text_in, text_more}
-use Rattle.pm_texts.proofs.Lawfulness.{IsLawfulIn, counted, extended, extends, front_format, front_is, in_format, lawful_text, lawful_whole}
+use Rattle.pm_texts.proofs.Lawfulness.{IsLawfulIn, counted, extended, front_format, front_is, in_format, lawful_whole}
 
 -- how many newlines
 newlines : List ℕ → ℕ

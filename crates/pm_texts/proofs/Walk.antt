@@ -1,18 +1,15 @@
 -- Line by line, the front of bytes is lawful text until a first bad line is found.
-use Rattle.std.proofs.Common.{ℕ, zero, suc, ◌≡◌, ◌≢◌, ◌<◌, ◌≤◌, ◌⊎◌, inl, inr, Bool, true, false, List, [], ◌∷◌, ◌++◌, codes, length, nat_eq, nat_lt, take, if◌then◌else◌, ap, refl, sym, subst, ◌∙◌, arith}
+use Rattle.std.proofs.Common.{ℕ, zero, suc, ◌≡◌, ◌<◌, ◌⊎◌, inl, inr, Bool, true, false, List, [], ◌∷◌, ◌++◌, codes, length, nat_eq, nat_lt, if◌then◌else◌, ap, refl, sym, subst, ◌∙◌, arith}
 use Rattle.std.specs.List.{starts_with}
 use Rattle.std.proofs.lemmas.Bool.{and_parts, eqb-true, not-true}
 use Rattle.std.proofs.lemmas.Bool.Decides.{nat_tests}
-use Rattle.pm_model.specs.declared.event.Line.{Line}
 use Rattle.pm_model.specs.declared.plan.Plan.{Plan}
 use Rattle.pm_model.specs.FirstBad.{IsFirstBad, IsLawfulText, first_lines, front, is_format2}
-use Rattle.pm_model.specs.Lawful.{IsLawful}
 use Rattle.pm_model.specs.NoWhy.{IsCut, IsPiece, is_within_line}
-use Rattle.pm_model.specs.Spelling.{header, newline}
+use Rattle.pm_model.specs.Spelling.{newline}
 use Rattle.pm_texts.proofs.OneLine.{is_inside}
 use Rattle.pm_texts.proofs.Bytes.{IsWhole, Next, all_lines, cut_not_whole, nothing, piece, rest}
-use Rattle.pm_texts.proofs.Deciding.{Decided, next_decided}
-use Rattle.pm_texts.proofs.Formats.{IsTextIn}
+use Rattle.pm_texts.proofs.Deciding.{next_decided}
 use Rattle.pm_texts.proofs.Lawfulness.{IsLawfulIn, extended, extends, front_lawful, front_next, in_format, lawful_text, lawful_whole}
 
 pub sorted :
@@ -75,7 +72,7 @@ next_good plan bytes n so_far = go (front_next bytes n)
     go : Next (front n bytes) (front (suc n) bytes) → IsGood plan bytes (suc n) ⊎ IsFirstBad plan bytes (suc n)
     go (nothing e) = inl (one_line_on plan bytes n so_far (let P : List ℕ → Type 0 = λ x. IsLawfulIn (is_format2 bytes) plan x in subst P (sym e) so_far.here))
     go (rest r clean some e) = inr (is_first_bad plan bytes n so_far (λ found.
-      cut_not_whole (front n bytes) r clean some (let P : List ℕ → Type 0 = λ x. IsWhole x in subst P e (lawful_whole plan (front (suc n) bytes) found))))
+        cut_not_whole (front n bytes) r clean some (let P : List ℕ → Type 0 = λ x. IsWhole x in subst P e (lawful_whole plan (front (suc n) bytes) found))))
     go (piece p clean e) =
         let h = so_far.here.h in
         let text = so_far.here.text in

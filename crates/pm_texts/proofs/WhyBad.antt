@@ -1,19 +1,18 @@
 -- A first bad line is bad for exactly one reason, and a line that has one is the first bad line.
-use Rattle.std.proofs.Common.{ℕ, zero, suc, ◌≡◌, ◌≢◌, ◌^◌, ◌<◌, ◌≤◌, ◌⊎◌, inl, inr, Bool, true, false, not, ◌&&◌, List, [], ◌∷◌, ◌++◌, length, nat_eq, nat_lt, if◌then◌else◌, ap, refl, sym, subst, ◌∙◌, arith}
+use Rattle.std.proofs.Common.{ℕ, zero, suc, ◌≡◌, ◌^◌, ◌<◌, ◌≤◌, inl, inr, Bool, true, false, List, [], ◌∷◌, ◌++◌, length, nat_eq, nat_lt, if◌then◌else◌, ap, refl, sym, subst, ◌∙◌, arith}
 use Rattle.std.proofs.lemmas.Bool.{and_parts}
 use Rattle.std.proofs.lemmas.Bool.Decides.{nat_tests}
 use Rattle.std.proofs.lemmas.List.{append_cancel_left, append_cancel_right}
 use Rattle.std.proofs.lemmas.List.Folds.{list_all-append}
 use Rattle.pm_model.specs.declared.event.Line.{Line}
 use Rattle.pm_model.specs.declared.plan.Plan.{Plan}
-use Rattle.pm_model.specs.FirstBad.{IsFirstBad, IsLawfulText, StandsFor, first_lines, front, is_format2}
-use Rattle.pm_model.specs.Lawful.{IsLawful, Permits, last_time}
+use Rattle.pm_model.specs.FirstBad.{IsFirstBad, IsLawfulText, first_lines, front, is_format2}
+use Rattle.pm_model.specs.Lawful.{Permits, last_time}
 use Rattle.pm_model.specs.NoWhy.{AreBefore, Cut, IsCut, IsLineBehind, IsNeverPermitted, IsNoText, IsPermittedSometime, IsPiece, IsWhy, Limit, NoWhy, Step, Text, Time, is_within_line}
 use Rattle.pm_model.specs.Spelling.{newline}
 use Rattle.pm_model.specs.Text.{IsTextBehind}
-use Rattle.pm_texts.specs.Next.{IsNext}
 use Rattle.pm_texts.proofs.OneLine.{is_inside}
-use Rattle.pm_texts.proofs.Bytes.{Next, none_left, nothing, piece, rest}
+use Rattle.pm_texts.proofs.Bytes.{Next, nothing, piece, rest}
 use Rattle.pm_texts.proofs.Deciding.{early, sometime_decided, spelled_decided}
 use Rattle.pm_texts.proofs.Formats.{line_is, one_line, only_list, text_by_format}
 use Rattle.pm_texts.proofs.Lawfulness.{counted, front_format, front_is, front_lawful, front_next}
@@ -170,11 +169,14 @@ front_front k n bytes less = go (is_format2 bytes) refl
         ∙ (ap (λ x. first_lines (counted f k) x) (front_is f bytes n is)
         ∙ (first_first (counted f k) (counted f n) bytes (fewer f) ∙ sym (front_is f bytes k is)))
 
+pub front_earlier : (plan : Plan) (bytes : List ℕ) (k n : ℕ) → k ≤ n → IsLawfulText plan (front n bytes) → IsLawfulText plan (front k bytes)
+front_earlier plan bytes k n less found =
+    let P : List ℕ → Type 0 = λ x. IsLawfulText plan x in
+    subst P (front_front k n bytes less) (front_lawful plan (front n bytes) found k)
+
 good_before : (plan : Plan) (bytes : List ℕ) (n : ℕ) (h : List Line) → AreBefore plan bytes n h → (k : ℕ) → k < n → IsLawfulText plan (front k bytes)
 good_before plan bytes zero h before k less = absurd before
-good_before plan bytes (suc n) h before k less =
-    let P : List ℕ → Type 0 = λ x. IsLawfulText plan x in
-    subst P (front_front k n bytes (omega (arith, less))) (front_lawful plan (front n bytes) (h, before.0, before.1) k)
+good_before plan bytes (suc n) h before k less = front_earlier plan bytes k n (omega (arith, less)) (h, before.0, before.1)
 
 some_before : (plan : Plan) (bytes : List ℕ) (n : ℕ) (h : List Line) → AreBefore plan bytes n h → 0 < n
 some_before plan bytes zero h before = absurd before

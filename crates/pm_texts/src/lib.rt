@@ -4,11 +4,13 @@
 //! in both formats. An auditor that reads a trace line by line rests on them.
 #![tactic(auto)]
 
-ghost use Rattle.std.specs.Prelude.{◌≡◌, ◌⊎◌, ℕ, suc, true, false, List, ◌∷◌, length};
+ghost use Rattle.std.specs.Prelude.{◌≡◌, ◌≢◌, ◌⊎◌, ◌≤◌, ℕ, suc, true, false, List, [], ◌∷◌, ◌++◌, length};
 ghost use Rattle.pm_model.specs.FirstBad.{IsFirstBad, IsLawfulText, IsText1, IsText2, StandsFor, front, is_format2};
+ghost use Rattle.pm_model.specs.Lawful.{IsLawful};
 ghost use Rattle.pm_model.specs.NoWhy.{AreBefore, IsCut, IsPiece, IsWhy, NoWhy, is_within_line};
-ghost use Rattle.pm_model.specs.Spelling.{line_text};
+ghost use Rattle.pm_model.specs.Spelling.{header, line_text, newline};
 ghost use Rattle.pm_model.specs.Text.{names_of};
+ghost use Rattle.pm_model.specs.Verdict.{IsVerdict, Verdict};
 ghost use Rattle.pm_model.specs.declared.event.Line.{Line};
 ghost use Rattle.pm_model.specs.declared.plan.Plan.{Plan};
 ghost use Rattle.pm_texts.specs.Next.{IsNext};
@@ -35,6 +37,7 @@ pub fn lawful_or_bad()
     // No lines are lawful text, and so are the first lines of lawful text.
     ensures none { (plan : Plan) (bytes : List ℕ) → IsLawfulText plan (front 0 bytes) }
     ensures fronts { (plan : Plan) (bytes : List ℕ) (n : ℕ) → IsLawfulText plan bytes → IsLawfulText plan (front n bytes) }
+    ensures earlier { (plan : Plan) (bytes : List ℕ) (k n : ℕ) → k ≤ n → IsLawfulText plan (front n bytes) → IsLawfulText plan (front k bytes) }
 {}
 
 /// Behind the first n lines follows nothing, a piece or a rest that is cut. The lines with a piece are
@@ -56,9 +59,35 @@ pub fn next_line()
         → AreBefore plan bytes n h → IsPiece bytes n piece → n ≡ suc (length h) }
 {}
 
+/// Behind whole lines that are the text of a lawful list, the bytes up to the next newline are the next
+/// piece, and bytes without a newline are cut. So lines are read one by one as they come.
+pub fn behind_lines()
+    ensures piece { (plan : Plan) (whole piece more : List ℕ) (h : List Line) → IsLawful plan h → StandsFor plan whole h
+        → is_format2 (whole ++ (piece ++ (newline ++ more))) ≡ is_format2 whole → is_within_line piece ≡ true
+        → AreBefore plan (whole ++ (piece ++ (newline ++ more))) (suc (length h)) h
+        × IsPiece (whole ++ (piece ++ (newline ++ more))) (suc (length h)) piece }
+    ensures cut { (plan : Plan) (whole rest : List ℕ) (h : List Line) → IsLawful plan h → StandsFor plan whole h
+        → is_format2 (whole ++ rest) ≡ is_format2 whole → is_within_line rest ≡ true → rest ≢ []
+        → AreBefore plan (whole ++ rest) (suc (length h)) h × IsCut (whole ++ rest) (suc (length h)) rest }
+
+    // The first line tells the format: only the header begins format 2, and nothing does without its newline.
+    ensures format { (plan : Plan) (whole more : List ℕ) (h : List Line) → StandsFor plan whole h → whole ≢ []
+        → is_format2 (whole ++ more) ≡ is_format2 whole }
+    ensures header { (piece more : List ℕ) → is_within_line piece ≡ true
+        → is_format2 (piece ++ (newline ++ more)) ≡ true → piece ++ newline ≡ header }
+    ensures no_header { (rest : List ℕ) → is_within_line rest ≡ true → is_format2 rest ≡ false }
+{}
+
 /// The first bad line is bad for exactly one reason, and a line that has a reason is the first bad one.
 pub fn reasons()
     ensures some { (plan : Plan) (bytes : List ℕ) (n : ℕ) → IsFirstBad plan bytes n → (why : NoWhy) × IsWhy plan bytes n why }
     ensures only { (plan : Plan) (bytes : List ℕ) (n : ℕ) (a b : NoWhy) → IsWhy plan bytes n a → IsWhy plan bytes n b → a ≡ b }
     ensures bad { (plan : Plan) (bytes : List ℕ) (n : ℕ) (why : NoWhy) → IsWhy plan bytes n why → IsFirstBad plan bytes n }
+{}
+
+/// Of all bytes exactly one thing is said: they are the text of a lawful list that is finished, or of one
+/// that isn't, or their first bad line and its reason.
+pub fn one_verdict()
+    ensures some { (plan : Plan) (bytes : List ℕ) → (v : Verdict) × IsVerdict plan bytes v }
+    ensures only { (plan : Plan) (bytes : List ℕ) (a b : Verdict) → IsVerdict plan bytes a → IsVerdict plan bytes b → a ≡ b }
 {}

@@ -6,7 +6,7 @@ ghost use Rattle.pm_turns.specs.Seats.{AreOf, IsSeated};
 
 use crate::turns::Turns;
 use pm_base::{ActorId, DevId, NoMemory};
-use pm_model::{ControlStage, Event, Line, Plan, ResumeStage, Stage, SuspendStage};
+use pm_model::{ControlStage, Event, HelperStage, Line, Plan, ResumeStage, Stage, SuspendStage};
 use pm_state::{State, device_of};
 
 // The device that is waited for at a stage after a wait line.
@@ -17,6 +17,14 @@ fn waits_at(stage: Stage) -> Option<DevId> {
         Stage::Control(ControlStage::Disabled { dev }) => Some(dev),
         Stage::Control(ControlStage::BarrierWait { dev, .. }) => Some(dev),
         _ => None,
+    }
+}
+
+// The device that a line at this stage may change; a call line only names one.
+fn changed_at(stage: Stage) -> Option<DevId> {
+    match stage {
+        Stage::Helper(HelperStage::Call { .. }) => None,
+        _ => device_of(stage),
     }
 }
 
@@ -142,7 +150,7 @@ impl Turns {
             self.join(dev, line.actor);
         }
         self.refresh(plan, state, line.actor);
-        let at = device_of(stage);
+        let at = changed_at(stage);
         let of = device_in(line.event);
         if let Some(dev) = at {
             self.touch(plan, state, dev);

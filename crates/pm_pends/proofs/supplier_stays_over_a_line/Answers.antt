@@ -1,5 +1,3 @@
-use Rattle.pm_model.specs.Lawful.{IsLawful}
-use Rattle.pm_model.specs.World.{world}
 use Rattle.pm_laws.proofs.Runs.{permitted, lawful_holds}
 use Rattle.pm_pends.proofs.supplier_stays_over_a_line.Goals as goal
 use Rattle.pm_pends.proofs.Supplying.{supplier_step}

@@ -1,6 +1,7 @@
 -- By walking from line to line.
 use Rattle.pm_texts.proofs.Lawfulness.{front_lawful}
 use Rattle.pm_texts.proofs.Walk.{decided, none_lawful, not_both, only_bad}
+use Rattle.pm_texts.proofs.WhyBad.{front_earlier}
 use Rattle.pm_texts.proofs.lawful_or_bad.Goals as goal
 
 pub returns-clause-either : goal.returns-clause-either
@@ -17,3 +18,6 @@ returns-clause-none c = none_lawful
 
 pub returns-clause-fronts : goal.returns-clause-fronts
 returns-clause-fronts c = λ plan bytes n found. front_lawful plan bytes found n
+
+pub returns-clause-earlier : goal.returns-clause-earlier
+returns-clause-earlier c = front_earlier

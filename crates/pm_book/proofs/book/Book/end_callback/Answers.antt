@@ -1,8 +1,13 @@
 use Rattle.std.proofs.Common.{◌≡◌, false, refl, reverse, subst, sym}
 use Rattle.pm_model.specs.declared.event.Line.{Line}
 use Rattle.pm_book.specs.Pages.{MayWrite, Pages, is_full, moment_from}
-use Rattle.pm_book.proofs.PageLemmas.{adds, may_by_ending}
+use Rattle.pm_book.proofs.PageLemmas.{adds, can_free_any, may_by_ending}
 use Rattle.pm_book.proofs.book.Book.end_callback.Goals as goal
+
+pub ending-requires-clause-frees : goal.ending-requires-clause-frees
+ending-requires-clause-frees c =
+    let b = c.self.inside in
+    can_free_any b.plan (reverse b.lines.lines) b.state.world c.self.invariant.world_is (λ d s. c.held_counts_are_taken.ensures b.plan (reverse b.lines.lines) d s c.self.invariant.lawful)
 
 pub write_end-requires-clause-may : goal.write_end-requires-clause-may
 write_end-requires-clause-may c =

@@ -1,8 +1,13 @@
 use Rattle.std.proofs.Common.{◌≡◌, false, reverse, subst, sym}
 use Rattle.pm_model.specs.declared.event.Line.{Line}
 use Rattle.pm_book.specs.Pages.{MayWrite, Pages, is_full, moment_from}
-use Rattle.pm_book.proofs.PageLemmas.{adds, if_ok, may_by_turn}
+use Rattle.pm_book.proofs.PageLemmas.{adds, can_free_any, if_ok, may_by_turn}
 use Rattle.pm_book.proofs.book.Book.step.Goals as goal
+
+pub turn-requires-clause-frees : goal.turn-requires-clause-frees
+turn-requires-clause-frees c =
+    let b = c.self.inside in
+    can_free_any b.plan (reverse b.lines.lines) b.state.world c.self.invariant.world_is (λ d s. c.held_counts_are_taken.ensures b.plan (reverse b.lines.lines) d s c.self.invariant.lawful)
 
 pub write_turn-requires-clause-may : goal.write_turn-requires-clause-may
 write_turn-requires-clause-may c =

@@ -1,19 +1,10 @@
-use Rattle.std.proofs.Common.{◌≡◌, ◌≤◌, ◌∙◌, List, [], ◌∷◌, ◌++◌, reverse, subst, sym}
+use Rattle.std.proofs.Common.{◌≡◌, ◌∙◌, List, [], ◌∷◌, ◌++◌, reverse, subst, sym}
 use Rattle.pm_model.specs.declared.event.Line.{Line}
-use Rattle.pm_model.specs.Events.{held_from}
-use Rattle.pm_model.specs.Views.{device}
-use Rattle.pm_model.specs.World.{World}
 use Rattle.pm_state.specs.Standing.{IsActor, Standing, after_write}
 use Rattle.pm_turns.specs.Seats.{Seats}
 use Rattle.pm_book.specs.Pages.{IsKept, MayWrite, Pages}
 use Rattle.pm_book.proofs.PageLemmas.{kept_step, reverse-push}
 use Rattle.pm_book.proofs.book.Book.write.Goals as goal
-
-pub go-requires-clause-frees : goal.go-requires-clause-frees
-go-requires-clause-frees c = λ d s.
-    let b = c.self.inside in
-    subst (λ (w : World). held_from b.plan w.views.held d s ≤ (device w.views (record { 0 = s })).usage) (sym c.self.invariant.world_is)
-    (c.held_counts_are_taken.ensures b.plan (reverse b.lines.lines) d s c.self.invariant.lawful)
 
 pub invariant_of-self-2 : goal.invariant_of-self-2
 invariant_of-self-2 c =
