@@ -8,3 +8,4 @@ pub mod Domains
 pub mod Entries
 pub mod Marked
 pub mod Parents
+pub mod Suppliers

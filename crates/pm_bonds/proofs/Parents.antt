@@ -42,13 +42,13 @@ use Rattle.pm_kinds.specs.Kinds.{MayRest, dev_of, from, to, old, new, turn, says
 use Rattle.pm_kinds.specs.LineKind.{HasKind}
 use Rattle.pm_kinds.proofs.Lines.{line_kind}
 use Rattle.pm_bonds.specs.Bonds.{ParentStays, has_count, is_marked}
-use Rattle.pm_bonds.specs.Needs.{needs_parent, Needs}
+use Rattle.pm_kinds.specs.Needs.{needs_parent, Needs}
 use Rattle.pm_bonds.proofs.Chains.{at_each, lawful_devices}
 use Rattle.pm_bonds.proofs.Domains.{unexcused}
 use Rattle.pm_bonds.proofs.Entries.{parent_needs, parent_least, leaves, wakes, Setting, entry_kind}
 use Rattle.pm_bonds.proofs.Marked.{IsChild, child_of, all_marked, no_children}
 use Rattle.pm_bonds.proofs.Refusals.{Rests, rests_so}
-use Rattle.pm_bonds.proofs.Steps.{differ, need, least_at, some_parts, sleeps, Owned, IsAlone, alone, nobody, owned_at, need_now, need_then, starter_rests, start_need, needs_some}
+use Rattle.pm_bonds.proofs.Steps.{differ, need, least_at, sleeps, Owned, IsAlone, alone, nobody, owned_at, need_now, need_then, starter_rests, start_need, needs_some}
 
 -- a device that has a parent is one of the plan's, and the parent stands before it
 pub device_within : (plan : Plan) (d p : DevId) → parent plan d ≡ Some p → d.0 < length plan.devices
