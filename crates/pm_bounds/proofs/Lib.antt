@@ -1,0 +1,10 @@
+pub mod Limits
+pub mod Rising
+pub mod Begun
+pub mod Bounded
+pub mod Taken
+pub mod Saying
+pub mod Places
+pub mod TableSays
+pub mod ControlSays
+pub mod Said
