@@ -30,7 +30,7 @@ use Rattle.pm_laws.proofs.Places.{tally_joined}
 use Rattle.pm_stacks.proofs.Tests.{same_self}
 use Rattle.pm_stacks.specs.Shape.{Fits, IsMarked, AreNested, IsNested, Nested, call_of, Call}
 use Rattle.pm_kinds.specs.Parts.{preparing, refused, counts, part, at_part}
-use Rattle.pm_bonds.specs.Needs.{needs_parent}
+use Rattle.pm_kinds.specs.Needs.{needs_parent}
 use Rattle.pm_bonds.proofs.Steps.{same_is}
 
 -- the mark held is set, so the parent has a count of this call

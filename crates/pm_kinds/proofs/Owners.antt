@@ -1,0 +1,105 @@
+-- The parts of a device's transition are those of its owners.
+use Rattle.std.proofs.Common.{ℕ, ◌≡◌, ◌+◌, ◌<◌, ◌≤◌, Bool, true, false, ◌&&◌, List, [], ◌∷◌, length, refl, sym, arith}
+use Rattle.std.specs.List.{sum_by}
+use Rattle.std.proofs.lemmas.List.Sums.{sum_by-cons, sum_by-le-sum_by}
+use Rattle.pm_base.specs.declared.DevId.{DevId}
+use Rattle.pm_model.specs.declared.plan.Plan.{Plan}
+use Rattle.pm_model.specs.declared.stage.Await.TheVariants as await
+use Rattle.pm_model.specs.declared.stage.ControlStage.TheVariants as control
+use Rattle.pm_model.specs.declared.stage.ResumeStage.TheVariants as resume
+use Rattle.pm_model.specs.declared.stage.Stage.{Stage}
+use Rattle.pm_model.specs.declared.stage.Stage.TheVariants as stage
+use Rattle.pm_model.specs.declared.stage.SuspendStage.TheVariants as suspend
+use Rattle.pm_model.specs.Counted.{is_same}
+use Rattle.pm_model.specs.Derived.{is_suspending, is_resuming}
+use Rattle.pm_model.specs.World.{World}
+use Rattle.pm_sums.specs.Sums.{one, tally}
+use Rattle.pm_laws.specs.Owners.{places, owns_suspend, owns_resume, HasOneOwner}
+use Rattle.pm_kinds.specs.Parts.{Phase, Part, no_part, part, part_of, counts, at_part, any_phase}
+
+pub one_most : (b : Bool) → one b ≤ 1
+one_most true = omega arith
+one_most false = omega arith
+
+-- the owners of a device are as its status says
+and_true : (b : Bool) → one (b && true) ≡ one b + 0
+and_true true = refl
+and_true false = refl
+
+true_and : (b : Bool) → one (b && true) ≡ 0 + one b
+true_and true = refl
+true_and false = refl
+
+owned : (d : DevId) (s : Stage) → at_part any_phase d s ≡ owns_suspend d s + owns_resume d s
+owned d (stage.Suspend (suspend.Running e f since)) = and_true (is_same d e)
+owned d (stage.Suspend (suspend.Domain e f)) = and_true (is_same d e)
+owned d (stage.Suspend (suspend.Links e f)) = and_true (is_same d e)
+owned d (stage.Await (await.SuspendLinks e f)) = and_true (is_same d e)
+owned d (stage.Resume (resume.Links r)) = true_and (is_same d r.dev)
+owned d (stage.Resume (resume.Supplied r c)) = true_and (is_same d r.dev)
+owned d (stage.Resume (resume.Callback r)) = true_and (is_same d r.dev)
+owned d (stage.Resume (resume.Running r since)) = true_and (is_same d r.dev)
+owned d (stage.Resume (resume.Resumed r)) = true_and (is_same d r.dev)
+owned d (stage.Resume (resume.Domain r c)) = true_and (is_same d r.dev)
+owned d (stage.Resume (resume.Unwind r c)) = true_and (is_same d r.dev)
+owned d (stage.Control (control.ActiveLinks e)) = true_and (is_same d e)
+owned d (stage.Control (control.ActiveUnwind e c)) = true_and (is_same d e)
+owned d (stage.Await (await.ResumeSupplier r link)) = true_and (is_same d r.dev)
+owned d (stage.Await (await.ResumeUnwind r c)) = true_and (is_same d r.dev)
+owned d (stage.Await (await.ActiveSupplier e link)) = true_and (is_same d e)
+owned d (stage.Await (await.ActiveUnwind e c)) = true_and (is_same d e)
+owned d _ = refl
+
+fewer : (a b : Bool) → one (a && b) ≤ one (a && true)
+fewer true b = one_most b
+fewer false b = omega arith
+
+within_owned : (test : Phase → Bool) (d : DevId) (s : Stage) → at_part test d s ≤ at_part any_phase d s
+within_owned test d s = go (part_of s)
+  where
+    go : (x : Part) → counts test d x ≤ counts any_phase d x
+    go no_part = omega arith
+    go (part e x) = fewer (is_same d e) (test x)
+
+-- a sum is the sum of two where each stage's weight is
+sum_both : (f g h : Stage → ℕ) → ((s : Stage) → f s ≡ g s + h s) → (stack : List Stage) → sum_by f stack ≡ sum_by g stack + sum_by h stack
+sum_both f g h is [] = refl
+sum_both f g h is (s ∷ rest) = omega (arith, is s, sum_both f g h is rest, sum_by-cons f s rest, sum_by-cons g s rest, sum_by-cons h s rest)
+
+tally_both : (f g h : Stage → ℕ) → ((s : Stage) → f s ≡ g s + h s) → (stacks : List (List Stage)) → tally f stacks ≡ tally g stacks + tally h stacks
+tally_both f g h is [] = refl
+tally_both f g h is (stack ∷ rest) =
+    omega (arith, sum_both f g h is stack, tally_both f g h is rest, sum_by-cons (sum_by f) stack rest, sum_by-cons (sum_by g) stack rest, sum_by-cons (sum_by h) stack rest)
+
+pub tally_least : (f g : Stage → ℕ) → ((s : Stage) → f s ≤ g s) → (stacks : List (List Stage)) → tally f stacks ≤ tally g stacks
+tally_least f g le stacks = sum_by-le-sum_by _ _ stacks (λ stack. sum_by-le-sum_by f g stack le)
+
+-- those of two tests that no phase passes both are among all
+apart_at : (same a b : Bool) → one a + one b ≤ 1 → one (same && a) + one (same && b) ≤ one (same && true)
+apart_at true a b le = le
+apart_at false a b le = omega arith
+
+apart_owned : (f g : Phase → Bool) (d : DevId) → ((x : Phase) → one (f x) + one (g x) ≤ 1) → (s : Stage) → at_part f d s + at_part g d s ≤ at_part any_phase d s
+apart_owned f g d apart s = go (part_of s)
+  where
+    go : (x : Part) → counts f d x + counts g d x ≤ counts any_phase d x
+    go no_part = omega arith
+    go (part e x) = apart_at (is_same d e) (f x) (g x) (apart x)
+
+pub apart_parts : (f g : Phase → Bool) (d : DevId) (stacks : List (List Stage)) → ((x : Phase) → one (f x) + one (g x) ≤ 1)
+    → tally (at_part f d) stacks + tally (at_part g d) stacks ≤ tally (at_part any_phase d) stacks
+apart_parts f g d stacks apart =
+    let le = tally_least (λ s. at_part f d s + at_part g d s) (at_part any_phase d) (apart_owned f g d apart) stacks in
+    let sum = tally_both (λ s. at_part f d s + at_part g d s) (at_part f d) (at_part g d) (λ s. refl) stacks in omega arith
+
+-- those of some phases are among all
+pub some_parts : (test : Phase → Bool) (d : DevId) (stacks : List (List Stage)) → tally (at_part test d) stacks ≤ tally (at_part any_phase d) stacks
+some_parts test d stacks = tally_least (at_part test d) (at_part any_phase d) (within_owned test d) stacks
+
+pub owners_are : (plan : Plan) (w : World) (d : DevId) → HasOneOwner plan w → d.0 < length plan.devices
+    → one (is_suspending w.views d) + one (is_resuming w.views d) ≡ tally (at_part any_phase d) (places w)
+owners_are plan w d owners within =
+    let sum = tally_both (at_part any_phase d) (owns_suspend d) (owns_resume d) (owned d) (places w) in
+    let a = owners.suspending d within in
+    let b = owners.resuming d within in
+    omega arith
