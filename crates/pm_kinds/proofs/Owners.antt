@@ -1,5 +1,5 @@
 -- The parts of a device's transition are those of its owners.
-use Rattle.std.proofs.Common.{ℕ, ◌≡◌, ◌+◌, ◌<◌, ◌≤◌, Bool, true, false, ◌&&◌, List, [], ◌∷◌, length, refl, sym, arith}
+use Rattle.std.proofs.Common.{ℕ, ◌≡◌, ◌+◌, ◌<◌, ◌≤◌, Bool, true, false, not, ◌&&◌, List, [], ◌∷◌, length, if◌then◌else◌, refl, sym, arith}
 use Rattle.std.specs.List.{sum_by}
 use Rattle.std.proofs.lemmas.List.Sums.{sum_by-cons, sum_by-le-sum_by}
 use Rattle.pm_base.specs.declared.DevId.{DevId}
@@ -12,43 +12,94 @@ use Rattle.pm_model.specs.declared.stage.Stage.TheVariants as stage
 use Rattle.pm_model.specs.declared.stage.SuspendStage.TheVariants as suspend
 use Rattle.pm_model.specs.Counted.{is_same}
 use Rattle.pm_model.specs.Derived.{is_suspending, is_resuming}
+use Rattle.pm_model.specs.ResumeTable.{is_supplied}
 use Rattle.pm_model.specs.World.{World}
 use Rattle.pm_sums.specs.Sums.{one, tally}
 use Rattle.pm_laws.specs.Owners.{places, owns_suspend, owns_resume, HasOneOwner}
-use Rattle.pm_kinds.specs.Parts.{Phase, Part, no_part, part, part_of, counts, at_part, any_phase}
+use Rattle.pm_kinds.specs.Parts.{Phase, suspending, lowering, giving, preparing, refused, Part, no_part, part, part_of, counts, at_part, any_phase}
 
 pub one_most : (b : Bool) → one b ≤ 1
 one_most true = omega arith
 one_most false = omega arith
 
--- the owners of a device are as its status says
-and_true : (b : Bool) → one (b && true) ≡ one b + 0
+-- the phases of a suspend, and those of a resume or of set_active
+abbrev pub lowers : Phase → Bool
+lowers suspending = true
+lowers lowering = true
+lowers giving = true
+lowers _ = false
+
+abbrev pub raises : Phase → Bool
+raises x = not (lowers x)
+
+and_true : (b : Bool) → one (b && true) ≡ one b
 and_true true = refl
 and_true false = refl
 
-true_and : (b : Bool) → one (b && true) ≡ 0 + one b
-true_and true = refl
-true_and false = refl
+and_false : (b : Bool) → one (b && false) ≡ 0
+and_false true = refl
+and_false false = refl
+
+pub suspend_parts : (d : DevId) (s : Stage) → at_part lowers d s ≡ owns_suspend d s
+suspend_parts d (stage.Suspend (suspend.Running e f since)) = and_true (is_same d e)
+suspend_parts d (stage.Suspend (suspend.Domain e f)) = and_true (is_same d e)
+suspend_parts d (stage.Suspend (suspend.Links e f)) = and_true (is_same d e)
+suspend_parts d (stage.Await (await.SuspendLinks e f)) = and_true (is_same d e)
+suspend_parts d (stage.Resume (resume.Links r)) = and_false (is_same d r.dev)
+suspend_parts d (stage.Resume (resume.Callback r)) = and_false (is_same d r.dev)
+suspend_parts d (stage.Resume (resume.Running r since)) = and_false (is_same d r.dev)
+suspend_parts d (stage.Resume (resume.Resumed r)) = and_false (is_same d r.dev)
+suspend_parts d (stage.Resume (resume.Domain r c)) = and_false (is_same d r.dev)
+suspend_parts d (stage.Resume (resume.Unwind r c)) = and_false (is_same d r.dev)
+suspend_parts d (stage.Control (control.ActiveLinks e)) = and_false (is_same d e)
+suspend_parts d (stage.Control (control.ActiveUnwind e c)) = and_false (is_same d e)
+suspend_parts d (stage.Await (await.ResumeSupplier r link)) = and_false (is_same d r.dev)
+suspend_parts d (stage.Await (await.ResumeUnwind r c)) = and_false (is_same d r.dev)
+suspend_parts d (stage.Await (await.ActiveSupplier e link)) = and_false (is_same d e)
+suspend_parts d (stage.Await (await.ActiveUnwind e c)) = and_false (is_same d e)
+suspend_parts d (stage.Resume (resume.Supplied r c)) = supplied (is_supplied c)
+  where
+    supplied : (b : Bool) → counts lowers d (part r.dev (if b then preparing else refused)) ≡ 0
+    supplied true = and_false (is_same d r.dev)
+    supplied false = and_false (is_same d r.dev)
+suspend_parts d _ = refl
+
+pub resume_parts : (d : DevId) (s : Stage) → at_part raises d s ≡ owns_resume d s
+resume_parts d (stage.Suspend (suspend.Running e f since)) = and_false (is_same d e)
+resume_parts d (stage.Suspend (suspend.Domain e f)) = and_false (is_same d e)
+resume_parts d (stage.Suspend (suspend.Links e f)) = and_false (is_same d e)
+resume_parts d (stage.Await (await.SuspendLinks e f)) = and_false (is_same d e)
+resume_parts d (stage.Resume (resume.Links r)) = and_true (is_same d r.dev)
+resume_parts d (stage.Resume (resume.Callback r)) = and_true (is_same d r.dev)
+resume_parts d (stage.Resume (resume.Running r since)) = and_true (is_same d r.dev)
+resume_parts d (stage.Resume (resume.Resumed r)) = and_true (is_same d r.dev)
+resume_parts d (stage.Resume (resume.Domain r c)) = and_true (is_same d r.dev)
+resume_parts d (stage.Resume (resume.Unwind r c)) = and_true (is_same d r.dev)
+resume_parts d (stage.Control (control.ActiveLinks e)) = and_true (is_same d e)
+resume_parts d (stage.Control (control.ActiveUnwind e c)) = and_true (is_same d e)
+resume_parts d (stage.Await (await.ResumeSupplier r link)) = and_true (is_same d r.dev)
+resume_parts d (stage.Await (await.ResumeUnwind r c)) = and_true (is_same d r.dev)
+resume_parts d (stage.Await (await.ActiveSupplier e link)) = and_true (is_same d e)
+resume_parts d (stage.Await (await.ActiveUnwind e c)) = and_true (is_same d e)
+resume_parts d (stage.Resume (resume.Supplied r c)) = supplied (is_supplied c)
+  where
+    supplied : (b : Bool) → counts raises d (part r.dev (if b then preparing else refused)) ≡ one (is_same d r.dev)
+    supplied true = and_true (is_same d r.dev)
+    supplied false = and_true (is_same d r.dev)
+resume_parts d _ = refl
+
+-- each part is one of the two
+split : (same low : Bool) → one (same && true) ≡ one (same && low) + one (same && not low)
+split true true = refl
+split true false = refl
+split false low = refl
 
 owned : (d : DevId) (s : Stage) → at_part any_phase d s ≡ owns_suspend d s + owns_resume d s
-owned d (stage.Suspend (suspend.Running e f since)) = and_true (is_same d e)
-owned d (stage.Suspend (suspend.Domain e f)) = and_true (is_same d e)
-owned d (stage.Suspend (suspend.Links e f)) = and_true (is_same d e)
-owned d (stage.Await (await.SuspendLinks e f)) = and_true (is_same d e)
-owned d (stage.Resume (resume.Links r)) = true_and (is_same d r.dev)
-owned d (stage.Resume (resume.Supplied r c)) = true_and (is_same d r.dev)
-owned d (stage.Resume (resume.Callback r)) = true_and (is_same d r.dev)
-owned d (stage.Resume (resume.Running r since)) = true_and (is_same d r.dev)
-owned d (stage.Resume (resume.Resumed r)) = true_and (is_same d r.dev)
-owned d (stage.Resume (resume.Domain r c)) = true_and (is_same d r.dev)
-owned d (stage.Resume (resume.Unwind r c)) = true_and (is_same d r.dev)
-owned d (stage.Control (control.ActiveLinks e)) = true_and (is_same d e)
-owned d (stage.Control (control.ActiveUnwind e c)) = true_and (is_same d e)
-owned d (stage.Await (await.ResumeSupplier r link)) = true_and (is_same d r.dev)
-owned d (stage.Await (await.ResumeUnwind r c)) = true_and (is_same d r.dev)
-owned d (stage.Await (await.ActiveSupplier e link)) = true_and (is_same d e)
-owned d (stage.Await (await.ActiveUnwind e c)) = true_and (is_same d e)
-owned d _ = refl
+owned d s = let low = suspend_parts d s in let high = resume_parts d s in let whole = go (part_of s) in omega arith
+  where
+    go : (x : Part) → counts any_phase d x ≡ counts lowers d x + counts raises d x
+    go no_part = refl
+    go (part e x) = split (is_same d e) (lowers x)
 
 fewer : (a b : Bool) → one (a && b) ≤ one (a && true)
 fewer true b = one_most b
