@@ -31,11 +31,11 @@ pub same_is : (c d : DevId) → is_same c d ≡ true → d ≡ c
 same_is c d b = ap (λ n. let x : DevId = record { 0 = n } in x) (eqb-true d.0 c.0 b)
 
 -- the device of a line, and every other
-own_counts : (test : Phase → Bool) (c d : DevId) (x : Option Phase) → is_same c d ≡ true → counts test c (part_at d x) ≡ passes test x
+pub own_counts : (test : Phase → Bool) (c d : DevId) (x : Option Phase) → is_same c d ≡ true → counts test c (part_at d x) ≡ passes test x
 own_counts test c d None m = refl
 own_counts test c d (Some x) m = rw m refl
 
-other_counts : (test : Phase → Bool) (c d : DevId) (x : Option Phase) → is_same c d ≡ false → counts test c (part_at d x) ≡ 0
+pub other_counts : (test : Phase → Bool) (c d : DevId) (x : Option Phase) → is_same c d ≡ false → counts test c (part_at d x) ≡ 0
 other_counts test c d None m = refl
 other_counts test c d (Some x) m = rw m refl
 

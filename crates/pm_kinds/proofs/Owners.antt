@@ -101,23 +101,24 @@ owned d s = let low = suspend_parts d s in let high = resume_parts d s in let wh
     go no_part = refl
     go (part e x) = split (is_same d e) (lowers x)
 
-fewer : (a b : Bool) → one (a && b) ≤ one (a && true)
-fewer true b = one_most b
-fewer false b = omega arith
+-- a test that passes less counts less
+fewer : (same a b : Bool) → one a ≤ one b → one (same && a) ≤ one (same && b)
+fewer true a b le = le
+fewer false a b le = omega arith
 
-within_owned : (test : Phase → Bool) (d : DevId) (s : Stage) → at_part test d s ≤ at_part any_phase d s
-within_owned test d s = go (part_of s)
+weaker_at : (f g : Phase → Bool) (d : DevId) → ((x : Phase) → one (f x) ≤ one (g x)) → (s : Stage) → at_part f d s ≤ at_part g d s
+weaker_at f g d le s = go (part_of s)
   where
-    go : (x : Part) → counts test d x ≤ counts any_phase d x
+    go : (x : Part) → counts f d x ≤ counts g d x
     go no_part = omega arith
-    go (part e x) = fewer (is_same d e) (test x)
+    go (part e x) = fewer (is_same d e) (f x) (g x) (le x)
 
 -- a sum is the sum of two where each stage's weight is
-sum_both : (f g h : Stage → ℕ) → ((s : Stage) → f s ≡ g s + h s) → (stack : List Stage) → sum_by f stack ≡ sum_by g stack + sum_by h stack
+pub sum_both : (f g h : Stage → ℕ) → ((s : Stage) → f s ≡ g s + h s) → (stack : List Stage) → sum_by f stack ≡ sum_by g stack + sum_by h stack
 sum_both f g h is [] = refl
 sum_both f g h is (s ∷ rest) = omega (arith, is s, sum_both f g h is rest, sum_by-cons f s rest, sum_by-cons g s rest, sum_by-cons h s rest)
 
-tally_both : (f g h : Stage → ℕ) → ((s : Stage) → f s ≡ g s + h s) → (stacks : List (List Stage)) → tally f stacks ≡ tally g stacks + tally h stacks
+pub tally_both : (f g h : Stage → ℕ) → ((s : Stage) → f s ≡ g s + h s) → (stacks : List (List Stage)) → tally f stacks ≡ tally g stacks + tally h stacks
 tally_both f g h is [] = refl
 tally_both f g h is (stack ∷ rest) =
     omega (arith, sum_both f g h is stack, tally_both f g h is rest, sum_by-cons (sum_by f) stack rest, sum_by-cons (sum_by g) stack rest, sum_by-cons (sum_by h) stack rest)
@@ -143,9 +144,12 @@ apart_parts f g d stacks apart =
     let le = tally_least (λ s. at_part f d s + at_part g d s) (at_part any_phase d) (apart_owned f g d apart) stacks in
     let sum = tally_both (λ s. at_part f d s + at_part g d s) (at_part f d) (at_part g d) (λ s. refl) stacks in omega arith
 
+pub weaker_parts : (f g : Phase → Bool) (d : DevId) (stacks : List (List Stage)) → ((x : Phase) → one (f x) ≤ one (g x)) → tally (at_part f d) stacks ≤ tally (at_part g d) stacks
+weaker_parts f g d stacks le = tally_least (at_part f d) (at_part g d) (weaker_at f g d le) stacks
+
 -- those of some phases are among all
 pub some_parts : (test : Phase → Bool) (d : DevId) (stacks : List (List Stage)) → tally (at_part test d) stacks ≤ tally (at_part any_phase d) stacks
-some_parts test d stacks = tally_least (at_part test d) (at_part any_phase d) (within_owned test d) stacks
+some_parts test d stacks = weaker_parts test any_phase d stacks (λ x. one_most (test x))
 
 pub owners_are : (plan : Plan) (w : World) (d : DevId) → HasOneOwner plan w → d.0 < length plan.devices
     → one (is_suspending w.views d) + one (is_resuming w.views d) ≡ tally (at_part any_phase d) (places w)
