@@ -93,7 +93,7 @@ unfolding schedules
 schedules_say plan v t s d ms few = let soon : t + ms ≤ t + 1000000 = omega (arith, few) in search (both, ok, payload) depth 20
 
 -- a number of milliseconds
-few_ms : (n : ℤ) → int_le (pos 0) n && int_le n (pos MAX_MS) ≡ true → nat_abs n ≤ 1000000
+pub few_ms : (n : ℤ) → int_le (pos 0) n && int_le n (pos MAX_MS) ≡ true → nat_abs n ≤ 1000000
 few_ms n within = grind (arith, common_steps)
 
 control_starts_say : (plan : Plan) (v : Views) (t : ℕ) (s : Stage) (c : Command) → is_command (length plan.devices) c ≡ true → Says plan v t s (control_starts plan v c t)

@@ -8,3 +8,7 @@ pub mod Places
 pub mod TableSays
 pub mod ControlSays
 pub mod Said
+pub mod Timers
+pub mod Due
+pub mod OfPlan
+pub mod Called

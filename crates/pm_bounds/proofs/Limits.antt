@@ -1,11 +1,14 @@
 -- How many lines, devices and domains the law of a plan allows.
-use Rattle.std.proofs.Common.{ℕ, zero, suc, ◌≡◌, ◌+◌, ◌<◌, ◌≤◌, true, ◌&&◌, List, [], ◌∷◌, length, nat_le, arith}
+use Rattle.std.proofs.Common.{ℕ, zero, suc, ◌≡◌, ◌+◌, ◌<◌, ◌≤◌, true, ◌&&◌, List, [], ◌∷◌, Some, length, nat_le, slice_get, arith}
+use Rattle.std.specs.List.{list_all}
 use Rattle.std.proofs.lemmas.Bool.{leb-true}
-use Rattle.pm_base.specs.declared.limits.TheConstants.{MAX_DEVICES, MAX_DOMAINS, MAX_LINES}
+use Rattle.pm_base.specs.declared.limits.TheConstants.{MAX_COMMANDS, MAX_DEVICES, MAX_DOMAINS, MAX_LINES}
 use Rattle.pm_model.specs.declared.event.Line.{Line}
 use Rattle.pm_model.specs.declared.plan.Plan.{Plan}
-use Rattle.pm_model.specs.IsPlan.{is_plan}
+use Rattle.pm_model.specs.declared.rows.CallerRow.{CallerRow}
+use Rattle.pm_model.specs.IsPlan.{is_caller, is_plan}
 use Rattle.pm_model.specs.Lawful.{IsLawful}
+use Rattle.pm_stacks.proofs.PlanLaw.{all_get}
 use Rattle.pm_stacks.proofs.Tests.{front, rear}
 
 limits : (plan : Plan)
@@ -22,6 +25,13 @@ few_domains plan = leb-true _ _ (rear _ _ (front _ _ (limits plan)))
 
 pub few_devices : (plan : Plan) → length plan.devices ≤ MAX_DEVICES
 few_devices plan = leb-true _ _ (rear _ _ (limits plan))
+
+-- a caller's script
+pub few_commands : (plan : Plan) (c : ℕ) (caller : CallerRow) → slice_get plan.callers c ≡ Some caller → length caller.script ≤ MAX_COMMANDS
+few_commands plan c caller is =
+    let law : is_plan plan.lines plan.trace plan.domains plan.devices plan.links plan.callers ≡ true = plan.law in
+    let callers : list_all (is_caller (length plan.devices)) plan.callers ≡ true = rear _ _ (front _ _ (front _ _ (front _ _ (front _ _ law)))) in
+    leb-true _ _ (front _ _ (rear _ _ (all_get (is_caller (length plan.devices)) plan.callers c caller callers is)))
 
 -- no more lines than the plan allows
 within_plan : (plan : Plan) (h : List Line) → IsLawful plan h → length h ≤ plan.lines

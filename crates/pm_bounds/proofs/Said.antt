@@ -15,7 +15,7 @@ use Rattle.pm_model.specs.Views.{Views, device}
 use Rattle.pm_model.specs.WellFormed.{suspend_device}
 use Rattle.pm_model.specs.World.{World, after_line, counts_call, due, place, row, row_at, world}
 use Rattle.pm_laws.proofs.Places.{is_placed}
-use Rattle.pm_laws.proofs.Runs.{lawful_holds, written}
+use Rattle.pm_laws.proofs.Runs.{lawful_holds, views_after, written}
 use Rattle.pm_stacks.specs.Fit.{HasDelays, IsTold}
 use Rattle.pm_stacks.specs.Shape.{Fits}
 use Rattle.pm_stacks.proofs.Fitting.{delays_kept, stands_fit}
@@ -47,6 +47,12 @@ row_is plan h line p =
 pub leads : (plan : Plan) (h : List Line) (line : Line) → (p : Permits plan h line)
     → row_at plan (world plan h) line.actor line.time ≡ Some (writes line.event p.change p.next)
 leads plan h line p = ap (option_and_then (λ s. row plan (world plan h).views s line.time)) p.stands ∙ row_is plan h line p
+
+-- the views after it
+pub views_now : (plan : Plan) (h : List Line) (line : Line) → (p : Permits plan h line)
+    → (world plan (line ∷ h)).views ≡ by_event plan line.time line.event (change_views plan line.time p.change (world plan h).views)
+views_now plan h line p =
+    let w = world plan h in ap (λ r. let x : World = after_line plan w line r in x.views) (leads plan h line p) ∙ views_after plan w line p.change p.next
 
 says : (plan : Plan) (h : List Line) (line : Line) → IsLawful plan h → ((a : ActorId) → AreLater (place (world plan h) a)) → (p : Permits plan h line)
     → Saying plan (world plan h).views line.time p.stage line.event p.change p.next

@@ -2,20 +2,31 @@
 //! always be told, and always fits.
 #![tactic(auto)]
 
-ghost use Rattle.std.specs.Prelude.{◌≡◌, ◌<◌, ◌≤◌, ℕ, Bool, suc, true, length};
+ghost use Rattle.std.specs.Prelude.{◌≡◌, ◌+◌, ◌<◌, ◌≤◌, ◌^◌, ℕ, Bool, suc, Some, true, length, slice_get};
+ghost use Rattle.std.specs.List.{list_all};
+ghost use Rattle.pm_base.specs.declared.ActorId.{ActorId};
+ghost use Rattle.pm_base.specs.declared.ActorId.TheVariants.{Caller};
+ghost use Rattle.pm_base.specs.declared.Armed.{Armed};
 ghost use Rattle.pm_base.specs.declared.Cb.{Cb};
 ghost use Rattle.pm_base.specs.declared.DevId.{DevId};
 ghost use Rattle.pm_base.specs.declared.Why.{Why};
-ghost use Rattle.pm_base.specs.declared.limits.TheConstants.{MAX_LINES};
+ghost use Rattle.pm_base.specs.declared.limits.TheConstants.{MAX_COMMANDS, MAX_LINES};
+ghost use Rattle.pm_linetext.specs.ShortLine.{is_short_line};
+ghost use Rattle.pm_model.specs.declared.event.Command.{Command};
+ghost use Rattle.pm_model.specs.declared.event.Event.TheVariants as event;
 ghost use Rattle.pm_model.specs.declared.event.Line.{Line};
 ghost use Rattle.pm_model.specs.declared.plan.Plan.{Plan};
+ghost use Rattle.pm_model.specs.declared.rows.CallerRow.{CallerRow};
+ghost use Rattle.pm_model.specs.declared.stage.Stage.{Stage};
 ghost use Rattle.pm_model.specs.CanTake.{can_take};
 ghost use Rattle.pm_model.specs.Counted.{gets, is_callers};
 ghost use Rattle.pm_model.specs.Derived.{begun};
 ghost use Rattle.pm_model.specs.History.{History};
-ghost use Rattle.pm_model.specs.Lawful.{IsLawful, Permits};
-ghost use Rattle.pm_model.specs.Views.{device};
-ghost use Rattle.pm_model.specs.World.{world};
+ghost use Rattle.pm_model.specs.Lawful.{IsLawful, Permits, last_time};
+ghost use Rattle.pm_model.specs.LineOf.{is_event_of, is_line_of};
+ghost use Rattle.pm_model.specs.Views.{device, timer};
+ghost use Rattle.pm_model.specs.WellFormed.{is_well_formed};
+ghost use Rattle.pm_model.specs.World.{called_by, due, next_command, stage_at, world};
 ghost use Rattle.pm_bounds.specs.Rooms.{HasRooms, begin_lines};
 
 /// A lawful list has at most 200,000 lines (this project's own).
@@ -48,4 +59,42 @@ pub fn counts_have_room()
 /// counts of its links, and gets, begins and disablings have room (`runtime_pm.rst`, section 4).
 pub fn lines_are_taken()
     ensures { (plan : Plan) (h : History) (line : Line) → IsLawful plan h → (p : Permits plan h line) → can_take plan (world plan h).views p.change line.event ≡ true }
+{}
+
+/// A caller calls the commands of its script in turn, and no more than it has: at most 1,000 (this
+/// project's own).
+pub fn calls_are_bounded()
+    ensures called { (plan : Plan) (h : History) (c : ℕ) (caller : CallerRow) → IsLawful plan h → slice_get plan.callers c ≡ Some caller → called_by (world plan h) c ≤ length caller.script }
+    ensures script { (plan : Plan) (c : ℕ) (caller : CallerRow) → slice_get plan.callers c ≡ Some caller → length caller.script ≤ MAX_COMMANDS }
+    ensures next { (plan : Plan) (h : History) (line : Line) (c : ℕ) (command : Command) → IsLawful plan h → Permits plan h line → line.actor ≡ Caller c → line.event ≡ event.Call command → next_command plan (world plan h) c ≡ Some command }
+{}
+
+/// A stage at which an actor stands is well formed, while times are below 2^63, as those of a plan's lines
+/// are (this project's own).
+pub fn stages_can_be_told()
+    ensures { (plan : Plan) (h : History) (a : ActorId) (s : Stage) → IsLawful plan h → last_time h < 2 ^ 63 → stage_at plan (world plan h) a ≡ Some s → is_well_formed plan (world plan h).views s ≡ true }
+{}
+
+/// Each line that may come next at a time below 2^63 is one of the plan's lines, those that have a text,
+/// and so are all lines of a lawful list whose last time is below it (this project's own).
+pub fn lines_are_of_plan()
+    ensures event { (plan : Plan) (h : History) (line : Line) → IsLawful plan h → Permits plan h line → line.time + 1000000 < 2 ^ 64 → is_event_of (length plan.devices) line.event ≡ true }
+    ensures next { (plan : Plan) (h : History) (line : Line) → IsLawful plan h → Permits plan h line → line.time < 2 ^ 63 → is_line_of plan line ≡ true }
+    ensures all { (plan : Plan) (h : History) → IsLawful plan h → last_time h < 2 ^ 63 → list_all (is_line_of plan) h ≡ true }
+{}
+
+/// Each line that may come next is short, and so are all lines of a lawful list: the text of such a line
+/// has at most 162 bytes (this project's own).
+pub fn lines_are_short()
+    ensures next { (plan : Plan) (h : History) (line : Line) → IsLawful plan h → Permits plan h line → is_short_line line ≡ true }
+    ensures all { (plan : Plan) (h : History) → IsLawful plan h → list_all is_short_line h ≡ true }
+{}
+
+/// No line is due more than 1,000,000 milliseconds after the last line: neither the end of a callback or
+/// of a delay, nor a timer. No device was marked busy later than that line (`runtime_pm.rst`, sections 4
+/// and 9; the limit is this project's own).
+pub fn due_moments()
+    ensures due { (plan : Plan) (h : History) (a : ActorId) (s : Stage) → IsLawful plan h → stage_at plan (world plan h) a ≡ Some s → due plan (world plan h).views s ≤ last_time h + 1000000 }
+    ensures timers { (plan : Plan) (h : History) (d : DevId) (armed : Armed) → IsLawful plan h → timer (world plan h).views d ≡ Some armed → armed.deadline ≤ last_time h + 1000000 }
+    ensures busy { (plan : Plan) (h : History) (d : DevId) → IsLawful plan h → (device (world plan h).views d).last_busy ≤ last_time h }
 {}
