@@ -53,7 +53,7 @@ begun_bounded plan h k d lawful = elim (cases_lt d.0 (length plan.devices)) [
   | inr past ↦ omega (arith, fresh_begun k (world plan h).views d (beyond plan h d lawful past))
 ]
 
-room : (n : ℕ) → n ≤ 200001 → has_room n ≡ true
+pub room : (n : ℕ) → n ≤ 200001 → has_room n ≡ true
 room n few = lt-ltb (n + 1) (2 ^ 32) (omega (arith, few))
 
 pub rooms : (plan : Plan) (h : List Line) (d : DevId) → IsLawful plan h → HasRooms (world plan h).views d

@@ -1,11 +1,12 @@
 -- A caller calls its script's commands in turn, and no more.
-use Rattle.std.proofs.Common.{ℕ, zero, suc, ◌≡◌, ◌+◌, ◌<◌, ◌≤◌, List, [], ◌∷◌, Option, Some, None, length, map, slice_get, slice_index_or, slice_set, ap, refl, sym, ◌∙◌, subst, arith, inl, inr}
+use Rattle.std.proofs.Common.{ℕ, zero, suc, ◌≡◌, ◌+◌, ◌<◌, ◌≤◌, true, List, [], ◌∷◌, Option, Some, None, length, map, slice_get, slice_index_or, slice_set, ap, refl, sym, ◌∙◌, subst, arith, inl, inr}
 use Rattle.std.specs.Option.{option_and_then, option_map}
 use Rattle.std.proofs.lemmas.Bool.Decides.{eqb_tells}
 use Rattle.std.proofs.lemmas.List.{get_or-set_other}
 use Rattle.std.proofs.lemmas.Option.{slice_get_within}
 use Rattle.pm_base.specs.declared.ActorId.{ActorId}
 use Rattle.pm_base.specs.declared.ActorId.TheVariants.{Caller, Work, Timer}
+use Rattle.pm_base.specs.declared.limits.TheConstants.{MAX_COMMANDS}
 use Rattle.pm_model.specs.declared.event.Command.{Command}
 use Rattle.pm_model.specs.declared.event.Event.{Event}
 use Rattle.pm_model.specs.declared.event.Event.TheVariants as event
@@ -15,6 +16,7 @@ use Rattle.pm_model.specs.declared.rows.CallerRow.{CallerRow}
 use Rattle.pm_model.specs.declared.stage.HelperStage.TheVariants as at
 use Rattle.pm_model.specs.declared.stage.Stage.{Stage}
 use Rattle.pm_model.specs.declared.stage.Stage.TheVariants as stage
+use Rattle.pm_model.specs.CanTake.{has_room}
 use Rattle.pm_model.specs.ChangeViews.{change_views}
 use Rattle.pm_model.specs.Events.{by_event}
 use Rattle.pm_model.specs.Handing.{after_then}
@@ -22,7 +24,8 @@ use Rattle.pm_model.specs.Lawful.{IsLawful, Permits}
 use Rattle.pm_model.specs.Row.{writes}
 use Rattle.pm_model.specs.Views.{Views}
 use Rattle.pm_model.specs.World.{World, after_line, called_by, counts_call, next_command, place, ready, stage_at, top, with_place, world}
-use Rattle.pm_bounds.proofs.Places.{rest_later}
+use Rattle.pm_bounds.proofs.Bounded.{room}
+use Rattle.pm_bounds.proofs.Limits.{few_commands}
 use Rattle.pm_bounds.proofs.Said.{leads, places_later, said}
 use Rattle.pm_bounds.proofs.Saying.{AreLater, IsSaid}
 use Rattle.pm_bounds.proofs.Timers.{set_either}
@@ -80,13 +83,32 @@ start_called [] i = refl
 start_called (x ∷ l) zero = refl
 start_called (x ∷ l) (suc i) = start_called l i
 
-pub called_bounded : (plan : Plan) (h : List Line) (c : ℕ) (caller : CallerRow) → IsLawful plan h → slice_get plan.callers c ≡ Some caller
-    → called_by (world plan h) c ≤ length caller.script
-called_bounded plan [] c caller lawful is = omega (arith, start_called plan.callers c)
-called_bounded plan (line ∷ h) c caller lawful is =
+-- where each next command has less than m before it, no more than m are called
+called_upto : (plan : Plan) (h : List Line) (c m : ℕ) → IsLawful plan h → ((w : World) (command : Command) → next_command plan w c ≡ Some command → called_by w c < m)
+    → called_by (world plan h) c ≤ m
+called_upto plan [] c m lawful within = omega (arith, start_called plan.callers c)
+called_upto plan (line ∷ h) c m lawful within =
     let w = world plan h in
     let p = lawful.0 in
-    let less : (command : Command) → line.actor ≡ Caller c → line.event ≡ event.Call command → called_by w c < length caller.script = λ command actor calls. next_within plan w c command caller (next_called plan h line c command lawful.2 p actor calls) is in
-    let counted = counts_within w.called line.actor line.event c (length caller.script) less (called_bounded plan h c caller lawful.2 is) in
+    let less : (command : Command) → line.actor ≡ Caller c → line.event ≡ event.Call command → called_by w c < m = λ command actor calls. within w command (next_called plan h line c command lawful.2 p actor calls) in
+    let counted = counts_within w.called line.actor line.event c m less (called_upto plan h c m lawful.2 within) in
     let now : called_by (world plan (line ∷ h)) c ≡ slice_index_or (counts_call line.actor line.event w.called) c 0 = ap (λ r. called_by (after_line plan w line r) c) (leads plan h line p) ∙ called_moved w (by_event plan line.time line.event (change_views plan line.time p.change w.views)) (counts_call line.actor line.event w.called) line.actor _ c in
     omega (arith, counted, now)
+
+pub called_bounded : (plan : Plan) (h : List Line) (c : ℕ) (caller : CallerRow) → IsLawful plan h → slice_get plan.callers c ≡ Some caller
+    → called_by (world plan h) c ≤ length caller.script
+called_bounded plan h c caller lawful is =
+    called_upto plan h c (length caller.script) lawful (λ w command next. next_within plan w c command caller next is)
+
+few_next : (plan : Plan) (w : World) (c : ℕ) (command : Command) → next_command plan w c ≡ Some command → called_by w c < MAX_COMMANDS
+few_next plan w c command next = go (slice_get plan.callers c) refl next
+  where
+    go : (o : Option CallerRow) → slice_get plan.callers c ≡ o → option_and_then (λ (row : CallerRow). slice_get row.script (called_by w c)) o ≡ Some command
+        → called_by w c < MAX_COMMANDS
+    go None is e = cc
+    go (Some caller) is e = omega (arith, slice_get_within caller.script (called_by w c) command e, few_commands plan c caller is)
+
+-- so one more call can be counted, of whichever caller
+pub called_room : (plan : Plan) (h : List Line) (c : ℕ) → IsLawful plan h → has_room (called_by (world plan h) c) ≡ true
+called_room plan h c lawful =
+    room (called_by (world plan h) c) (omega (arith, called_upto plan h c MAX_COMMANDS lawful (λ w command next. few_next plan w c command next)))

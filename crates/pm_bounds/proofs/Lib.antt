@@ -12,3 +12,4 @@ pub mod Timers
 pub mod Due
 pub mod OfPlan
 pub mod Called
+pub mod Moving

@@ -39,7 +39,7 @@ row_says plan v n t (stage.Control s) r delays within told fits ret e = obeys_sa
 row_says plan v n t (stage.Await s) r delays within told fits ret e = cc
 
 -- the row that writes a permitted line
-row_is : (plan : Plan) (h : List Line) (line : Line) → (p : Permits plan h line)
+pub row_is : (plan : Plan) (h : List Line) (line : Line) → (p : Permits plan h line)
     → row plan (world plan h).views p.stage line.time ≡ Some (writes line.event p.change p.next)
 row_is plan h line p =
     let v = (world plan h).views in written (due plan v p.stage) line.time (row plan v p.stage line.time) line.event p.change p.next p.gives

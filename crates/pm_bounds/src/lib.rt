@@ -2,7 +2,7 @@
 //! always be told, and always fits.
 #![tactic(auto)]
 
-ghost use Rattle.std.specs.Prelude.{◌≡◌, ◌+◌, ◌<◌, ◌≤◌, ◌^◌, ℕ, Bool, suc, Some, true, length, slice_get};
+ghost use Rattle.std.specs.Prelude.{◌≡◌, ◌+◌, ◌<◌, ◌≤◌, ◌^◌, ℕ, Bool, suc, Some, true, is_some, length, slice_get};
 ghost use Rattle.std.specs.List.{list_all};
 ghost use Rattle.pm_base.specs.declared.ActorId.{ActorId};
 ghost use Rattle.pm_base.specs.declared.ActorId.TheVariants.{Caller};
@@ -18,7 +18,7 @@ ghost use Rattle.pm_model.specs.declared.event.Line.{Line};
 ghost use Rattle.pm_model.specs.declared.plan.Plan.{Plan};
 ghost use Rattle.pm_model.specs.declared.rows.CallerRow.{CallerRow};
 ghost use Rattle.pm_model.specs.declared.stage.Stage.{Stage};
-ghost use Rattle.pm_model.specs.CanTake.{can_take};
+ghost use Rattle.pm_model.specs.CanTake.{can_take, has_room};
 ghost use Rattle.pm_model.specs.Counted.{gets, is_callers};
 ghost use Rattle.pm_model.specs.Derived.{begun};
 ghost use Rattle.pm_model.specs.History.{History};
@@ -26,8 +26,9 @@ ghost use Rattle.pm_model.specs.Lawful.{IsLawful, Permits, last_time};
 ghost use Rattle.pm_model.specs.LineOf.{is_event_of, is_line_of};
 ghost use Rattle.pm_model.specs.Views.{device, timer};
 ghost use Rattle.pm_model.specs.WellFormed.{is_well_formed};
-ghost use Rattle.pm_model.specs.World.{called_by, due, next_command, stage_at, world};
+ghost use Rattle.pm_model.specs.World.{called_by, due, move, next_command, place, stage_at, world};
 ghost use Rattle.pm_bounds.specs.Rooms.{HasRooms, begin_lines};
+ghost use Rattle.pm_bounds.specs.Running.{runs_callback};
 
 /// A lawful list has at most 200,000 lines (this project's own).
 pub fn lines_are_bounded()
@@ -50,9 +51,10 @@ pub fn counts_are_bounded()
     ensures begins { (k : Cb) (h : History) (d : DevId) → begin_lines k h d ≤ length h }
 {}
 
-/// One more of each count of each device can be counted in 32 bits.
+/// One more of each count of each device, and one more call of each caller, can be counted in 32 bits.
 pub fn counts_have_room()
-    ensures { (plan : Plan) (h : History) (d : DevId) → IsLawful plan h → HasRooms (world plan h).views d }
+    ensures calls { (plan : Plan) (h : History) (c : ℕ) → IsLawful plan h → has_room (called_by (world plan h) c) ≡ true }
+    ensures devices { (plan : Plan) (h : History) (d : DevId) → IsLawful plan h → HasRooms (world plan h).views d }
 {}
 
 /// The counters can take each line that may come next: a put finds its count, a forced suspend finds the
@@ -73,6 +75,19 @@ pub fn calls_are_bounded()
 /// are (this project's own).
 pub fn stages_can_be_told()
     ensures { (plan : Plan) (h : History) (a : ActorId) (s : Stage) → IsLawful plan h → last_time h < 2 ^ 63 → stage_at plan (world plan h) a ≡ Some s → is_well_formed plan (world plan h).views s ≡ true }
+{}
+
+/// A stage at which an actor stands has a move: no actor stands at a stage under a call (this project's
+/// own).
+pub fn stages_have_moves()
+    ensures { (plan : Plan) (h : History) (a : ActorId) (s : Stage) (t : ℕ) → IsLawful plan h → stage_at plan (world plan h) a ≡ Some s → is_some (move plan (world plan h).views s t) ≡ true }
+{}
+
+/// The end of a callback needs no more room on its actor's stack: the place is open, and at most one stage
+/// comes where the callback's was (this project's own).
+pub fn ends_are_level()
+    ensures open_place { (plan : Plan) (h : History) (a : ActorId) (s : Stage) → stage_at plan (world plan h) a ≡ Some s → runs_callback s ≡ true → 0 < length (place (world plan h) a) }
+    ensures level { (plan : Plan) (h : History) (line : Line) → (p : Permits plan h line) → runs_callback p.stage ≡ true → length p.next.push ≤ 1 }
 {}
 
 /// Each line that may come next at a time below 2^63 is one of the plan's lines, those that have a text,
