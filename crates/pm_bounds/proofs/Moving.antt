@@ -3,6 +3,7 @@
 use Rattle.std.proofs.Common.{ℕ, ◌≡◌, ◌<◌, ◌≤◌, true, List, [], ◌∷◌, Some, is_some, length, refl, subst, sym, arith, inl, inr}
 use Rattle.std.proofs.lemmas.Bool.{false≢true}
 use Rattle.pm_base.specs.declared.ActorId.{ActorId}
+use Rattle.pm_base.specs.declared.DevId.{DevId}
 use Rattle.pm_model.specs.declared.event.Line.{Line}
 use Rattle.pm_model.specs.declared.plan.Plan.{Plan}
 use Rattle.pm_model.specs.declared.stage.IdleStage.TheVariants as idle
@@ -18,7 +19,6 @@ use Rattle.pm_model.specs.Row.{Row}
 use Rattle.pm_model.specs.SuspendTable.{suspend_ends}
 use Rattle.pm_model.specs.Views.{Views}
 use Rattle.pm_model.specs.World.{World, move, place, row, stage_at, world}
-use Rattle.pm_base.specs.declared.DevId.{DevId}
 use Rattle.pm_stacks.specs.Shape.{IsAwake}
 use Rattle.pm_stacks.proofs.Nesting.{stands_nested}
 use Rattle.pm_stacks.proofs.Obeying.{Duty, Obeys, both, both_next, ok}

@@ -2,7 +2,7 @@
 //! always be told, and always fits.
 #![tactic(auto)]
 
-ghost use Rattle.std.specs.Prelude.{◌≡◌, ◌+◌, ◌<◌, ◌≤◌, ◌^◌, ℕ, Bool, suc, Some, true, is_some, length, slice_get};
+ghost use Rattle.std.specs.Prelude.{◌≡◌, ◌+◌, ◌<◌, ◌≤◌, ◌^◌, ℕ, Bool, Some, true, is_some, length, slice_get};
 ghost use Rattle.std.specs.List.{list_all};
 ghost use Rattle.pm_base.specs.declared.ActorId.{ActorId};
 ghost use Rattle.pm_base.specs.declared.ActorId.TheVariants.{Caller};
@@ -43,7 +43,7 @@ pub fn begins_are_counted()
 /// No count of a device passes the lines that can raise it: its depth, which begins at 1, its usage, its
 /// share, and how often its callbacks have begun (`runtime_pm.rst`, sections 3 to 5).
 pub fn counts_are_bounded()
-    ensures depth { (plan : Plan) (h : History) (d : DevId) → IsLawful plan h → (device (world plan h).views d).depth ≤ suc (length h) }
+    ensures depth { (plan : Plan) (h : History) (d : DevId) → IsLawful plan h → (device (world plan h).views d).depth ≤ 1 + length h }
     ensures usage { (plan : Plan) (h : History) (d : DevId) → IsLawful plan h → (device (world plan h).views d).usage ≤ gets (λ w. true) h d }
     ensures share { (plan : Plan) (h : History) (d : DevId) → IsLawful plan h → (device (world plan h).views d).share ≤ gets is_callers h d }
     ensures begun { (plan : Plan) (h : History) (k : Cb) (d : DevId) → IsLawful plan h → begun (world plan h).views k d ≤ begin_lines k h d }

@@ -1,3 +1,4 @@
+use Rattle.std.proofs.Common.{arith}
 use Rattle.std.proofs.lemmas.List.Sums.{count_by-le-length}
 use Rattle.pm_model.specs.Counted.{takes}
 use Rattle.pm_bounds.specs.Rooms.{begins}
@@ -5,7 +6,7 @@ use Rattle.pm_bounds.proofs.counts_are_bounded.Goals as goal
 use Rattle.pm_bounds.proofs.Bounded as proof
 
 pub returns-clause-depth : goal.returns-clause-depth
-returns-clause-depth c = proof.depth_bounded
+returns-clause-depth c = λ plan h d lawful. omega (arith, proof.depth_bounded plan h d lawful)
 
 pub returns-clause-usage : goal.returns-clause-usage
 returns-clause-usage c = proof.usage_bounded
