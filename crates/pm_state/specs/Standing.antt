@@ -1,18 +1,23 @@
 -- Where a run of a plan stands, and what one line makes of it (this project's own).
-use Rattle.std.specs.Prelude.{◌≡◌, ◌<◌, drop, length, true}
+use Rattle.std.specs.Prelude.{◌≡◌, ◌<◌, ◌&&◌, Bool, true, false, drop, length}
+use Rattle.std.specs.Option.{option_map_or}
 use Rattle.pm_base.specs.declared.ActorId.{ActorId}
 use Rattle.pm_base.specs.declared.ActorId.TheVariants.{Caller, Work, Timer}
-use Rattle.pm_base.specs.declared.DevId.{DevId}
+use Rattle.pm_model.specs.declared.event.Event.{Event}
+use Rattle.pm_model.specs.declared.event.Event.TheVariants as event
 use Rattle.pm_model.specs.declared.event.Line.{Line}
 use Rattle.pm_model.specs.declared.plan.Plan.{Plan}
 use Rattle.pm_model.specs.declared.stage.Change.{Change}
+use Rattle.pm_model.specs.declared.stage.Stage.{Stage}
+use Rattle.pm_model.specs.declared.stage.Stage.TheVariants as stage
 use Rattle.pm_model.specs.declared.stage.Then.{Then}
-use Rattle.pm_model.specs.CanTake.{can_free}
+use Rattle.pm_model.specs.CanTake.{can_take, has_room}
 use Rattle.pm_model.specs.ChangeViews.{change_views}
 use Rattle.pm_model.specs.Events.{by_event}
 use Rattle.pm_model.specs.Handing.{after_then}
 use Rattle.pm_model.specs.Views.{Views}
-use Rattle.pm_model.specs.World.{World, counts_call, place, with_place}
+use Rattle.pm_model.specs.WellFormed.{is_well_formed}
+use Rattle.pm_model.specs.World.{World, called_by, counts_call, place, stage_at, with_place}
 use Rattle.pm_device.specs.Parts.{Counters, IsFor, Shape}
 
 -- what the counters were made for, and where the run stands
@@ -39,6 +44,34 @@ pub record IsOf (plan : Plan) (s : Standing) : Type 0 where
   pub timers : length s.world.timer_places ≡ length plan.devices
   pub called : length s.world.called ≡ length plan.callers
 
+-- a stage that awaits no call
+abbrev pub is_awake : Stage → Bool
+is_awake (stage.Await a) = false
+is_awake _ = true
+
+-- an actor may go on at a stage: it is well formed, and awaits no call
+abbrev pub can_go_on : Plan → Views → Stage → Bool
+can_go_on plan v s = is_well_formed plan v s && is_awake s
+
+-- the actor may go on where it stands, if it stands at a stage
+abbrev pub StandsWell : Plan → World → ActorId → Type 0
+StandsWell plan w actor = option_map_or (can_go_on plan w.views) (stage_at plan w actor) true ≡ true
+
+-- so may every actor
+abbrev pub AllStandWell : Plan → World → Type 0
+AllStandWell plan w = (actor : ActorId) → StandsWell plan w actor
+
+-- one more call of a caller can be counted
+abbrev pub can_count : World → ActorId → Event → Bool
+can_count w (Caller c) (event.Call command) = has_room (called_by w c)
+can_count w _ _ = true
+
+-- the state can take a line of this actor with this event, whose row names this change: the counters can, and one more
+-- call can be counted
+pub record Takes (plan : Plan) (w : World) (actor : ActorId) (c : Change) (e : Event) : Type 0 where
+  pub counters : can_take plan w.views c e ≡ true
+  pub calls : can_count w actor e ≡ true
+
 -- where the run stands once a line is written whose row names this change, and this takes its stage's place
 abbrev pub after_write : Plan → World → Change → Line → Then → World
 after_write plan w c line next =
@@ -46,7 +79,3 @@ after_write plan w c line next =
       views = by_event plan line.time line.event (change_views plan line.time c w.views);
       called = counts_call line.actor line.event w.called;
     }) line.actor (after_then next (drop 1 (place w line.actor)))
-
--- a forced suspend of any device finds the counts that its held links took
-abbrev pub CanFreeAny : Plan → Views → Type 0
-CanFreeAny plan v = (d : DevId) → can_free plan v d ≡ true

@@ -1,22 +1,17 @@
 //! What an actor does at a moment.
 
-ghost use Rattle.std.specs.Prelude.{◌≡◌, ◌≢◌, ◌<◌, ◌&&◌, ◌^◌, is_some, not, true};
+ghost use Rattle.std.specs.Prelude.{◌≡◌, ◌<◌, ◌^◌, is_some, true};
 ghost use Rattle.pm_device.specs.Parts.{IsFor};
 ghost use Rattle.pm_model.specs.WellFormed.{is_well_formed};
-ghost use Rattle.pm_model.specs.World.{move, place};
-ghost use Rattle.pm_model.specs.Lawful.{is_empty_place};
-ghost use Rattle.pm_place.specs.Place.{is_level};
+ghost use Rattle.pm_model.specs.World.{move};
 ghost use Rattle.pm_model.specs.declared.plan.Plan.{Plan as APlan};
-ghost use Rattle.pm_state.specs.Standing.{CanFreeAny, IsActor, IsOf};
-ghost use Rattle.pm_state.specs.Turns.{HasPassed, TurnEndsLevel, by_move, ending_of, fails, fails_move, is_running, running_due, turn_of};
+ghost use Rattle.pm_state.specs.Standing.{IsActor, IsOf, StandsWell, can_go_on};
+ghost use Rattle.pm_state.specs.Turns.{IsEnding, by_move, end_due, ending_of, is_running, running_due, turn_of};
 
-use crate::moves::move_at;
 use crate::state::State;
-use crate::tests_of_stages::is_well_formed;
 use pm_base::{ActorId, Cb, DevId};
 use pm_device::{Parts, ms_of};
 use pm_model::{Change, Event, IdleStage, Move, Plan, ResumeStage, Stage, SuspendStage, Then};
-use pm_place::is_level;
 
 /// What an actor does at a moment, in milliseconds of the run.
 #[derive(Clone, Copy)]
@@ -37,8 +32,6 @@ pub enum Turn {
         change: Change,
         then: Then,
     },
-    /// A test failed that no law over whole runs rules out as yet.
-    Stuck,
 }
 
 // When the callback that runs at a stage ends.
@@ -83,95 +76,39 @@ fn runs(stage: Stage) -> bool
 }
 
 impl State {
-    // What an actor does at a well formed stage.
-    fn acts(&self, plan: &Plan, actor: ActorId, stage: Stage, time: u64) -> Turn
+    // What an actor does at a stage, once no callback runs there.
+    fn acts(&self, plan: &Plan, stage: Stage, time: u64) -> Turn
         requires is_of { IsOf plan.now self.now }
-        requires in_range { IsActor plan.now actor }
-        requires frees { CanFreeAny plan.now self.now.world.views }
-        requires well_formed { is_well_formed plan.now self.now.world.views stage ≡ true }
+        requires stands { can_go_on plan.now self.now.world.views stage ≡ true }
         requires in_time { time < 2 ^ 63 }
-        ensures turn { result ≢ Turn.Stuck → result ≡ by_move stage (move plan.now self.now.world.views stage time) }
-        ensures passed { HasPassed plan.now self.now.world actor result }
-        ensures stuck { result ≡ Turn.Stuck → fails_move plan.now self.now.world actor (move plan.now self.now.world.views stage time) ≡ true }
+        ensures { result ≡ by_move stage (move plan.now self.now.world.views stage time) }
     {
-        match move_at(plan, &self.parts, stage, time) {
-            Some(Move::Write(event, change, then)) => {
-                if self.fits(plan, actor, change, event) {
-                    Turn::Writes {
-                        stage,
-                        event,
-                        change,
-                        then,
-                    }
-                } else {
-                    Turn::Stuck
-                }
-            }
-            Some(Move::Late(at)) => Turn::Early(at),
-            Some(Move::Wait(dev)) => Turn::Blocked(dev),
-            None => Turn::Stuck,
-        }
-    }
-
-    /// What an actor does at a moment; it is stuck only where its line fails the tests. It takes no
-    /// memory.
-    pub fn turn(&self, plan: &Plan, actor: ActorId, time: u64) -> Turn
-        requires is_of { IsOf plan.now self.now }
-        requires in_range { IsActor plan.now actor }
-        requires frees { CanFreeAny plan.now self.now.world.views }
-        requires in_time { time < 2 ^ 63 }
-        ensures turn { result ≢ Turn.Stuck → result ≡ turn_of plan.now self.now.world actor time }
-        ensures passed { HasPassed plan.now self.now.world actor result }
-        ensures stuck { result ≡ Turn.Stuck → fails plan.now self.now.world actor time ≡ true }
-    {
-        let Some(stage) = self.stage_at(plan, actor) else {
-            return Turn::Resting;
-        };
-        if !is_well_formed(plan, &self.parts, stage) {
-            return Turn::Stuck;
-        }
-        match running_due(plan, &self.parts, stage) {
-            Some(at) => Turn::Running(at),
-            None => self.acts(plan, actor, stage, time),
-        }
-    }
-
-    // Whether what comes after a line takes no more room on the actor's stack than its top.
-    fn ends_level(&self, plan: &Plan, actor: ActorId, then: &Then) -> bool
-        requires is_of { IsOf plan.now self.now }
-        requires in_range { IsActor plan.now actor }
-        ensures { result ≡ (not (is_empty_place (place self.now.world actor)) && is_level then.now) }
-    {
-        !self.place(plan, actor).is_empty() && is_level(then)
-    }
-
-    // Where the actor's stack would have to grow, the end of a callback is stuck.
-    #[tactic(auto, using(crate::proofs::Fitting::first_of_two, crate::proofs::Fitting::second_of_two, crate::proofs::Fitting::is_open))]
-    fn level(&self, plan: &Plan, actor: ActorId, turn: Turn) -> Turn
-        requires is_of { IsOf plan.now self.now }
-        requires in_range { IsActor plan.now actor }
-        ensures same { result ≢ Turn.Stuck → result ≡ turn }
-        ensures level { TurnEndsLevel self.now.world actor result }
-    {
-        match turn {
-            Turn::Writes {
+        match self.next(plan, stage, time) {
+            Move::Write(event, change, then) => Turn::Writes {
                 stage,
                 event,
                 change,
                 then,
-            } => {
-                if self.ends_level(plan, actor, &then) {
-                    Turn::Writes {
-                        stage,
-                        event,
-                        change,
-                        then,
-                    }
-                } else {
-                    Turn::Stuck
-                }
-            }
-            other => other,
+            },
+            Move::Late(at) => Turn::Early(at),
+            Move::Wait(dev) => Turn::Blocked(dev),
+        }
+    }
+
+    /// What an actor does at a moment. It takes no memory.
+    pub fn turn(&self, plan: &Plan, actor: ActorId, time: u64) -> Turn
+        requires is_of { IsOf plan.now self.now }
+        requires in_range { IsActor plan.now actor }
+        requires stands { StandsWell plan.now self.now.world actor }
+        requires in_time { time < 2 ^ 63 }
+        ensures { result ≡ turn_of plan.now self.now.world actor time }
+    {
+        let Some(stage) = self.stage_at(plan, actor) else {
+            return Turn::Resting;
+        };
+        match running_due(plan, &self.parts, stage) {
+            Some(at) => Turn::Running(at),
+            None => self.acts(plan, stage, time),
         }
     }
 
@@ -180,19 +117,16 @@ impl State {
     pub fn ending(&self, plan: &Plan, actor: ActorId, time: u64) -> Turn
         requires is_of { IsOf plan.now self.now }
         requires in_range { IsActor plan.now actor }
-        requires frees { CanFreeAny plan.now self.now.world.views }
+        requires stands { StandsWell plan.now self.now.world actor }
+        requires running { is_running plan.now self.now.world actor ≡ true }
         requires in_time { time < 2 ^ 63 }
-        ensures turn { result ≢ Turn.Stuck → result ≡ ending_of plan.now self.now.world actor time }
-        ensures passed { HasPassed plan.now self.now.world actor result }
-        ensures level { TurnEndsLevel self.now.world actor result }
+        ensures turn { result ≡ ending_of plan.now self.now.world actor time }
+        ensures ends { IsEnding self.now.world actor time (end_due plan.now self.now.world actor) result }
     {
         let Some(stage) = self.stage_at(plan, actor) else {
             return Turn::Resting;
         };
-        if !is_well_formed(plan, &self.parts, stage) {
-            return Turn::Stuck;
-        }
-        self.level(plan, actor, self.acts(plan, actor, stage, time))
+        self.acts(plan, stage, time)
     }
 
     /// Whether a callback that the actor began runs.

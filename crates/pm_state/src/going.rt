@@ -3,46 +3,16 @@
 ghost use Rattle.std.specs.Prelude.{◌≡◌, ◌<◌, ◌^◌, drop, length, true, OnErr, OnOk};
 ghost use Rattle.pm_model.specs.Handing.{after_then};
 ghost use Rattle.pm_model.specs.World.{counts_call, place, with_place};
-ghost use Rattle.pm_state.specs.Standing.{CanFreeAny, IsActor, IsOf, after_write};
+ghost use Rattle.pm_state.specs.Standing.{IsActor, IsOf, Takes, after_write, can_count};
 ghost use Rattle.pm_place.specs.Place.{is_level};
-ghost use Rattle.pm_state.specs.Tests.{fits, fits_call};
 ghost use Rattle.pm_state.specs.Turns.{EndsLevel};
 
 use crate::state::State;
-use crate::tests_of_events::{can_take, has_room};
-use crate::tests_of_lines::is_event_of;
 use pm_apply::apply;
 use pm_base::{ActorId, NoMemory};
 use pm_model::{Change, Event, Line, Plan, Then};
 
 impl State {
-    // One more call of a caller can be counted.
-    fn fits_call(&self, plan: &Plan, actor: ActorId, event: Event) -> bool
-        requires is_of { IsOf plan.now self.now }
-        requires in_range { IsActor plan.now actor }
-        ensures { result ≡ fits_call self.now.world actor event }
-    {
-        let ActorId::Caller(caller) = actor else {
-            return true;
-        };
-        match event {
-            Event::Call { .. } => has_room(self.called[caller as usize]),
-            _ => true,
-        }
-    }
-
-    /// Whether a line with this change and this event passes the tests. It takes no memory.
-    pub fn fits(&self, plan: &Plan, actor: ActorId, change: Change, event: Event) -> bool
-        requires is_of { IsOf plan.now self.now }
-        requires in_range { IsActor plan.now actor }
-        requires frees { CanFreeAny plan.now self.now.world.views }
-        ensures { result ≡ fits plan.now self.now.world actor change event }
-    {
-        can_take(plan, &self.parts, change, event)
-            && self.fits_call(plan, actor, event)
-            && is_event_of(plan.devices.len(), event)
-    }
-
     // What comes after a line takes the place of the top of the actor's stages.
     fn give_way(&mut self, plan: &Plan, actor: ActorId, then: Then) -> Result<(), NoMemory>
         requires is_of { IsOf plan.now self.old }
@@ -76,7 +46,7 @@ impl State {
     fn count_call(&mut self, plan: &Plan, actor: ActorId, event: Event)
         requires is_of { IsOf plan.now self.old }
         requires in_range { IsActor plan.now actor }
-        requires fits { fits_call self.old.world actor event ≡ true }
+        requires room { can_count self.old.world actor event ≡ true }
         ensures { self.new ≡ record self.old { world = record self.old.world { called = counts_call actor event self.old.world.called } } }
     {
         let ActorId::Caller(caller) = actor else {
@@ -98,7 +68,7 @@ impl State {
     ) -> Result<(), NoMemory>
         requires is_of { IsOf plan.now self.old }
         requires in_range { IsActor plan.now line.now.actor }
-        requires fits { fits plan.now self.old.world line.now.actor change line.now.event ≡ true }
+        requires takes { Takes plan.now self.old.world line.now.actor change line.now.event }
         requires in_time { line.now.time < 2 ^ 63 }
         ensures ok { OnOk result (self.new ≡ record self.old { world = after_write plan.now self.old.world change line.now then }) }
         ensures err { OnErr result (self.new ≡ self.old) }
@@ -113,7 +83,7 @@ impl State {
     pub fn go_level(&mut self, plan: &Plan, change: Change, line: &Line, then: Then)
         requires is_of { IsOf plan.now self.old }
         requires in_range { IsActor plan.now line.now.actor }
-        requires fits { fits plan.now self.old.world line.now.actor change line.now.event ≡ true }
+        requires takes { Takes plan.now self.old.world line.now.actor change line.now.event }
         requires level { EndsLevel self.old.world line.now.actor then }
         requires in_time { line.now.time < 2 ^ 63 }
         ensures { self.new ≡ record self.old { world = after_write plan.now self.old.world change line.now then } }

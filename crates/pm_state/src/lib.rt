@@ -8,9 +8,6 @@ mod finished;
 mod going;
 mod moves;
 mod state;
-mod tests_of_events;
-mod tests_of_lines;
-mod tests_of_stages;
 
 pub use acting::Turn;
 pub use devices::device_of;

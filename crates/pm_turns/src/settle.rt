@@ -1,7 +1,7 @@
 //! What a line changes of the turns.
 
 ghost use Rattle.std.specs.Prelude.{◌≡◌, ◌<◌, ◌^◌, true, IfSome};
-ghost use Rattle.pm_state.specs.Standing.{IsActor, IsOf};
+ghost use Rattle.pm_state.specs.Standing.{AllStandWell, IsActor, IsOf};
 ghost use Rattle.pm_turns.specs.Seats.{AreOf, IsSeated};
 
 use crate::turns::Turns;
@@ -108,6 +108,7 @@ impl Turns {
     // Looks anew at those who wait for a device.
     fn refresh_waiters(&mut self, plan: &Plan, state: &State, dev: DevId)
         requires is_of { IsOf plan.now state.now }
+        requires stand { AllStandWell plan.now state.now.world }
         requires seats { AreOf plan.now self.old }
         ensures { self.new ≡ self.old }
     {
@@ -122,6 +123,7 @@ impl Turns {
     // Looks anew at all whose turn may depend on this device.
     fn touch(&mut self, plan: &Plan, state: &State, dev: DevId)
         requires is_of { IsOf plan.now state.now }
+        requires stand { AllStandWell plan.now state.now.world }
         requires seats { AreOf plan.now self.old }
         ensures { self.new ≡ self.old }
     {
@@ -136,6 +138,7 @@ impl Turns {
     /// Takes note of a line that was written at this stage and led to this state.
     pub fn settle(&mut self, plan: &Plan, state: &State, stage: Stage, line: &Line)
         requires is_of { IsOf plan.now state.now }
+        requires stand { AllStandWell plan.now state.now.world }
         requires seats { AreOf plan.now self.old }
         requires in_range { IsActor plan.now line.now.actor }
         requires in_time { line.now.time < 2 ^ 63 }

@@ -1,7 +1,7 @@
 //! From when each actor may write.
 
 ghost use Rattle.std.specs.Prelude.{◌≡◌, ◌+◌, ◌*◌, ◌<◌, ◌^◌, length, IfOk};
-ghost use Rattle.pm_state.specs.Standing.{IsActor, IsOf};
+ghost use Rattle.pm_state.specs.Standing.{AllStandWell, IsActor, IsOf, StandsWell};
 ghost use Rattle.pm_turns.specs.Seats.{AreOf};
 
 use crate::places::few;
@@ -53,10 +53,11 @@ fn no_waiters(alloc: Global, devices: usize) -> Result<Vec<Vec<ActorId>>, NoMemo
 fn wakes(plan: &Plan, state: &State, actor: ActorId, time: u64) -> Option<u64>
     requires is_of { IsOf plan.now state.now }
     requires in_range { IsActor plan.now actor }
+    requires stands { StandsWell plan.now state.now.world actor }
     requires in_time { time < 2 ^ 63 }
 {
     let stage = state.stage_at(plan, actor)?;
-    match state.next(plan, stage, time)? {
+    match state.next(plan, stage, time) {
         Move::Write(..) => Some(0),
         Move::Late(at) => Some(at),
         Move::Wait(_) => None,
@@ -67,7 +68,8 @@ impl Turns {
     /// The turns before any line: only callers have something to start. All memory is taken here but
     /// that for waiters.
     pub fn fresh(alloc: Global, plan: &Plan, state: &State) -> Result<Turns, NoMemory>
-        requires { IsOf plan.now state.now }
+        requires is_of { IsOf plan.now state.now }
+        requires stand { AllStandWell plan.now state.now.world }
         ensures { IfOk result (AreOf plan.now) }
     {
         few(plan);
@@ -88,6 +90,7 @@ impl Turns {
     // Looks anew at all callers.
     fn refresh_callers(&mut self, plan: &Plan, state: &State)
         requires is_of { IsOf plan.now state.now }
+        requires stand { AllStandWell plan.now state.now.world }
         requires seats { AreOf plan.now self.old }
         ensures { self.new ≡ self.old }
     {
@@ -99,6 +102,7 @@ impl Turns {
     // Looks anew at an actor, as things stand now.
     pub(crate) fn refresh(&mut self, plan: &Plan, state: &State, actor: ActorId)
         requires is_of { IsOf plan.now state.now }
+        requires stand { AllStandWell plan.now state.now.world }
         requires seats { AreOf plan.now self.old }
         requires in_range { IsActor plan.now actor }
         ensures { self.new ≡ self.old }

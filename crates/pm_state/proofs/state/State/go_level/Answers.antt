@@ -4,7 +4,7 @@ use Rattle.pm_model.specs.Handing.{after_then}
 use Rattle.pm_model.specs.Views.{Views}
 use Rattle.pm_model.specs.World.{place}
 use Rattle.pm_state.specs.Standing.{Standing}
-use Rattle.pm_state.proofs.Fitting.{line_taken, with_place_views}
+use Rattle.pm_state.proofs.PlaceLemmas.{with_place_views}
 use Rattle.pm_state.proofs.state.State.go_level.Goals as goal
 
 pub apply-requires-clause-fits : goal.apply-requires-clause-fits
@@ -16,4 +16,4 @@ apply-requires-clause-fits c =
     let kept : c.self.inside.parts.views ≡ w.views =
     ap views_of c.self.view_is ∙ ap views_of c.count_call.ensures ∙ ap views_of c.give_way_level.ensures
     ∙ with_place_views w line.actor (after_then c.args.then (drop 1 (place w line.actor))) in
-    subst (λ v. can_take plan v c.args.change line.event ≡ true) (sym kept) (line_taken plan w line.actor c.args.change line.event c.requires.fits)
+    subst (λ v. can_take plan v c.args.change line.event ≡ true) (sym kept) c.requires.takes.counters
