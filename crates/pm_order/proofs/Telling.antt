@@ -73,7 +73,7 @@ then_shown : (o old : Option DevId) (next : Then) (l : List Stage) → IsShown o
 then_shown o old next l p q = back_shown o next.back next.push (drop 1 l) p q.1
 
 -- the actors
-same_actor : (a b : ActorId) → is_actor a b ≡ true → a ≡ b
+pub same_actor : (a b : ActorId) → is_actor a b ≡ true → a ≡ b
 same_actor (Caller a) (Caller b) e = let same : a ≡ b = grind (arith, nat_tests) in ap (λ n. Caller n) same
 same_actor (Work a) (Work b) e = let same : a ≡ b = grind (arith, nat_tests) in ap (λ n. Work n) same
 same_actor (Timer a) (Timer b) e = let same : a ≡ b = grind (arith, nat_tests) in ap (λ n. Timer n) same

@@ -1,1 +1,4 @@
 pub mod FewLemmas
+pub mod PlaceLemmas
+pub mod RoundLemmas
+pub mod IndexLemmas

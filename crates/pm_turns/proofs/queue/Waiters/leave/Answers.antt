@@ -1,0 +1,14 @@
+use Rattle.std.proofs.Common.{◌≡◌, ◌∙◌, Some, ap, slice_get, subst, sym}
+use Rattle.pm_turns.specs.Turning.{Queue, is_listed}
+use Rattle.pm_order.specs.Told.{is_actor}
+use Rattle.pm_base.specs.declared.ActorId.{ActorId}
+use Rattle.std.proofs.Common.{List, true, false, remove}
+use Rattle.pm_turns.proofs.IndexLemmas.{Leaves, leaves_others}
+use Rattle.pm_turns.proofs.queue.Waiters.leave.Goals as goal
+
+pub returns-in-Some : goal.returns-in-Some
+returns-in-Some c =
+    let at : slice_get c.self.inside.actors.items c.in-Some.nth ≡ Some c.args.actor = ap (λ (l : List ActorId). slice_get l c.in-Some.nth) (sym c.deref.ensures.value) ∙ c.in-Some.ensures.is in
+    let leaves : Leaves c.args.actor c.self.inside.actors.items c.remove.new.self.items =
+    leaves_others c.self.inside.actors.items c.remove.new.self.items c.in-Some.nth c.args.actor c.remove.ensures.items at in
+    subst (λ (q : Queue). Leaves c.args.actor q.actors c.remove.new.self.items) c.self.view_is leaves

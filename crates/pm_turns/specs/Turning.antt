@@ -1,0 +1,91 @@
+-- What the index of turns is after a list of lines (this project's own).
+use Rattle.std.specs.Prelude.{◌≡◌, ◌<◌, ◌≤◌, ℕ, Bool, true, ◌||◌, List, [], Option, Some, None, length, slice_get, slice_index_or}
+use Rattle.std.specs.List.{list_any}
+use Rattle.pm_base.specs.declared.ActorId.{ActorId}
+use Rattle.pm_base.specs.declared.ActorId.TheVariants.{Caller, Work, Timer}
+use Rattle.pm_base.specs.declared.DevId.{DevId}
+use Rattle.pm_model.specs.declared.event.Event.{Event}
+use Rattle.pm_model.specs.declared.event.Event.TheVariants as event
+use Rattle.pm_model.specs.declared.plan.Plan.{Plan}
+use Rattle.pm_model.specs.declared.stage.Move.{Move}
+use Rattle.pm_model.specs.declared.stage.Move.TheVariants.{Write, Late, Wait}
+use Rattle.pm_model.specs.declared.stage.Stage.{Stage}
+use Rattle.pm_model.specs.History.{History}
+use Rattle.pm_model.specs.Lawful.{last_time}
+use Rattle.pm_model.specs.Serial.{seat}
+use Rattle.pm_model.specs.WellFormed.{is_well_formed}
+use Rattle.pm_model.specs.World.{World, stage_at, world}
+use Rattle.pm_order.specs.Told.{is_actor, told_wait}
+use Rattle.pm_waking.specs.Wakes.{wakes}
+use Rattle.pm_turns.specs.Seats.{Asks, IsSeated, Seating, moment_by}
+
+-- those who wait for one device, and how many more there is room for
+pub record Queue : Type 0 where
+  pub actors : List ActorId
+  pub spare : ℕ
+
+-- the seats, and for each device those who wait for it
+pub record Index : Type 0 where
+  pub rows : Seating
+  pub queues : List Queue
+
+abbrev pub no_queue : Queue
+no_queue = record { actors = []; spare = 0 }
+
+abbrev pub queue : Index → DevId → Queue
+queue x d = slice_index_or x.queues d.0 no_queue
+
+abbrev pub is_listed : ActorId → List ActorId → Bool
+is_listed actor actors = list_any (is_actor actor) actors
+
+-- the actor is the work item or the timer of this device, or waits for it
+abbrev pub is_near : Index → DevId → ActorId → Bool
+is_near x d actor = is_actor actor (Work d.0) || is_actor actor (Timer d.0) || is_listed actor (queue x d).actors
+
+-- the seats are those of this plan, whatever its scripts
+pub record AreOf (plan : Plan) (s : Seating) : Type 0 where
+  pub callers : s.callers ≡ length plan.callers
+  pub devices : s.devices ≡ length plan.devices
+
+-- a line with this event has room for one more that waits
+abbrev pub HasRoom : Index → Event → Type 0
+HasRoom x (event.Wait d) = d.0 < length x.queues → 1 ≤ (queue x d).spare
+HasRoom x _ = Unit {0}
+
+-- each stage at which an actor stands is well formed
+abbrev pub AreFit : Plan → World → Type 0
+AreFit plan w = (a : ActorId) (s : Stage) → stage_at plan w a ≡ Some s → is_well_formed plan w.views s ≡ true
+
+-- from when a line may be written, by what its actor may do at 0
+abbrev pub wakes_by : Option Move → Option ℕ
+wakes_by None = None
+wakes_by (Some (Write e c next)) = Some 0
+wakes_by (Some (Late at)) = Some at
+wakes_by (Some (Wait d)) = None
+
+-- some actors are asked anew, and the first so many who are listed for a device are
+pub record Looked (wake : ActorId → Option ℕ) (x x' : Index) (d : DevId) (n : ℕ) : Type 0 where
+  pub asks : Asks wake x.rows x'.rows
+  pub queues : x'.queues ≡ x.queues
+  pub right : (k : ℕ) (a : ActorId) → k < n → slice_get (queue x d).actors k ≡ Some a → IsSeated x.rows a → moment_by x'.rows a ≡ wake a
+
+-- some actors are asked anew, and the first so many callers are
+pub record Called (wake : ActorId → Option ℕ) (x x' : Index) (n : ℕ) : Type 0 where
+  pub asks : Asks wake x.rows x'.rows
+  pub queues : x'.queues ≡ x.queues
+  pub right : (c : ℕ) → c < n → c < x.rows.callers → moment_by x'.rows (Caller c) ≡ wake (Caller c)
+
+-- all who are near a device are asked anew
+pub record Touched (wake : ActorId → Option ℕ) (x x' : Index) (d : DevId) : Type 0 where
+  pub asks : Asks wake x.rows x'.rows
+  pub queues : x'.queues ≡ x.queues
+  pub right : (a : ActorId) → IsSeated x.rows a → is_near x d a ≡ true → moment_by x'.rows a ≡ wake a
+
+-- the search begins after the last writer, each seat has the moment of its actor, and whoever waits for a device is
+-- among those who are listed for it
+pub record IsIndex (plan : Plan) (h : History) (x : Index) : Type 0 where
+  pub of_plan : AreOf plan x.rows
+  pub seat : x.rows.seat ≡ seat plan h
+  pub time : x.rows.time ≡ last_time h
+  pub moments : (a : ActorId) → IsSeated x.rows a → moment_by x.rows a ≡ wakes plan (world plan h) a
+  pub waiting : (a : ActorId) (d : DevId) → d.0 < x.rows.devices → told_wait a h ≡ Some d → is_listed a (queue x d).actors ≡ true
