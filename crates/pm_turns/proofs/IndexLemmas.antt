@@ -1,5 +1,5 @@
 -- The index of turns, as actors are asked anew.
-use Rattle.std.proofs.Common.{◌≡◌, ◌+◌, ◌*◌, ◌-◌, ◌<◌, ◌≤◌, ◌||◌, ◌⊎◌, ℕ, zero, suc, Bool, true, false, List, [], ◌∷◌, Option, Some, None, length, nat_le, nat_lt, nat_eq, slice_get, slice_index_or, remove, replicate, if◌then◌else◌, ap, refl, sym, ◌∙◌, subst, arith, inl, inr}
+use Rattle.std.proofs.Common.{◌≡◌, ◌+◌, ◌*◌, ◌-◌, ◌<◌, ◌≤◌, ◌||◌, ◌⊎◌, ◌++◌, ℕ, zero, suc, Bool, true, false, List, [], ◌∷◌, Option, Some, None, length, nat_le, nat_lt, nat_eq, slice_get, slice_index_or, remove, replicate, slice_set, if◌then◌else◌, ap, refl, sym, ◌∙◌, subst, arith, inl, inr}
 use Rattle.std.specs.Option.{option_and_then}
 use Rattle.std.proofs.lemmas.Bool.{cases_lt, false≢true}
 use Rattle.std.proofs.lemmas.Bool.Decides.{nat_tests}
@@ -17,7 +17,7 @@ use Rattle.pm_model.specs.WellFormed.{is_well_formed}
 use Rattle.pm_model.specs.World.{World, move, stage_at, start, world}
 use Rattle.pm_moments.specs.Moments.{moment_of}
 use Rattle.pm_order.specs.Told.{is_actor}
-use Rattle.pm_order.proofs.Telling.{other_actor, same_actor}
+use Rattle.pm_order.proofs.Telling.{is_itself, other_actor, same_actor}
 use Rattle.pm_order.proofs.Touching.{timer_rests, work_rests}
 use Rattle.pm_waking.specs.Wakes.{turn_by, wakes, wakes_at}
 use Rattle.pm_waking.proofs.Waking.{IsTimed, actor_timed}
@@ -225,3 +225,43 @@ first_index plan x x' w n at seats seat time none called = record {
     each (Caller c) is = let within : c < x.rows.callers = omega (arith, is, called.asks.callers) in called.right c within within
     each (Work d) is = rests (Work d) is (sym (ap (λ (u : World). wakes plan u (Work d)) at ∙ work_rests plan d))
     each (Timer d) is = rests (Timer d) is (sym (ap (λ (u : World). wakes plan u (Timer d)) at ∙ timer_rests plan d))
+
+-- the queue of one device is another
+pub set_listed : (qs : List Queue) (i : ℕ) (y : Queue) (a : ActorId) → (is_listed a (slice_index_or qs i no_queue).actors ≡ true → is_listed a y.actors ≡ true)
+    → (d : ℕ) → is_listed a (slice_index_or qs d no_queue).actors ≡ true → is_listed a (slice_index_or (slice_set qs i y) d no_queue).actors ≡ true
+set_listed [] i y a keeps d is = is
+set_listed (q ∷ qs) zero y a keeps zero is = keeps is
+set_listed (q ∷ qs) zero y a keeps (suc d) is = is
+set_listed (q ∷ qs) (suc i) y a keeps zero is = is
+set_listed (q ∷ qs) (suc i) y a keeps (suc d) is = set_listed qs i y a keeps d is
+
+pub set_spare : (qs : List Queue) (i : ℕ) (y : Queue) → (slice_index_or qs i no_queue).spare ≤ y.spare
+    → (d : ℕ) → (slice_index_or qs d no_queue).spare ≤ (slice_index_or (slice_set qs i y) d no_queue).spare
+set_spare [] i y less d = omega arith
+set_spare (q ∷ qs) zero y less zero = less
+set_spare (q ∷ qs) zero y less (suc d) = omega arith
+set_spare (q ∷ qs) (suc i) y less zero = omega arith
+set_spare (q ∷ qs) (suc i) y less (suc d) = set_spare qs i y less d
+
+-- one who joins is listed
+joins : (a : ActorId) (l : List ActorId) → is_listed a (l ++ a ∷ []) ≡ true
+joins a [] = ap (λ b. b || false) (is_itself a)
+joins a (x ∷ l) = go (is_actor a x) (joins a l)
+  where
+    go : (b : Bool) → is_listed a (l ++ a ∷ []) ≡ true → b || is_listed a (l ++ a ∷ []) ≡ true
+    go true rest = refl
+    go false rest = rest
+
+pub set_joined : (qs : List Queue) (i : ℕ) (y : Queue) (a : ActorId) (l : List ActorId) → i < length qs → y.actors ≡ l ++ a ∷ []
+    → is_listed a (slice_index_or (slice_set qs i y) i no_queue).actors ≡ true
+set_joined [] i y a l less is = absurd (omega (arith, less))
+set_joined (q ∷ qs) zero y a l less is = ap (is_listed a) is ∙ joins a l
+set_joined (q ∷ qs) (suc i) y a l less is = set_joined qs i y a l (omega (arith, less)) is
+
+pub joined_kept : (a x : ActorId) (l : List ActorId) → is_listed a l ≡ true → is_listed a (l ++ x ∷ []) ≡ true
+joined_kept a x [] is = absurd (false≢true is)
+joined_kept a x (y ∷ l) is = go (is_actor a y) is (joined_kept a x l)
+  where
+    go : (b : Bool) → b || is_listed a l ≡ true → (is_listed a l ≡ true → is_listed a (l ++ x ∷ []) ≡ true) → b || is_listed a (l ++ x ∷ []) ≡ true
+    go true is rest = refl
+    go false is rest = rest is

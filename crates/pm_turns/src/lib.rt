@@ -5,5 +5,6 @@ mod queue;
 mod rows;
 mod settle;
 mod turns;
+mod waiting;
 
 pub use turns::Turns;

@@ -89,7 +89,8 @@ impl Waiters {
 
     /// An actor doesn't wait any longer.
     pub fn leave(&mut self, actor: ActorId)
-        ensures { (other : AnActor) → is_actor other actor ≡ false → is_listed other self.old.actors ≡ true → is_listed other self.new.actors ≡ true }
+        ensures spare { self.old.spare ≤ self.new.spare }
+        ensures others { (other : AnActor) → is_actor other actor ≡ false → is_listed other self.old.actors ≡ true → is_listed other self.new.actors ≡ true }
     {
         if let Some(nth) = find(&self.actors, actor) {
             let _ = self.actors.remove(nth);

@@ -6,8 +6,8 @@ use Rattle.std.proofs.Common.{List, true, false, remove}
 use Rattle.pm_turns.proofs.IndexLemmas.{Leaves, leaves_others}
 use Rattle.pm_turns.proofs.queue.Waiters.leave.Goals as goal
 
-pub returns-in-Some : goal.returns-in-Some
-returns-in-Some c =
+pub returns-in-Some-clause-others : goal.returns-in-Some-clause-others
+returns-in-Some-clause-others c =
     let at : slice_get c.self.inside.actors.items c.in-Some.nth ≡ Some c.args.actor = ap (λ (l : List ActorId). slice_get l c.in-Some.nth) (sym c.deref.ensures.value) ∙ c.in-Some.ensures.is in
     let leaves : Leaves c.args.actor c.self.inside.actors.items c.remove.new.self.items =
     leaves_others c.self.inside.actors.items c.remove.new.self.items c.in-Some.nth c.args.actor c.remove.ensures.items at in
