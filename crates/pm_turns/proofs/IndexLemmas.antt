@@ -22,7 +22,7 @@ use Rattle.pm_order.proofs.Touching.{timer_rests, work_rests}
 use Rattle.pm_waking.specs.Wakes.{turn_by, wakes, wakes_at}
 use Rattle.pm_waking.proofs.Waking.{IsTimed, actor_timed}
 use Rattle.pm_turns.specs.Seats.{AreMoments, Asks, IsSeated, Seating, Sets, actor_at, moment_by, place_of, round_of}
-use Rattle.pm_turns.specs.Turning.{AreFit, AreOf, Called, Index, IsIndex, Looked, Queue, Touched, is_listed, no_queue, queue, wakes_by}
+use Rattle.pm_turns.specs.Turning.{AreFit, AreOf, Called, Index, IsIndex, Looked, Queue, Touched, TouchedAny, is_listed, is_near, no_queue, queue, wakes_by}
 use Rattle.pm_turns.proofs.RoundLemmas.{turn_is_next}
 
 -- the actor at a seat has that seat
@@ -265,3 +265,16 @@ joined_kept a x (y ∷ l) is = go (is_actor a y) is (joined_kept a x l)
     go : (b : Bool) → b || is_listed a l ≡ true → (is_listed a l ≡ true → is_listed a (l ++ x ∷ []) ≡ true) → b || is_listed a (l ++ x ∷ []) ≡ true
     go true is rest = refl
     go false is rest = rest is
+
+pub same_device : (d e : DevId) → d.0 ≡ e.0 → Some d ≡ Some e
+same_device d e same = ap (λ (n : ℕ). let x : DevId = record { 0 = n } in Some x) same
+
+pub touched_none : (wake : ActorId → Option ℕ) (x : Index) → TouchedAny wake x x None
+touched_none wake x = record { asks = asks_none wake x.rows; queues = refl; right = λ d is. absurd (none-some d is) }
+
+pub touched_some : (wake : ActorId → Option ℕ) (x x' : Index) (d : DevId) → Touched wake x x' d → TouchedAny wake x x' (Some d)
+touched_some wake x x' d touched = record {
+  asks = touched.asks;
+  queues = touched.queues;
+  right = λ e is a seated near. touched.right a seated (subst (λ y. is_near x y a ≡ true) (sym (same_Some d e is)) near);
+}

@@ -2,3 +2,4 @@ pub mod FewLemmas
 pub mod PlaceLemmas
 pub mod RoundLemmas
 pub mod IndexLemmas
+pub mod SettleLemmas

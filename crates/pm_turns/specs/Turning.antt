@@ -1,23 +1,24 @@
 -- What the index of turns is after a list of lines (this project's own).
-use Rattle.std.specs.Prelude.{◌≡◌, ◌<◌, ◌≤◌, ℕ, Bool, true, ◌||◌, List, [], Option, Some, None, length, slice_get, slice_index_or}
+use Rattle.std.specs.Prelude.{◌≡◌, ◌<◌, ◌≤◌, ℕ, Bool, true, false, ◌||◌, List, [], ◌∷◌, Option, Some, None, length, slice_get, slice_index_or}
 use Rattle.std.specs.List.{list_any}
 use Rattle.pm_base.specs.declared.ActorId.{ActorId}
 use Rattle.pm_base.specs.declared.ActorId.TheVariants.{Caller, Work, Timer}
 use Rattle.pm_base.specs.declared.DevId.{DevId}
 use Rattle.pm_model.specs.declared.event.Event.{Event}
 use Rattle.pm_model.specs.declared.event.Event.TheVariants as event
+use Rattle.pm_model.specs.declared.event.Line.{Line}
 use Rattle.pm_model.specs.declared.plan.Plan.{Plan}
 use Rattle.pm_model.specs.declared.stage.Move.{Move}
 use Rattle.pm_model.specs.declared.stage.Move.TheVariants.{Write, Late, Wait}
 use Rattle.pm_model.specs.declared.stage.Stage.{Stage}
 use Rattle.pm_model.specs.History.{History}
-use Rattle.pm_model.specs.Lawful.{last_time}
+use Rattle.pm_model.specs.Lawful.{IsLawful, last_time}
 use Rattle.pm_model.specs.Serial.{seat}
 use Rattle.pm_model.specs.WellFormed.{is_well_formed}
 use Rattle.pm_model.specs.World.{World, stage_at, world}
-use Rattle.pm_order.specs.Told.{is_actor, told_wait}
+use Rattle.pm_order.specs.Told.{is_actor, told_wait, wait_in}
 use Rattle.pm_waking.specs.Wakes.{wakes}
-use Rattle.pm_turns.specs.Seats.{Asks, IsSeated, Seating, moment_by}
+use Rattle.pm_turns.specs.Seats.{Asks, IsSeated, Seating, moment_by, seat_after}
 
 -- those who wait for one device, and how many more there is room for
 pub record Queue : Type 0 where
@@ -80,6 +81,24 @@ pub record Touched (wake : ActorId → Option ℕ) (x x' : Index) (d : DevId) : 
   pub asks : Asks wake x.rows x'.rows
   pub queues : x'.queues ≡ x.queues
   pub right : (a : ActorId) → IsSeated x.rows a → is_near x d a ≡ true → moment_by x'.rows a ≡ wake a
+
+-- all who are near a device, if it is one, are asked anew
+pub record TouchedAny (wake : ActorId → Option ℕ) (x x' : Index) (dev : Option DevId) : Type 0 where
+  pub asks : Asks wake x.rows x'.rows
+  pub queues : x'.queues ≡ x.queues
+  pub right : (d : DevId) → dev ≡ Some d → (a : ActorId) → IsSeated x.rows a → is_near x d a ≡ true → moment_by x'.rows a ≡ wake a
+
+-- a line is noted: its writer and its time, and who waits for which device
+pub record Noted (x x' : Index) (line : Line) : Type 0 where
+  pub rows : x'.rows ≡ record x.rows { seat = seat_after x.rows line.actor; time = line.time }
+  pub others : (a : ActorId) (d : DevId) → is_actor a line.actor ≡ false → is_listed a (queue x d).actors ≡ true → is_listed a (queue x' d).actors ≡ true
+  pub joined : (d : DevId) → wait_in line.event ≡ Some d → d.0 < x.rows.devices → is_listed line.actor (queue x' d).actors ≡ true
+
+-- the line was written at this stage, and led to this world
+pub record Leads (plan : Plan) (h : History) (line : Line) (stage : Stage) (w : World) : Type 0 where
+  pub lawful : IsLawful plan (line ∷ h)
+  pub stage_is : lawful.0.stage ≡ stage
+  pub world_is : w ≡ world plan (line ∷ h)
 
 -- the search begins after the last writer, each seat has the moment of its actor, and whoever waits for a device is
 -- among those who are listed for it

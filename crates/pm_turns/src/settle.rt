@@ -1,15 +1,17 @@
 //! What a line changes of the turns.
 
-ghost use Rattle.std.specs.Prelude.{◌≡◌, true, false, length, slice_get, IfSome, Some};
+ghost use Rattle.std.specs.Prelude.{◌≡◌, ◌<◌, ◌^◌, ◌∷◌, ◌⊎◌, true, false, length, slice_get, IfSome, Some};
 ghost use Rattle.pm_base.specs.declared.ActorId.{ActorId as AnActor};
+ghost use Rattle.pm_model.specs.History.{History};
 ghost use Rattle.pm_state.specs.Standing.{IsActor, IsOf};
 ghost use Rattle.pm_waking.specs.Wakes.{wakes};
 ghost use Rattle.pm_turns.specs.Seats.{Asks, IsSeated, moment_by};
-ghost use Rattle.pm_turns.specs.Turning.{AreFit, AreOf, Looked, Touched, queue};
+ghost use Rattle.pm_turns.specs.Turning.{AreFit, AreOf, HasRoom, IsIndex, Leads, Looked, Touched, TouchedAny, queue};
 
 use crate::turns::Turns;
 use pm_base::{ActorId, DevId};
-use pm_model::Plan;
+use crate::waiting::{device_at, device_in};
+use pm_model::{Line, Plan, Stage};
 use pm_state::State;
 
 impl Turns {
@@ -105,5 +107,49 @@ impl Turns {
     {
         self.refresh_own(plan, state, dev);
         self.refresh_waiters(plan, state, dev);
+    }
+
+    // Looks anew at all whose turn may depend on this device, if it is one.
+    #[tactic(auto, using(crate::proofs::IndexLemmas::touched_none, crate::proofs::IndexLemmas::touched_some))]
+    fn touch_any(&mut self, plan: &Plan, state: &State, dev: Option<DevId>)
+        requires is_of { IsOf plan.now state.now }
+        requires fit { AreFit plan.now state.now.world }
+        requires seats { AreOf plan.now self.old.rows }
+        ensures { TouchedAny (wakes plan.now state.now.world) self.old self.new dev }
+    {
+        if let Some(dev) = dev {
+            self.touch(plan, state, dev);
+        }
+    }
+
+    /// Takes note of a line that was written at this stage and led to this state, for which there is room.
+    pub fn settle(&mut self, plan: &Plan, state: &State, stage: Stage, line: &Line)
+        requires is_of { IsOf plan.now state.now }
+        requires fit { AreFit plan.now state.now.world }
+        requires seats { AreOf plan.now self.old.rows }
+        requires in_range { IsActor plan.now line.now.actor }
+        requires in_time { line.now.time < 2 ^ 63 }
+        requires room { HasRoom self.old line.now.event }
+        ensures { (h : History) → Leads plan.now h line.now stage state.now.world → IsIndex plan.now h self.old → IsIndex plan.now (line.now ∷ h) self.new }
+    {
+        self.note(stage, line);
+        self.refresh(plan, state, line.actor);
+        let at = device_at(stage);
+        self.touch_any(plan, state, at);
+        self.touch_any(plan, state, other_than(device_in(line.event), at));
+    }
+}
+
+// This device, unless it is the other one.
+#[tactic(auto, using(crate::proofs::IndexLemmas::same_device))]
+fn other_than(of: Option<DevId>, at: Option<DevId>) -> Option<DevId>
+    ensures { (result ≡ of) ⊎ (of ≡ at) }
+{
+    let Some(dev) = of else {
+        return of;
+    };
+    match at {
+        Some(same) if dev.0 == same.0 => None,
+        _ => of,
     }
 }

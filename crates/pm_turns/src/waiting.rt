@@ -1,16 +1,17 @@
 //! Who waits for which device after a line.
 
-ghost use Rattle.std.specs.Prelude.{◌≡◌, ◌<◌, ◌≤◌, false, true, length, OnOk, Some};
+ghost use Rattle.std.specs.Prelude.{◌≡◌, ◌<◌, ◌≤◌, ◌^◌, false, true, length, OnOk, Some};
 ghost use Rattle.pm_base.specs.declared.ActorId.{ActorId as AnActor};
 ghost use Rattle.pm_base.specs.declared.DevId.{DevId as ADevice};
 ghost use Rattle.pm_model.specs.declared.event.Event.{Event as AnEvent};
 ghost use Rattle.pm_order.specs.Looks.{device_at, device_in, waits_at};
 ghost use Rattle.pm_order.specs.Told.{is_actor, wait_in};
-ghost use Rattle.pm_turns.specs.Turning.{HasRoom, is_listed, queue};
+ghost use Rattle.pm_turns.specs.Seats.{IsSeated, seat_after};
+ghost use Rattle.pm_turns.specs.Turning.{HasRoom, Noted, is_listed, queue};
 
 use crate::turns::Turns;
 use pm_base::{ActorId, DevId, NoMemory};
-use pm_model::{ControlStage, Event, HelperStage, ResumeStage, Stage, SuspendStage};
+use pm_model::{ControlStage, Event, HelperStage, Line, ResumeStage, Stage, SuspendStage};
 use pm_state::device_of;
 
 // The device that is waited for at a stage after a wait line.
@@ -67,6 +68,7 @@ impl Turns {
         ensures rows { self.new.rows ≡ self.old.rows }
         ensures others { (a : AnActor) (d : ADevice) → is_actor a actor ≡ false → is_listed a (queue self.old d).actors ≡ true → is_listed a (queue self.new d).actors ≡ true }
         ensures room { (d : ADevice) → (queue self.old d).spare ≤ (queue self.new d).spare }
+        ensures len { length self.new.queues ≡ length self.old.queues }
     {
         let place = dev.0 as usize;
         if place < self.waiters.len() {
@@ -86,5 +88,65 @@ impl Turns {
         if place < self.waiters.len() {
             self.waiters[place].join(actor);
         }
+    }
+
+    // The actor of a line at this stage doesn't wait any longer.
+    fn leave_at(&mut self, stage: Stage, actor: ActorId)
+        ensures rows { self.new.rows ≡ self.old.rows }
+        ensures others { (a : AnActor) (d : ADevice) → is_actor a actor ≡ false → is_listed a (queue self.old d).actors ≡ true → is_listed a (queue self.new d).actors ≡ true }
+        ensures room { (event : AnEvent) → HasRoom self.old event → HasRoom self.new event }
+    {
+        if let Some(dev) = waits_at(stage) {
+            self.leave(dev, actor);
+        }
+    }
+
+    // The actor of a line with this event waits from now on, where it is a wait line.
+    fn join_in(&mut self, event: Event, actor: ActorId)
+        requires { HasRoom self.old event }
+        ensures rows { self.new.rows ≡ self.old.rows }
+        ensures others { (a : AnActor) (d : ADevice) → is_listed a (queue self.old d).actors ≡ true → is_listed a (queue self.new d).actors ≡ true }
+        ensures joined { (d : ADevice) → wait_in event ≡ Some d → d.0 < self.old.rows.devices → is_listed actor (queue self.new d).actors ≡ true }
+    {
+        if let Event::Wait { dev } = event {
+            self.join(dev, actor);
+        }
+    }
+
+    // Takes note of the writer and the time of a line.
+    fn write_down(&mut self, line: &Line)
+        requires seated { IsSeated self.old.rows line.now.actor }
+        requires in_time { line.now.time < 2 ^ 63 }
+        ensures { self.new ≡ record self.old { rows = record self.old.rows { seat = seat_after self.old.rows line.now.actor; time = line.now.time } } }
+    {
+        self.rows.note(line.actor, line.time);
+    }
+
+    // Takes note of a line that was written at this stage.
+    pub(crate) fn note(&mut self, stage: Stage, line: &Line)
+        requires seated { IsSeated self.old.rows line.now.actor }
+        requires in_time { line.now.time < 2 ^ 63 }
+        requires room { HasRoom self.old line.now.event }
+        ensures { Noted self.old self.new line.now }
+    {
+        self.leave_at(stage, line.actor);
+        self.join_in(line.event, line.actor);
+        self.write_down(line);
+    }
+
+    /// Takes the memory that a line with this event needs here. After `NoMemory` nothing is changed.
+    #[tactic(auto, using(crate::proofs::IndexLemmas::set_listed))]
+    pub fn reserve(&mut self, event: Event) -> Result<(), NoMemory>
+        ensures rows { self.new.rows ≡ self.old.rows }
+        ensures others { (a : AnActor) (d : ADevice) → is_listed a (queue self.old d).actors ≡ true → is_listed a (queue self.new d).actors ≡ true }
+        ensures room { OnOk result (HasRoom self.new event) }
+    {
+        if let Event::Wait { dev } = event {
+            let place = dev.0 as usize;
+            if place < self.waiters.len() {
+                self.waiters[place].make_room()?;
+            }
+        }
+        Ok(())
     }
 }
