@@ -20,7 +20,7 @@ use Rattle.pm_state.specs.declared.acting.Turn.TheVariants as turn
 use Rattle.pm_state.specs.Standing.{IsOf, Standing}
 use Rattle.pm_state.specs.Tests.{fits}
 use Rattle.pm_state.specs.Turns.{ending_of, turn_of}
-use Rattle.pm_turns.specs.Seats.{AreOf, Seats}
+use Rattle.pm_turns.specs.Turning.{Index, IsIndex}
 use Rattle.pm_book.specs.declared.steps.EndStep.{EndStep}
 use Rattle.pm_book.specs.declared.steps.EndStep.TheVariants as end
 use Rattle.pm_book.specs.declared.steps.Step.{Step}
@@ -106,10 +106,10 @@ pub record MayWrite (p : Pages) (s : Stage) (line : Line) (c : Change) (next : T
   pub fits : fits p.plan (world_of p) line.actor c line.event ≡ true
 
 -- the list is lawful and all its lines are lines of the plan, and the state and the turns are those after it
-pub record IsKept (plan : Plan) (state : Standing) (seats : Seats) (h : List Line) : Type 0 where
+pub record IsKept (plan : Plan) (state : Standing) (turns : Index) (h : List Line) : Type 0 where
   pub lawful : IsLawful plan h
   pub lines_are : list_all (is_line_of plan) h ≡ true
   pub world_is : state.world ≡ world plan h
   pub is_of : IsOf plan state
-  pub seats_are : AreOf plan seats
+  pub turns_are : IsIndex plan h turns
   pub in_time : last_time h < 2 ^ 63

@@ -7,7 +7,8 @@ ghost use Rattle.pm_model.specs.Lawful.{IsLawful, is_finished};
 ghost use Rattle.pm_state.specs.Standing.{IsActor, IsOf, counters};
 ghost use Rattle.pm_state.specs.Turns.{is_running};
 ghost use Rattle.pm_model.specs.World.{start};
-ghost use Rattle.pm_turns.specs.Seats.{AreOf};
+ghost use Rattle.pm_model.specs.Serial.{next_turn};
+ghost use Rattle.pm_turns.specs.Turning.{IsIndex};
 ghost use Rattle.pm_book.specs.Pages.{is_full, world_of};
 ghost use Rattle.pm_device.specs.Parts.{IsFor};
 
@@ -16,6 +17,7 @@ use pm_base::{ActorId, NoMemory};
 use pm_device::Parts;
 use pm_laws::sizes;
 use pm_model::{Line, Plan};
+use pm_stacks::stages_are_well_formed;
 use pm_state::State;
 use pm_turns::Turns;
 use std::alloc::Global;
@@ -47,9 +49,10 @@ impl Model for Book {
 fn start_of(alloc: Global, plan: &Plan) -> Result<(State, Turns), NoMemory>
     ensures is_of { IfOk result (λ pair. IsOf plan.now pair.0) }
     ensures start { IfOk result (λ pair. pair.0.world ≡ start plan.now) }
-    ensures seats { IfOk result (λ pair. AreOf plan.now pair.1) }
+    ensures turns { IfOk result (λ pair. IsIndex plan.now [] pair.1) }
 {
     let state = State::fresh(alloc, plan)?;
+    stages_are_well_formed();
     let turns = Turns::fresh(alloc, plan, &state)?;
     Ok((state, turns))
 }
@@ -123,7 +126,8 @@ impl Book {
     /// Who writes the next line on one thread, and when. It takes no memory, and a number of steps that
     /// is logarithmic in the number of actors.
     pub fn next_turn(&self) -> Option<(ActorId, u64)>
-        ensures { IfSome result (λ turn. IsActor self.now.plan turn.0) }
+        ensures turn { result ≡ next_turn self.now.plan self.now.lines }
+        ensures in_range { IfSome result (λ turn. IsActor self.now.plan turn.0) }
     {
         self.turns.next()
     }

@@ -10,6 +10,7 @@ use crate::steps::{EndStep, Step};
 use pm_base::{ActorId, NoMemory};
 use pm_laws::held_counts_are_taken;
 use pm_model::{Change, Event, Line, Stage, Then};
+use pm_stacks::stages_are_well_formed;
 use pm_state::Turn;
 
 impl Book {
@@ -53,6 +54,7 @@ impl Book {
             .make_room(matches!(line.event, Event::Begin { .. }))?;
         self.state.go(&self.plan, change, &line, then)?;
         self.lines.push(line);
+        stages_are_well_formed();
         self.turns.settle(&self.plan, &self.state, stage, &line);
         Ok(())
     }
@@ -66,11 +68,12 @@ impl Book {
         ensures written { result ≡ true → self.new ≡ record self.old { lines = line ∷ self.old.lines } }
         ensures stays { result ≡ false → self.new ≡ self.old }
     {
-        if self.lines.ends() == 0 {
+        if self.lines.ends() == 0 || matches!(line.event, Event::Wait { .. }) {
             return false;
         }
         self.state.go_level(&self.plan, change, &line, then);
         self.lines.push_end(line);
+        stages_are_well_formed();
         self.turns.settle(&self.plan, &self.state, stage, &line);
         true
     }

@@ -1,9 +1,10 @@
 //! Who writes the next line of a run on one thread, and when (this project's own).
 #![tactic(auto)]
 
-mod next;
-mod places;
+mod queue;
+mod rows;
 mod settle;
 mod turns;
+mod waiting;
 
 pub use turns::Turns;

@@ -1,0 +1,185 @@
+-- An index that is right, and that takes note of a line and asks anew those whom the line touches, is right after it.
+use Rattle.std.proofs.Common.{◌≡◌, ◌+◌, ◌<◌, ◌||◌, ◌⊎◌, ℕ, Bool, true, false, List, [], ◌∷◌, Option, Some, None, length, nat_eq, nat_lt, slice_index_or, if◌then◌else◌, ap, refl, sym, ◌∙◌, subst, arith, inl, inr}
+use Rattle.std.specs.Option.{option_map_or}
+use Rattle.std.proofs.lemmas.Bool.{false≢true}
+use Rattle.std.proofs.lemmas.Bool.Decides.{nat_tests}
+use Rattle.std.proofs.lemmas.Option.{none-some, same_Some}
+use Rattle.pm_base.specs.declared.ActorId.{ActorId}
+use Rattle.pm_base.specs.declared.ActorId.TheVariants.{Caller, Work, Timer}
+use Rattle.pm_base.specs.declared.DevId.{DevId}
+use Rattle.pm_model.specs.declared.event.Line.{Line}
+use Rattle.pm_model.specs.declared.plan.Plan.{Plan}
+use Rattle.pm_model.specs.declared.stage.ControlStage.TheVariants as control
+use Rattle.pm_model.specs.declared.stage.HelperStage.TheVariants as at
+use Rattle.pm_model.specs.declared.stage.ResumeStage.TheVariants as resume
+use Rattle.pm_model.specs.declared.stage.Stage.{Stage}
+use Rattle.pm_model.specs.declared.stage.Stage.TheVariants as stage
+use Rattle.pm_model.specs.declared.stage.SuspendStage.TheVariants as suspend
+use Rattle.pm_model.specs.History.{History}
+use Rattle.pm_model.specs.Lawful.{IsLawful}
+use Rattle.pm_model.specs.Serial.{seat}
+use Rattle.pm_model.specs.WellFormed.{device_of, is_in}
+use Rattle.pm_model.specs.World.{World, place, ready, top, world}
+use Rattle.pm_order.specs.Looks.{device_at, device_in, looks}
+use Rattle.pm_order.specs.Told.{IsShown, is_actor, told_wait, touches, touches_any, wait_in}
+use Rattle.pm_order.proofs.Telling.{all_shown, same_actor}
+use Rattle.pm_order.proofs.Touching.{only_touched}
+use Rattle.pm_stacks.proofs.Fitting.{stands_fit}
+use Rattle.pm_waking.specs.Wakes.{wakes}
+use Rattle.pm_turns.specs.Seats.{Asks, IsSeated, Seating, moment_by, seat_after}
+use Rattle.pm_turns.specs.Turning.{Index, IsIndex, Leads, Noted, Queue, TouchedAny, is_listed, is_near, no_queue, queue}
+use Rattle.pm_turns.proofs.IndexLemmas.{asks_then, seated_kept, stays_right}
+
+-- a device that is waited for is one of the plan's
+looks_in : (n : ℕ) (s : Stage) (d : DevId) → looks s ≡ Some d → option_map_or (is_in n) (device_of s) true ≡ true → nat_lt d.0 n ≡ true
+looks_in n (stage.Suspend (suspend.Waiting e f)) d is fit = ap (is_in n) (sym (same_Some e d is)) ∙ fit
+looks_in n (stage.Resume (resume.Waiting r tried)) d is fit = ap (is_in n) (sym (same_Some r.dev d is)) ∙ fit
+looks_in n (stage.Control (control.Disabled e)) d is fit = ap (is_in n) (sym (same_Some e d is)) ∙ fit
+looks_in n (stage.Control (control.BarrierWait e c)) d is fit = ap (is_in n) (sym (same_Some e d is)) ∙ fit
+looks_in n (stage.Helper (at.Timer e)) d is fit = ap (is_in n) (sym (same_Some e d is)) ∙ fit
+looks_in n _ d is fit = absurd (none-some d is)
+
+waited_in : (plan : Plan) (h : History) (a : ActorId) (d : DevId) → IsLawful plan h → told_wait a h ≡ Some d → d.0 < length plan.devices
+waited_in plan h a d lawful told = go (place (world plan h) a) refl (all_shown plan h lawful a)
+  where
+    go : (l : List Stage) → place (world plan h) a ≡ l → IsShown (told_wait a h) l → d.0 < length plan.devices
+    go [] is shown = absurd (none-some d (shown.0 ∙ told))
+    go (s ∷ rest) is shown =
+        let fit = stands_fit plan h a s lawful (ap (top (ready plan (world plan h) a)) is) in
+        let test : nat_lt d.0 (length plan.devices) ≡ true = looks_in (length plan.devices) s d (shown.0 ∙ told) fit.device in
+        grind (arith, nat_tests)
+
+-- who is touched by a device is near it, where those who wait for it are listed
+near_of : (x : Index) (h : History) (a : ActorId) (d : DevId) → ((e : DevId) → told_wait a h ≡ Some e → is_listed a (queue x e).actors ≡ true) → touches d.0 h a ≡ true
+    → is_near x d a ≡ true
+near_of x h a d waiting touched = go (is_actor a (Work d.0)) (is_actor a (Timer d.0)) touched (listed (told_wait a h) refl)
+  where
+    listed : (o : Option DevId) → told_wait a h ≡ o → option_map_or (λ y. nat_eq y.0 d.0) o false ≡ true → is_listed a (queue x d).actors ≡ true
+    listed None is hit = absurd (false≢true hit)
+    listed (Some e) is hit =
+        let same : e.0 ≡ d.0 = grind (arith, nat_tests) in
+        ap (λ n. let q : Queue = slice_index_or x.queues n no_queue in is_listed a q.actors) (sym same) ∙ waiting e is
+
+    go : (p q : Bool) → p || q || option_map_or (λ y. nat_eq y.0 d.0) (told_wait a h) false ≡ true
+        → (option_map_or (λ y. nat_eq y.0 d.0) (told_wait a h) false ≡ true → is_listed a (queue x d).actors ≡ true) → p || q || is_listed a (queue x d).actors ≡ true
+    go true q hit rest = refl
+    go false true hit rest = refl
+    go false false hit rest = rest hit
+
+seat_is : (plan : Plan) (h : History) (s : Seating) (line : Line) → s.callers ≡ length plan.callers → seat_after s line.actor ≡ seat plan (line ∷ h)
+seat_is plan h s line callers = go line.actor
+  where
+    go : (a : ActorId) → seat_after s a ≡ elim a [ Caller c ↦ c + 1 | Work d ↦ length plan.callers + d + 1 | Timer d ↦ 0 ]
+    go (Caller c) = refl
+    go (Work d) = ap (λ n. n + d + 1) callers
+    go (Timer d) = refl
+
+-- what was done to an index x after a line: noted, its writer asked anew, and those near the device of its stage and near
+-- the device of its event
+pub record Done (wake : ActorId → Option ℕ) (line : Line) (s : Stage) (x x1 x2 x3 x4 : Index) (of : Option DevId) : Type 0 where
+  pub noted : Noted x x1 line
+  pub asks : Asks wake x1.rows x2.rows
+  pub right : moment_by x2.rows line.actor ≡ wake line.actor
+  pub queues : x2.queues ≡ x1.queues
+  pub at : TouchedAny wake x2 x3 (device_at s)
+  pub after : TouchedAny wake x3 x4 of
+  pub other : (of ≡ device_in line.event) ⊎ (device_in line.event ≡ device_at s)
+
+module _ (plan : Plan) (h : History) (line : Line) (lawful : IsLawful plan (line ∷ h)) (x x1 x2 x3 x4 : Index) (of : Option DevId)
+    (is : IsIndex plan h x) (done : Done (wakes plan (world plan (line ∷ h))) line lawful.0.stage x x1 x2 x3 x4 of) where
+  abbrev wake : ActorId → Option ℕ
+  wake = wakes plan (world plan (line ∷ h))
+
+  all_asks : Asks wake x1.rows x4.rows
+  all_asks = asks_then wake x1.rows x2.rows x4.rows done.asks (asks_then wake x2.rows x3.rows x4.rows done.at.asks done.after.asks)
+
+  callers_1 : x1.rows.callers ≡ x.rows.callers
+  callers_1 = ap (λ (s : Seating). s.callers) done.noted.rows
+
+  devices_1 : x1.rows.devices ≡ x.rows.devices
+  devices_1 = ap (λ (s : Seating). s.devices) done.noted.rows
+
+  in_1 : (a : ActorId) → IsSeated x4.rows a → IsSeated x1.rows a
+  in_1 a seated = seated_kept x4.rows x1.rows a (sym all_asks.callers) (sym all_asks.devices) seated
+
+  in_2 : (a : ActorId) → IsSeated x4.rows a → IsSeated x2.rows a
+  in_2 a seated = seated_kept x1.rows x2.rows a done.asks.callers done.asks.devices (in_1 a seated)
+
+  in_3 : (a : ActorId) → IsSeated x4.rows a → IsSeated x3.rows a
+  in_3 a seated = seated_kept x2.rows x3.rows a done.at.asks.callers done.at.asks.devices (in_2 a seated)
+
+  listed_1 : (a : ActorId) → is_actor a line.actor ≡ false → (d : DevId) → told_wait a h ≡ Some d → is_listed a (queue x1 d).actors ≡ true
+  listed_1 a other d told = done.noted.others a d other (is.waiting a d (omega (arith, waited_in plan h a d lawful.2 told, is.of_plan.devices)) told)
+
+  from_1 : (y : Index) (a : ActorId) → y.queues ≡ x1.queues → (d : DevId) → is_listed a (queue x1 d).actors ≡ true → is_listed a (queue y d).actors ≡ true
+  from_1 y a same d listed = ap (λ (qs : List Queue). let q : Queue = slice_index_or qs d.0 no_queue in is_listed a q.actors) same ∙ listed
+
+  queues_3 : x3.queues ≡ x1.queues
+  queues_3 = done.at.queues ∙ done.queues
+
+  of_writer : (a : ActorId) → IsSeated x4.rows a → is_actor a line.actor ≡ true → moment_by x4.rows a ≡ wake a
+  of_writer a seated same =
+      let here = subst (λ b. moment_by x2.rows b ≡ wake b) (sym (same_actor a line.actor same)) done.right in
+      stays_right wake x3.rows x4.rows a done.after.asks (in_3 a seated) (stays_right wake x2.rows x3.rows a done.at.asks (in_2 a seated) here)
+
+  of_stage : (a : ActorId) → IsSeated x4.rows a → is_actor a line.actor ≡ false → (o : Option DevId) → device_at lawful.0.stage ≡ o → touches_any o h a ≡ true → moment_by x4.rows a ≡ wake a
+  of_stage a seated other None at hit = absurd (false≢true hit)
+  of_stage a seated other (Some d) at hit =
+      let near = near_of x2 h a d (λ e told. from_1 x2 a done.queues e (listed_1 a other e told)) hit in
+      stays_right wake x3.rows x4.rows a done.after.asks (in_3 a seated) (done.at.right d at a (in_2 a seated) near)
+
+  of_event : (a : ActorId) → IsSeated x4.rows a → is_actor a line.actor ≡ false → (o : Option DevId) → of ≡ o → touches_any o h a ≡ true → moment_by x4.rows a ≡ wake a
+  of_event a seated other None at hit = absurd (false≢true hit)
+  of_event a seated other (Some d) at hit =
+      let near = near_of x3 h a d (λ e told. from_1 x3 a queues_3 e (listed_1 a other e told)) hit in
+      done.after.right d at a (in_3 a seated) near
+
+  untouched : (a : ActorId) → IsSeated x4.rows a → is_actor a line.actor ≡ false → touches_any (device_at lawful.0.stage) h a ≡ false → touches_any (device_in line.event) h a ≡ false
+      → moment_by x4.rows a ≡ wake a
+  untouched a seated other p q =
+      elim (all_asks.each a (in_1 a seated)) [
+        | inl right ↦ right
+        | inr same ↦
+            let before = is.moments a (seated_kept x1.rows x.rows a (sym callers_1) (sym devices_1) (in_1 a seated)) in
+            same ∙ ap (λ s. moment_by s a) done.noted.rows ∙ before ∙ sym (only_touched plan h line lawful a other p q)
+      ]
+
+  each : (a : ActorId) → IsSeated x4.rows a → moment_by x4.rows a ≡ wake a
+  each a seated = go (is_actor a line.actor) (touches_any (device_at lawful.0.stage) h a) (touches_any (device_in line.event) h a) refl refl refl
+    where
+      by_event : is_actor a line.actor ≡ false → touches_any (device_at lawful.0.stage) h a ≡ false → touches_any (device_in line.event) h a ≡ true → moment_by x4.rows a ≡ wake a
+      by_event other miss hit =
+          elim done.other [
+            | inl it ↦ of_event a seated other of refl (ap (λ o. touches_any o h a) it ∙ hit)
+            | inr same ↦ absurd (false≢true (sym miss ∙ ap (λ o. touches_any o h a) (sym same) ∙ hit))
+          ]
+
+      go : (p q r : Bool) → is_actor a line.actor ≡ p → touches_any (device_at lawful.0.stage) h a ≡ q → touches_any (device_in line.event) h a ≡ r → moment_by x4.rows a ≡ wake a
+      go true q r e f g = of_writer a seated e
+      go false true r e f g = of_stage a seated e (device_at lawful.0.stage) refl f
+      go false false true e f g = by_event e f g
+      go false false false e f g = untouched a seated e f g
+
+  waits : (a : ActorId) (d : DevId) → d.0 < x4.rows.devices → told_wait a (line ∷ h) ≡ Some d → is_listed a (queue x4 d).actors ≡ true
+  waits a d within told = from_1 x4 a (done.after.queues ∙ queues_3) d (go (is_actor a line.actor) refl told)
+    where
+      go : (p : Bool) → is_actor a line.actor ≡ p → (if p then wait_in line.event else told_wait a h) ≡ Some d → is_listed a (queue x1 d).actors ≡ true
+      go true e told =
+          subst (λ b. is_listed b (queue x1 d).actors ≡ true) (sym (same_actor a line.actor e)) (done.noted.joined d told (omega (arith, within, all_asks.devices, devices_1)))
+      go false e told = listed_1 a e d told
+
+  pub settled_index : IsIndex plan (line ∷ h) x4
+  settled_index = record {
+    of_plan = record { callers = all_asks.callers ∙ callers_1 ∙ is.of_plan.callers; devices = all_asks.devices ∙ devices_1 ∙ is.of_plan.devices };
+    seat = all_asks.seat ∙ ap (λ (s : Seating). s.seat) done.noted.rows ∙ seat_is plan h x.rows line is.of_plan.callers;
+    time = all_asks.time ∙ ap (λ (s : Seating). s.time) done.noted.rows;
+    moments = each;
+    waiting = waits;
+  }
+
+pub settles_by : (plan : Plan) (h : History) (line : Line) (s : Stage) (w : World) (x x1 x2 x3 x4 : Index) (of : Option DevId) → Done (wakes plan w) line s x x1 x2 x3 x4 of
+    → Leads plan h line s w → IsIndex plan h x → IsIndex plan (line ∷ h) x4
+settles_by plan h line s w x x1 x2 x3 x4 of done leads is =
+    settled_index plan h line leads.lawful x x1 x2 x3 x4 of is
+    (subst (λ y. Done (wakes plan (world plan (line ∷ h))) line y x x1 x2 x3 x4 of) (sym leads.stage_is)
+    (subst (λ (u : World). Done (wakes plan u) line s x x1 x2 x3 x4 of) leads.world_is done))

@@ -1,0 +1,175 @@
+//! From when the actor at each seat may write, and whose turn it is by these moments.
+
+ghost use Rattle.std.specs.Prelude.{◌≡◌, ◌+◌, ◌*◌, ◌<◌, ◌≤◌, ◌^◌, ℕ, Option, None, replicate, IfNone, IfOk, IfSome};
+ghost use Rattle.pm_base.specs.declared.ActorId.{ActorId as AnActor};
+ghost use Rattle.pm_moments.specs.Moments.{NoneWithin};
+ghost use Rattle.pm_waking.specs.Wakes.{first_awake, turn_by};
+ghost use Rattle.pm_turns.specs.Seats.{AreMoments, IsFirst, IsSeated, Sets, actor_at, place_of, round_of, seat_after};
+
+use pm_base::{ActorId, NoMemory};
+use pm_moments::Moments;
+use std::alloc::Global;
+use std::marker::Model;
+
+/// From when the actor at each seat may write its next line, where the search for the next one begins, and
+/// when the last line was written, in milliseconds of the run.
+#[derive(Drop)]
+pub struct Rows {
+    callers: usize,
+    devices: usize,
+    // The moment of each actor, by its seat; `None` where it rests or waits for a device.
+    moments: Moments,
+    // The seat at which the search for the next actor begins.
+    seat: usize,
+    // When the last line was written.
+    time: u64,
+}
+
+impl Model for Rows {
+    ghost use Rattle.std.specs.Prelude.{length};
+    ghost use Rattle.pm_turns.specs.Seats.{AreKept, Seating};
+
+    ghost Value = { Seating };
+
+    ghost view = { λ t. record { callers = t.callers; devices = t.devices; moments = t.moments; seat = t.seat; time = t.time } };
+
+    ghost invariant = { λ t. AreKept t.callers t.devices (length t.moments) t.seat t.time };
+}
+
+impl Rows {
+    /// Nobody may write. All memory is taken here.
+    pub fn fresh(alloc: Global, callers: usize, devices: usize) -> Result<Rows, NoMemory>
+        requires { callers + 2 * devices < 2 ^ 32 }
+        ensures { IfOk result (λ rows. rows ≡ record { callers = callers; devices = devices; moments = replicate (callers + 2 * devices) None; seat = 0; time = 0 }) }
+    {
+        Ok(Rows {
+            callers,
+            devices,
+            moments: Moments::new(alloc, callers + 2 * devices)?,
+            seat: 0,
+            time: 0,
+        })
+    }
+
+    /// How many callers there are.
+    pub fn callers(&self) -> usize
+        ensures { result ≡ self.now.callers }
+    {
+        self.callers
+    }
+
+    /// How many devices there are.
+    pub fn devices(&self) -> usize
+        ensures { result ≡ self.now.devices }
+    {
+        self.devices
+    }
+
+    // The seat of an actor.
+    fn place(&self, actor: ActorId) -> usize
+        requires { IsSeated self.now actor }
+        ensures is { result ≡ place_of self.now actor }
+        ensures below { result < self.now.callers + 2 * self.now.devices }
+    {
+        match actor {
+            ActorId::Caller(caller) => caller as usize,
+            ActorId::Work(device) => self.callers + device as usize,
+            ActorId::Timer(device) => self.callers + self.devices + device as usize,
+        }
+    }
+
+    // The actor at a seat.
+    fn actor_at(&self, place: usize) -> ActorId
+        requires { place < self.now.callers + 2 * self.now.devices }
+        ensures is { result ≡ actor_at self.now.callers self.now.devices place }
+        ensures seated { IsSeated self.now result }
+    {
+        let row = self.callers + self.devices;
+        if place < self.callers {
+            ActorId::Caller(place as u32)
+        } else if place < row {
+            ActorId::Work((place - self.callers) as u32)
+        } else {
+            ActorId::Timer((place - row) as u32)
+        }
+    }
+
+    // Where the search begins after a line of this actor.
+    fn seat_after(&self, actor: ActorId) -> usize
+        requires { IsSeated self.now actor }
+        ensures is { result ≡ seat_after self.now actor }
+    {
+        match actor {
+            ActorId::Caller(caller) => caller as usize + 1,
+            ActorId::Work(device) => self.callers + device as usize + 1,
+            ActorId::Timer(_) => 0,
+        }
+    }
+
+    /// Takes note of the writer and the time of a line.
+    pub fn note(&mut self, actor: ActorId, time: u64)
+        requires seated { IsSeated self.old actor }
+        requires in_time { time < 2 ^ 63 }
+        ensures { self.new ≡ record self.old { seat = seat_after self.old actor; time = time } }
+    {
+        self.seat = self.seat_after(actor);
+        self.time = time;
+    }
+
+    /// From when an actor may write.
+    pub fn set(&mut self, actor: ActorId, moment: Option<u64>)
+        requires { IsSeated self.old actor }
+        ensures { Sets self.old self.new actor moment }
+    {
+        let place = self.place(actor);
+        if self.moments.get(place) != moment {
+            self.moments.set(place, moment);
+        }
+    }
+
+    // The first seat at which somebody may write at this moment: once round callers and work items from the seat
+    // at which the search begins, and then the timers.
+    fn first_place(&self, moment: u64) -> Option<usize>
+        ensures found { IfSome result (IsFirst self.now moment) }
+        ensures missing { IfNone result (NoneWithin self.now.moments moment 0 (self.now.callers + 2 * self.now.devices)) }
+    {
+        let row = self.callers + self.devices;
+        match self.moments.first_within(self.seat, moment) {
+            Some(place) if place < row => Some(place),
+            _ => self.moments.first_within(0, moment),
+        }
+    }
+
+    // Who writes at a moment.
+    fn turn_at(&self, moment: u64) -> Option<ActorId>
+        ensures first { (wake : AnActor → Option ℕ) → AreMoments wake self.now → result ≡ first_awake wake (round_of self.now) moment }
+        ensures seated { IfSome result (IsSeated self.now) }
+    {
+        let _ = &self.seat;
+        match self.first_place(moment) {
+            Some(place) => Some(self.actor_at(place)),
+            None => None,
+        }
+    }
+
+    /// Who writes the next line, and when: at the moment of the last line where somebody may write
+    /// then, else at the least moment that a line awaits. It takes no memory, and a number of steps
+    /// that is logarithmic in the number of actors.
+    pub fn next(&self) -> Option<(ActorId, u64)>
+        ensures turn { (wake : AnActor → Option ℕ) → AreMoments wake self.now → result ≡ turn_by wake (round_of self.now) self.now.time }
+        ensures seated { IfSome result (λ turn. IsSeated self.now turn.0) }
+        ensures begins { self.now.seat ≤ self.now.callers + self.now.devices }
+    {
+        if let Some(actor) = self.turn_at(self.time) {
+            return Some((actor, self.time));
+        }
+        let _ = &self.seat;
+        match self.moments.least() {
+            Some(later) => match self.turn_at(later) {
+                Some(actor) => Some((actor, later)),
+                None => None,
+            },
+            None => None,
+        }
+    }
+}
