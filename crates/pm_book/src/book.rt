@@ -11,8 +11,10 @@ ghost use Rattle.pm_turns.specs.Seats.{AreOf};
 ghost use Rattle.pm_book.specs.Pages.{is_full, world_of};
 ghost use Rattle.pm_device.specs.Parts.{IsFor};
 
+use crate::laws::all_stand_well;
 use crate::lines::Lines;
 use pm_base::{ActorId, NoMemory};
+use pm_bounds::lines_are_of_plan;
 use pm_device::Parts;
 use pm_laws::sizes;
 use pm_model::{Line, Plan};
@@ -40,7 +42,7 @@ impl Model for Book {
 
     ghost view = { λ b. record { plan = b.plan; lines = reverse b.lines.lines } };
 
-    ghost invariant = { λ b. IsKept b.plan b.state b.turns (reverse b.lines.lines) };
+    ghost invariant = { λ b. IsKept b.plan b.state b.turns b.lines.ends (reverse b.lines.lines) };
 }
 
 // The state before any line, with the turns.
@@ -49,6 +51,7 @@ fn start_of(alloc: Global, plan: &Plan) -> Result<(State, Turns), NoMemory>
     ensures start { IfOk result (λ pair. pair.0.world ≡ start plan.now) }
     ensures seats { IfOk result (λ pair. AreOf plan.now pair.1) }
 {
+    all_stand_well();
     let state = State::fresh(alloc, plan)?;
     let turns = Turns::fresh(alloc, plan, &state)?;
     Ok((state, turns))
@@ -85,6 +88,7 @@ impl Book {
         ensures lawful { IsLawful self.now.plan self.now.lines }
         ensures of_plan { list_all (is_line_of self.now.plan) self.now.lines ≡ true }
     {
+        lines_are_of_plan();
         self.lines.as_slice()
     }
 
