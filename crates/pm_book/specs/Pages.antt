@@ -1,5 +1,5 @@
 -- What a book shows, and what its step answers (this project's own).
-use Rattle.std.specs.Prelude.{◌≡◌, ◌+◌, ◌<◌, ◌≤◌, ◌^◌, ℕ, Bool, true, false, List, ◌∷◌, Some, length, max, min, nat_le, if◌then◌else◌}
+use Rattle.std.specs.Prelude.{◌≡◌, ◌+◌, ◌*◌, ◌<◌, ◌≤◌, ◌^◌, ℕ, Bool, true, false, List, ◌∷◌, Some, length, max, min, nat_le, nat_lt, unwrap_or, if◌then◌else◌}
 use Rattle.pm_base.specs.declared.ActorId.{ActorId}
 use Rattle.pm_model.specs.declared.event.Event.{Event}
 use Rattle.pm_model.specs.declared.event.Event.TheVariants as event
@@ -10,16 +10,16 @@ use Rattle.pm_model.specs.declared.stage.Stage.{Stage}
 use Rattle.pm_model.specs.declared.stage.Move.TheVariants.{Write}
 use Rattle.pm_model.specs.declared.stage.Then.{Then}
 use Rattle.pm_model.specs.Derived.{begun}
-use Rattle.std.specs.List.{list_all}
-use Rattle.pm_model.specs.LineOf.{is_line_of}
 use Rattle.pm_model.specs.Lawful.{IsLawful, Permits, last_time}
 use Rattle.pm_model.specs.Views.{Views}
 use Rattle.pm_model.specs.World.{World, move, stage_at, world}
+use Rattle.pm_sums.specs.Sums.{one, tally}
+use Rattle.pm_laws.specs.Owners.{places}
+use Rattle.pm_bounds.specs.Running.{runs_callback}
 use Rattle.pm_state.specs.declared.acting.Turn.{Turn}
 use Rattle.pm_state.specs.declared.acting.Turn.TheVariants as turn
 use Rattle.pm_state.specs.Standing.{IsOf, Standing}
-use Rattle.pm_state.specs.Tests.{fits}
-use Rattle.pm_state.specs.Turns.{ending_of, turn_of}
+use Rattle.pm_state.specs.Turns.{end_due, turn_of}
 use Rattle.pm_turns.specs.Turning.{Index, IsIndex}
 use Rattle.pm_book.specs.declared.steps.EndStep.{EndStep}
 use Rattle.pm_book.specs.declared.steps.EndStep.TheVariants as end
@@ -65,22 +65,20 @@ step_by v (turn.Running at) = step.Running at
 step_by v (turn.Blocked d) = step.Blocked d
 step_by v (turn.Early at) = step.Early at
 step_by v (turn.Writes s e c next) = written v e
-step_by v turn.Stuck = step.Stuck
 
 -- what a step of an actor answers: a full list first, and then what its turn is
 abbrev pub step_answer : Pages → ActorId → ℕ → Step
 step_answer p actor now =
     if is_full p then step.AtLimit else step_by (world_of p).views (turn_of p.plan (world_of p) actor (moment_from p.lines now))
 
-abbrev pub end_by : Turn → EndStep
-end_by (turn.Early at) = end.Early at
-end_by (turn.Writes s e c next) = end.Wrote
-end_by _ = end.Stuck
+-- what the end of a callback answers at t, which is due at this moment
+abbrev pub end_by : ℕ → ℕ → EndStep
+end_by t due = if nat_lt t due then end.Early due else end.Wrote
 
--- what the end of an actor's callback answers
+-- what the end of an actor's callback answers: a full list first, and then whether it is due
 abbrev pub end_answer : Pages → ActorId → ℕ → EndStep
 end_answer p actor now =
-    if is_full p then end.AtLimit else end_by (ending_of p.plan (world_of p) actor (moment_from p.lines now))
+    if is_full p then end.AtLimit else end_by (moment_from p.lines now) (unwrap_or (end_due p.plan (world_of p) actor) 0)
 
 -- whether a line was written
 abbrev pub has_written : Step → Bool
@@ -96,20 +94,32 @@ pub record Adds (old new : Pages) (actor : ActorId) (t : ℕ) : Type 0 where
   pub actor_is : line.actor ≡ actor
   pub time_is : line.time ≡ t
 
--- the line may be written at this stage, and has passed the tests
+-- the line may be written at this stage
 pub record MayWrite (p : Pages) (s : Stage) (line : Line) (c : Change) (next : Then) : Type 0 where
   pub stands : stage_at p.plan (world_of p) line.actor ≡ Some s
   pub gives : move p.plan (world_of p).views s line.time ≡ Some (Write line.event c next)
   pub later : last_time p.lines ≤ line.time
   pub in_time : line.time < 2 ^ 63
   pub room : length p.lines < p.plan.lines
-  pub fits : fits p.plan (world_of p) line.actor c line.event ≡ true
 
--- the list is lawful and all its lines are lines of the plan, and the state and the turns are those after it
-pub record IsKept (plan : Plan) (state : Standing) (turns : Index) (h : List Line) : Type 0 where
+-- 1 at a stage at which a callback runs
+abbrev pub runs_here : Stage → ℕ
+runs_here s = one (runs_callback s)
+
+-- how many callbacks run
+abbrev pub running : World → ℕ
+running w = tally runs_here (places w)
+
+-- for the end line of each callback that runs a place is kept, and not for many more
+pub record KeepsRoom (w : World) (ends lines : ℕ) : Type 0 where
+  pub each : running w ≤ ends
+  pub few : ends ≤ 2 * lines
+
+-- the list is lawful, the state and the turns are those after it, and places are kept for so many end lines
+pub record IsKept (plan : Plan) (state : Standing) (turns : Index) (ends : ℕ) (h : List Line) : Type 0 where
   pub lawful : IsLawful plan h
-  pub lines_are : list_all (is_line_of plan) h ≡ true
   pub world_is : state.world ≡ world plan h
   pub is_of : IsOf plan state
   pub turns_are : IsIndex plan h turns
   pub in_time : last_time h < 2 ^ 63
+  pub room : KeepsRoom state.world ends (length h)

@@ -12,12 +12,13 @@ ghost use Rattle.pm_turns.specs.Turning.{IsIndex};
 ghost use Rattle.pm_book.specs.Pages.{is_full, world_of};
 ghost use Rattle.pm_device.specs.Parts.{IsFor};
 
+use crate::laws::all_stand_well;
 use crate::lines::Lines;
 use pm_base::{ActorId, NoMemory};
+use pm_bounds::lines_are_of_plan;
 use pm_device::Parts;
 use pm_laws::sizes;
 use pm_model::{Line, Plan};
-use pm_stacks::stages_are_well_formed;
 use pm_state::State;
 use pm_turns::Turns;
 use std::alloc::Global;
@@ -42,7 +43,7 @@ impl Model for Book {
 
     ghost view = { λ b. record { plan = b.plan; lines = reverse b.lines.lines } };
 
-    ghost invariant = { λ b. IsKept b.plan b.state b.turns (reverse b.lines.lines) };
+    ghost invariant = { λ b. IsKept b.plan b.state b.turns b.lines.ends (reverse b.lines.lines) };
 }
 
 // The state before any line, with the turns.
@@ -51,8 +52,8 @@ fn start_of(alloc: Global, plan: &Plan) -> Result<(State, Turns), NoMemory>
     ensures start { IfOk result (λ pair. pair.0.world ≡ start plan.now) }
     ensures turns { IfOk result (λ pair. IsIndex plan.now [] pair.1) }
 {
+    all_stand_well();
     let state = State::fresh(alloc, plan)?;
-    stages_are_well_formed();
     let turns = Turns::fresh(alloc, plan, &state)?;
     Ok((state, turns))
 }
@@ -88,6 +89,7 @@ impl Book {
         ensures lawful { IsLawful self.now.plan self.now.lines }
         ensures of_plan { list_all (is_line_of self.now.plan) self.now.lines ≡ true }
     {
+        lines_are_of_plan();
         self.lines.as_slice()
     }
 

@@ -2,6 +2,7 @@
 #![tactic(auto)]
 
 mod book;
+mod laws;
 mod lines;
 mod steps;
 mod writing;

@@ -1,6 +1,6 @@
 //! The lines of a book, and the places that are kept for more.
 
-ghost use Rattle.std.specs.Prelude.{◌≡◌, ◌+◌, ◌<◌, ◌≤◌, ◌^◌, ◌++◌, ◌∷◌, [], false, reverse, true, OnErr, OnOk};
+ghost use Rattle.std.specs.Prelude.{◌≡◌, ◌+◌, ◌<◌, ◌≤◌, ◌^◌, ◌++◌, ◌∷◌, [], reverse, OnOk};
 ghost use Rattle.pm_book.specs.Pages.{Sheet};
 ghost use Rattle.pm_model.specs.Lawful.{last_time};
 
@@ -64,34 +64,27 @@ impl Lines {
         last_time(&self.lines)
     }
 
-    /// For how many end lines a place is kept.
-    pub fn ends(&self) -> u32
-        ensures { result ≡ self.now.ends }
-    {
-        self.ends
-    }
-
-    /// Makes room for a line, and where it begins a callback for its end line too. After `NoMemory`
-    /// nothing is changed.
-    pub fn make_room(&mut self, begins: bool) -> Result<(), NoMemory>
+    /// Makes room for a line, and for the end lines of so many callbacks that it begins. Contracts see no
+    /// change but the room.
+    pub fn make_room(&mut self, begins: u32) -> Result<(), NoMemory>
         ensures lines { self.new.lines ≡ self.old.lines }
-        ensures room { OnOk result (self.new.ends + 1 ≤ self.new.spare) }
-        ensures none { OnOk result (begins ≡ false → self.new.ends ≡ self.old.ends) }
-        ensures one { OnOk result (begins ≡ true → self.old.ends + 1 < 2 ^ 32 → self.new.ends ≡ self.old.ends + 1) }
-        ensures err { OnErr result (self.new.ends ≡ self.old.ends) }
+        ensures ends { self.new.ends ≡ self.old.ends }
+        ensures room { OnOk result (self.new.ends + begins + 1 ≤ self.new.spare) }
     {
-        let ends = self.ends.saturating_add(u32::from(begins));
-        self.lines.reserve(ends as usize + 1)?;
-        self.ends = ends;
+        self.lines
+            .reserve(self.ends as usize + begins as usize + 1)?;
         Ok(())
     }
 
-    /// Writes a line for which there is room.
-    pub fn push(&mut self, line: Line)
-        requires { self.old.ends + 1 ≤ self.old.spare }
+    /// Writes a line for which there is room, as there is for the end lines of so many callbacks that it
+    /// begins, and keeps their places.
+    pub fn push(&mut self, line: Line, begins: u32)
+        requires room { self.old.ends + begins + 1 ≤ self.old.spare }
+        requires few { self.old.ends + begins < 2 ^ 32 }
         ensures lines { self.new.lines ≡ self.old.lines ++ line ∷ [] }
-        ensures ends { self.new.ends ≡ self.old.ends }
+        ensures ends { self.new.ends ≡ self.old.ends + begins }
     {
+        self.ends += begins;
         match self.lines.push(line) {
             Ok(()) => {}
             Err(_) => unreachable!(),

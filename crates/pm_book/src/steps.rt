@@ -22,8 +22,6 @@ pub enum Step {
     Begun(DevId, Cb, u64),
     /// Another line was written.
     Wrote,
-    /// A test failed that no law over whole runs rules out as yet. No known run of a plan comes here.
-    Stuck,
 }
 
 /// What came of the end of a callback. The first that holds is the answer; all but `Wrote` change
@@ -36,6 +34,4 @@ pub enum EndStep {
     Early(u64),
     /// The end line was written.
     Wrote,
-    /// A test failed that no law over whole runs rules out as yet. No known run of a plan comes here.
-    Stuck,
 }

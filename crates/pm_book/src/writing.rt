@@ -1,17 +1,43 @@
 //! How a run goes on.
 
-ghost use Rattle.std.specs.Prelude.{◌≡◌, ◌≢◌, ◌<◌, ◌∷◌, ◌^◌, length, false, true, IfOk, OnErr, OnOk};
+ghost use Rattle.std.specs.Prelude.{◌≡◌, ◌≢◌, ◌<◌, ◌≤◌, ◌∷◌, ◌^◌, length, false, true, IfOk, OnErr, OnOk};
+ghost use Rattle.pm_sums.specs.Sums.{weigh};
 ghost use Rattle.pm_state.specs.Standing.{IsActor};
-ghost use Rattle.pm_state.specs.Turns.{EndsLevel, fails, is_running};
-ghost use Rattle.pm_book.specs.Pages.{Adds, BeginsWithin, MayWrite, end_answer, has_written, moment_from, step_answer, world_of, written};
+ghost use Rattle.pm_state.specs.Turns.{EndsLevel, is_running};
+ghost use Rattle.pm_book.specs.Pages.{Adds, BeginsWithin, MayWrite, end_answer, has_written, moment_from, runs_here, step_answer, world_of, written};
 
 use crate::book::Book;
+use crate::laws::{all_stand_well, each_line_is_taken};
 use crate::steps::{EndStep, Step};
 use pm_base::{ActorId, NoMemory};
-use pm_laws::held_counts_are_taken;
-use pm_model::{Change, Event, Line, Stage, Then};
-use pm_stacks::stages_are_well_formed;
+use pm_bounds::{lines_are_bounded, lines_are_of_plan};
+use pm_model::{Change, Event, IdleStage, Line, ResumeStage, Stage, StageRow, SuspendStage, Then};
 use pm_state::Turn;
+
+// 1 at a stage at which a callback runs.
+fn runs_here(stage: Stage) -> u32
+    ensures count { result ≡ runs_here stage }
+    ensures few { result ≤ 1 }
+{
+    match stage {
+        Stage::Idle(IdleStage::Running { .. })
+        | Stage::Suspend(SuspendStage::Running { .. })
+        | Stage::Resume(ResumeStage::Running { .. }) => 1,
+        _ => 0,
+    }
+}
+
+// How many callbacks a line begins, after which these stages take its stage's place.
+fn begins(then: &Then) -> u32
+    ensures count { result ≡ weigh runs_here then.now.push }
+    ensures few { result ≤ 2 }
+{
+    match then.push.row() {
+        StageRow::Zero => 0,
+        StageRow::One(stage) => runs_here(stage),
+        StageRow::Two(stage, under) => runs_here(stage) + runs_here(under),
+    }
+}
 
 impl Book {
     // When the next line is written at the earliest, at this moment by the clock.
@@ -36,46 +62,46 @@ impl Book {
         }
     }
 
-    // Writes a line that may come next.
+    // Writes a line that may come next and begins so many callbacks.
     fn write(
         &mut self,
         stage: Stage,
         line: Line,
         change: Change,
         then: Then,
+        begins: u32,
     ) -> Result<(), NoMemory>
         requires in_range { IsActor self.old.plan line.actor }
         requires may { MayWrite self.old stage line change then }
+        requires begins { begins ≡ weigh runs_here then.push }
+        requires few { begins ≤ 2 }
         ensures ok { OnOk result (self.new ≡ record self.old { lines = line ∷ self.old.lines }) }
         ensures err { OnErr result (self.new ≡ self.old) }
     {
+        each_line_is_taken();
+        all_stand_well();
+        lines_are_bounded();
         self.turns.reserve(line.event)?;
-        self.lines
-            .make_room(matches!(line.event, Event::Begin { .. }))?;
+        self.lines.make_room(begins)?;
         self.state.go(&self.plan, change, &line, then)?;
-        self.lines.push(line);
-        stages_are_well_formed();
+        self.lines.push(line, begins);
         self.turns.settle(&self.plan, &self.state, stage, &line);
         Ok(())
     }
 
-    // Writes the end line of a callback that may come next, at the place that is kept for it. Where
-    // none is kept, it answers false and changes nothing.
-    fn write_end(&mut self, stage: Stage, line: Line, change: Change, then: Then) -> bool
+    // Writes the end line of a callback, at the place that is kept for it. It takes no memory.
+    fn write_end(&mut self, stage: Stage, line: Line, change: Change, then: Then)
         requires in_range { IsActor self.old.plan line.actor }
         requires may { MayWrite self.old stage line change then }
+        requires running { is_running self.old.plan (world_of self.old) line.actor ≡ true }
         requires level { EndsLevel (world_of self.old) line.actor then }
-        ensures written { result ≡ true → self.new ≡ record self.old { lines = line ∷ self.old.lines } }
-        ensures stays { result ≡ false → self.new ≡ self.old }
+        ensures { self.new ≡ record self.old { lines = line ∷ self.old.lines } }
     {
-        if self.lines.ends() == 0 || matches!(line.event, Event::Wait { .. }) {
-            return false;
-        }
+        each_line_is_taken();
+        all_stand_well();
         self.state.go_level(&self.plan, change, &line, then);
         self.lines.push_end(line);
-        stages_are_well_formed();
         self.turns.settle(&self.plan, &self.state, stage, &line);
-        true
     }
 }
 
@@ -90,12 +116,14 @@ impl Book {
     ) -> Result<Step, NoMemory>
         requires in_range { IsActor self.old.plan line.actor }
         requires may { MayWrite self.old stage line change then }
+        requires within { BeginsWithin (length self.old.plan.devices) line.event }
         ensures answer { IfOk result (λ s. s ≡ written (world_of self.old).views line.event) }
         ensures ok { OnOk result (self.new ≡ record self.old { lines = line ∷ self.old.lines }) }
         ensures err { OnErr result (self.new ≡ self.old) }
     {
         let answer = self.answer(line.event);
-        self.write(stage, line, change, then)?;
+        let begins = begins(&then);
+        self.write(stage, line, change, then, begins)?;
         Ok(answer)
     }
 
@@ -104,23 +132,22 @@ impl Book {
     /// changed.
     pub fn step(&mut self, actor: ActorId, now: u64) -> Result<Step, NoMemory>
         requires { IsActor self.old.plan actor }
-        ensures answer { IfOk result (λ s. s ≢ Step.Stuck → s ≡ step_answer self.old actor now) }
+        ensures answer { IfOk result (λ s. s ≡ step_answer self.old actor now) }
         ensures writes { IfOk result (λ s. has_written s ≡ true → Adds self.old self.new actor (moment_from self.old.lines now)) }
         ensures stays { IfOk result (λ s. has_written s ≡ false → self.new ≡ self.old) }
-        ensures stuck { IfOk result (λ s. s ≡ Step.Stuck → fails self.old.plan (world_of self.old) actor (moment_from self.old.lines now) ≡ true) }
         ensures err { OnErr result (self.new ≡ self.old) }
     {
         if self.is_full() {
             return Ok(Step::AtLimit);
         }
         let time = self.moment(now);
-        held_counts_are_taken();
+        all_stand_well();
+        lines_are_of_plan();
         match self.state.turn(&self.plan, actor, time) {
             Turn::Resting => Ok(Step::Resting),
             Turn::Running(at) => Ok(Step::Running(at)),
             Turn::Blocked(dev) => Ok(Step::Blocked(dev)),
             Turn::Early(at) => Ok(Step::Early(at)),
-            Turn::Stuck => Ok(Step::Stuck),
             Turn::Writes {
                 stage,
                 event,
@@ -137,7 +164,7 @@ impl Book {
     pub fn end_callback(&mut self, actor: ActorId, now: u64) -> EndStep
         requires in_range { IsActor self.old.plan actor }
         requires running { is_running self.old.plan (world_of self.old) actor ≡ true }
-        ensures answer { result ≢ EndStep.Stuck → result ≡ end_answer self.old actor now }
+        ensures answer { result ≡ end_answer self.old actor now }
         ensures writes { result ≡ EndStep.Wrote → Adds self.old self.new actor (moment_from self.old.lines now) }
         ensures stays { result ≢ EndStep.Wrote → self.new ≡ self.old }
     {
@@ -145,7 +172,7 @@ impl Book {
             return EndStep::AtLimit;
         }
         let time = self.moment(now);
-        held_counts_are_taken();
+        all_stand_well();
         match self.state.ending(&self.plan, actor, time) {
             Turn::Early(at) => EndStep::Early(at),
             Turn::Writes {
@@ -155,13 +182,10 @@ impl Book {
                 then,
             } => {
                 let line = Line { time, actor, event };
-                if self.write_end(stage, line, change, then) {
-                    EndStep::Wrote
-                } else {
-                    EndStep::Stuck
-                }
+                self.write_end(stage, line, change, then);
+                EndStep::Wrote
             }
-            _ => EndStep::Stuck,
+            Turn::Resting | Turn::Running(_) | Turn::Blocked(_) => unreachable!(),
         }
     }
 }

@@ -16,8 +16,8 @@ pub enum End {
     Finished,
     /// The list has all the lines that the plan allows, and the run isn't finished.
     AtLimit,
-    /// The run isn't finished, the list has room, and the line of the actor whose turn it is can't be
-    /// written: a test failed that no law over whole runs rules out as yet. No known run ends so.
+    /// The run isn't finished, the list has room, and the order of turns names nobody, or an actor that
+    /// writes nothing: no contract rules it out as yet. No known run ends so.
     Stuck,
 }
 

@@ -29,7 +29,7 @@ pub const AT_LIMIT: u8 = 6;
 /// Memory ran out, before anything was written.
 pub const NO_MEMORY: u8 = 7;
 
-/// A test of the run failed that no law over whole runs rules out as yet. Nothing was written. No known
+/// The order of turns names nobody who writes: no contract rules it out as yet. Nothing was written. No known
 /// plan comes here.
 pub const STUCK: u8 = 8;
 
@@ -55,7 +55,7 @@ pub enum Fault {
     AtLimit,
     /// Memory ran out.
     NoMemory,
-    /// A test of the run failed that no law over whole runs rules out as yet.
+    /// The order of turns names nobody who writes: no contract rules it out as yet.
     Stuck,
 }
 
