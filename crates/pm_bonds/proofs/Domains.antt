@@ -30,7 +30,7 @@ use Rattle.pm_kinds.specs.Kinds.{Kind, lowers_domain, resumes_quiet, raises_doma
 use Rattle.pm_kinds.specs.LineKind.{HasKind}
 use Rattle.pm_kinds.proofs.Lines.{line_kind}
 use Rattle.pm_bonds.specs.Bonds.{DomainStays}
-use Rattle.pm_bonds.specs.Needs.{needs_domain, Needs}
+use Rattle.pm_kinds.specs.Needs.{needs_domain, Needs}
 use Rattle.pm_bonds.proofs.Chains.{among, quiet_domain, domain_within, head_in, in_up, down_went}
 use Rattle.pm_bonds.proofs.LinkRows.{some_row}
 use Rattle.pm_bonds.proofs.Nests.{NestDomains, domains_nest}

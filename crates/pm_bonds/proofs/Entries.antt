@@ -19,7 +19,7 @@ use Rattle.pm_sums.specs.Sums.{one}
 use Rattle.pm_stacks.proofs.Tests.{front, rear}
 use Rattle.pm_kinds.specs.Parts.{Phase, giving, falling, unsetting, counts, any_phase, passes}
 use Rattle.pm_kinds.specs.Kinds.{Kind, keeps, begins_suspend, fails_suspend, suspends, suspends_quiet, resumes_quiet, enters, sets_active, resumes, forces_again, forces_bare, forces_held, forces_off, adds_link, drops_link, dev_of, from, to, old, turn, turned, says, is_silent, is_owners_word, lets_go, EventIs, MayRest, Guard}
-use Rattle.pm_bonds.specs.Needs.{needs_parent}
+use Rattle.pm_kinds.specs.Needs.{needs_parent}
 use Rattle.pm_bonds.proofs.Refusals.{rests_so}
 use Rattle.pm_bonds.proofs.Steps.{differ, same_is, Least, IsNeed, least_own, Owned, alone, own_one, forced}
 

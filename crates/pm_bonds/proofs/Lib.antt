@@ -7,3 +7,5 @@ pub mod Nests
 pub mod Domains
 pub mod Entries
 pub mod Marked
+pub mod Parents
+pub mod Suppliers

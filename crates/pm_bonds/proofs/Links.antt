@@ -25,10 +25,11 @@ use Rattle.pm_kinds.specs.Parts.{Phase, giving, preparing, falling, setting, uns
 use Rattle.pm_kinds.specs.Kinds.{Kind, gives_link, suspends, suspends_quiet, resumes_quiet, takes_link, raises_domain, begins_at_once, forces_bare, forces_held, forces_off, adds_link, drops_link, drops_held, dev_of, old, new, turn, turned, says, holds, shows, Guard, lets_go}
 use Rattle.pm_kinds.specs.LineKind.{HasKind}
 use Rattle.pm_kinds.proofs.Lines.{line_kind}
+use Rattle.pm_kinds.proofs.Owners.{some_parts}
 use Rattle.pm_bonds.specs.Bonds.{is_taken}
-use Rattle.pm_bonds.specs.Needs.{needs_links, Needs}
+use Rattle.pm_kinds.specs.Needs.{needs_links, Needs}
 use Rattle.pm_bonds.proofs.LinkRows.{LinkAt, all_at, none_held, none_free, no_link, not_runtime, found_free, not_in}
-use Rattle.pm_bonds.proofs.Steps.{differ, same_is, need, Least, least_at, IsNeed, least_own, some_parts, Owned, IsAlone, alone, nobody, owned_at, own_one, need_now, need_then, start_need, needs_some}
+use Rattle.pm_bonds.proofs.Steps.{differ, same_is, need, Least, least_at, IsNeed, least_own, Owned, IsAlone, alone, nobody, owned_at, own_one, need_now, need_then, start_need, needs_some}
 
 links_need : IsNeed needs_links
 links_need = record { suspending = refl; ready = refl; resuming = refl; resumed = refl; lets_go = apart; falls = record { refuses = omega arith; unsets = omega arith } }
@@ -84,7 +85,7 @@ free_if : (h takes : Bool) → (h ≡ true → takes ≡ true) → (takes ≡ tr
 free_if true takes a b = b (a refl)
 free_if false takes a b = refl
 
-not_both : (p rt : Bool) → rt ≡ false → p && rt ≡ false
+pub not_both : (p rt : Bool) → rt ≡ false → p && rt ≡ false
 not_both true rt e = e
 not_both false rt e = refl
 
@@ -163,8 +164,8 @@ link_kind plan v l row at (forces_held d) x y g b =
     same (forces_held d) row.consumer _ _ _ x b.link (λ s. b.link.none (was_asleep (Some status.Active) (is_same row.consumer d) _ refl s)) (λ q r m. differ (none_free plan v d l row at g.0 m q) r)
 link_kind plan v l row at (gives_link d s z t) x y g b =
     given (is_same row.supplier s && is_same row.consumer d) _ _ _ _ _ x _ y b
-    (λ m. let own = (both _ _ m).1 in (own_one (gives_link d s z t) row.consumer z refl own, light_at (is_same row.consumer d) (needs_links t) (links_need.lets_go t g)))
-    (let none = light_at (is_same row.consumer d) (needs_links t) (links_need.lets_go t g) in omega arith)
+    (λ m. let own = (both _ _ m).1 in (own_one (gives_link d s z t) row.consumer z refl own, light_at (is_same row.consumer d) (needs_links t) (links_need.lets_go t g.1)))
+    (let none = light_at (is_same row.consumer d) (needs_links t) (links_need.lets_go t g.1) in omega arith)
 link_kind plan v l row at (takes_link d link z) x y g b =
     taken (is_same row.supplier link.1 && is_same row.consumer d) _ _ _ _ x _ y b (λ m. let own = (both _ _ m).1 in (own_one (takes_link d link z) row.consumer z refl own, found_free plan v d link l row at g.0 m))
 link_kind plan v l row at (forces_off d) x y g b =

@@ -1,21 +1,13 @@
 -- What a device needs before a line and after it.
 use Rattle.std.proofs.Common.{ℕ, ◌≡◌, ◌+◌, ◌<◌, ◌≤◌, ◌⊎◌, inl, inr, Bool, true, false, not, ◌&&◌, List, [], ◌∷◌, Option, Some, None, length, nat_eq, if◌then◌else◌, ap, refl, sym, ◌∙◌, subst, arith}
 use Rattle.std.specs.Prelude.{◌||◌}
-use Rattle.std.specs.List.{sum_by}
 use Rattle.std.specs.Option.{unwrap_or}
 use Rattle.std.proofs.lemmas.Bool.{eqb-true, false≢true}
-use Rattle.std.proofs.lemmas.List.Sums.{sum_by-cons, sum_by-le-sum_by}
 use Rattle.pm_base.specs.declared.DevId.{DevId}
 use Rattle.pm_base.specs.declared.Status.{Status}
 use Rattle.pm_base.specs.declared.Status.TheVariants as status
 use Rattle.pm_model.specs.declared.event.Line.{Line}
 use Rattle.pm_model.specs.declared.plan.Plan.{Plan}
-use Rattle.pm_model.specs.declared.stage.Await.TheVariants as await
-use Rattle.pm_model.specs.declared.stage.ControlStage.TheVariants as control
-use Rattle.pm_model.specs.declared.stage.ResumeStage.TheVariants as resume
-use Rattle.pm_model.specs.declared.stage.Stage.{Stage}
-use Rattle.pm_model.specs.declared.stage.Stage.TheVariants as stage
-use Rattle.pm_model.specs.declared.stage.SuspendStage.TheVariants as suspend
 use Rattle.pm_model.specs.Counted.{is_same, only_if}
 use Rattle.pm_model.specs.Derived.{is_active, is_suspended, is_suspending, is_resuming, is_moving, is_active_status, is_suspended_status, is_suspending_status, is_resuming_status}
 use Rattle.pm_model.specs.History.{History}
@@ -23,12 +15,13 @@ use Rattle.pm_model.specs.Lawful.{IsLawful}
 use Rattle.pm_model.specs.Views.{Views, device}
 use Rattle.pm_model.specs.World.{World, world}
 use Rattle.pm_sums.specs.Sums.{one, tally}
-use Rattle.pm_laws.specs.Owners.{places, owns_suspend, owns_resume}
+use Rattle.pm_laws.specs.Owners.{places}
 use Rattle.pm_laws.proofs.Runs.{Holds, lawful_holds, start_status, start_tally}
 use Rattle.pm_kinds.specs.Parts.{Phase, suspending, lowering, giving, preparing, refused, ready, resuming, resumed, failed, falling, setting, unsetting, Part, no_part, part, part_of, part_at, counts, at_part, passes, any_phase, Falls}
 use Rattle.pm_kinds.specs.Kinds.{Kind, begins_suspend, ends_suspend, fails_suspend, lowers_domain, gives_link, suspends, suspends_quiet, resumes_quiet, enters, sets_active, raises_domain, begins_resume, begins_at_once, ends_resume, fails_resume, resumes, forces_again, forces_bare, forces_held, forces_off, dev_of, from, to, old, new, turn, turned, says, Guard, lowers, lets_go}
 use Rattle.pm_kinds.specs.LineKind.{HasKind}
-use Rattle.pm_bonds.specs.Needs.{Needs}
+use Rattle.pm_kinds.specs.Needs.{Needs}
+use Rattle.pm_kinds.proofs.Owners.{one_most, some_parts, owners_are}
 use Rattle.pm_bonds.proofs.Refusals.{rests_so}
 
 pub differ : {A : Type 0} {b : Bool} → b ≡ true → b ≡ false → A
@@ -38,11 +31,11 @@ pub same_is : (c d : DevId) → is_same c d ≡ true → d ≡ c
 same_is c d b = ap (λ n. let x : DevId = record { 0 = n } in x) (eqb-true d.0 c.0 b)
 
 -- the device of a line, and every other
-own_counts : (test : Phase → Bool) (c d : DevId) (x : Option Phase) → is_same c d ≡ true → counts test c (part_at d x) ≡ passes test x
+pub own_counts : (test : Phase → Bool) (c d : DevId) (x : Option Phase) → is_same c d ≡ true → counts test c (part_at d x) ≡ passes test x
 own_counts test c d None m = refl
 own_counts test c d (Some x) m = rw m refl
 
-other_counts : (test : Phase → Bool) (c d : DevId) (x : Option Phase) → is_same c d ≡ false → counts test c (part_at d x) ≡ 0
+pub other_counts : (test : Phase → Bool) (c d : DevId) (x : Option Phase) → is_same c d ≡ false → counts test c (part_at d x) ≡ 0
 other_counts test c d None m = refl
 other_counts test c d (Some x) m = rw m refl
 
@@ -100,10 +93,6 @@ may_rise test (raises_domain d n) = not (test preparing)
 may_rise test (begins_at_once d) = not (test preparing)
 may_rise test _ = false
 
-one_most : (b : Bool) → one b ≤ 1
-one_most true = omega arith
-one_most false = omega arith
-
 lowered : (x y : Phase) → lowers x y ≡ true → lets_go y ≡ true
 lowered lowering giving e = refl
 lowered failed falling e = refl
@@ -119,7 +108,7 @@ kind_least plan v test (begins_suspend d) n g e = omega (arith, ap one (rests_so
 kind_least plan v test (ends_suspend d c) n g e = omega (arith, ap one n.suspending, one_most (test lowering))
 kind_least plan v test (fails_suspend d c) n g e = omega (arith, ap one n.suspending)
 kind_least plan v test (lowers_domain d m x y) n g e = omega (arith, ap one (n.lets_go y (lowered x y g)))
-kind_least plan v test (gives_link d s x y) n g e = omega (arith, ap one (n.lets_go y g))
+kind_least plan v test (gives_link d s x y) n g e = omega (arith, ap one (n.lets_go y g.1))
 kind_least plan v test (enters d) n g e = omega (arith, ap one e)
 kind_least plan v test (sets_active d) n g e = omega (arith, ap one e)
 kind_least plan v test (raises_domain d m) n g e = omega (arith, ap one n.ready, ap one (off (test preparing) e))
@@ -147,71 +136,6 @@ forced m st e q = go m (is_active_status st) e q
     go true false e q = cc
     go false b e q = cc
 
--- the owners of a device are as its status says
-and_true : (b : Bool) → one (b && true) ≡ one b + 0
-and_true true = refl
-and_true false = refl
-
-true_and : (b : Bool) → one (b && true) ≡ 0 + one b
-true_and true = refl
-true_and false = refl
-
-owned : (d : DevId) (s : Stage) → at_part any_phase d s ≡ owns_suspend d s + owns_resume d s
-owned d (stage.Suspend (suspend.Running e f since)) = and_true (is_same d e)
-owned d (stage.Suspend (suspend.Domain e f)) = and_true (is_same d e)
-owned d (stage.Suspend (suspend.Links e f)) = and_true (is_same d e)
-owned d (stage.Await (await.SuspendLinks e f)) = and_true (is_same d e)
-owned d (stage.Resume (resume.Links r)) = true_and (is_same d r.dev)
-owned d (stage.Resume (resume.Supplied r c)) = true_and (is_same d r.dev)
-owned d (stage.Resume (resume.Callback r)) = true_and (is_same d r.dev)
-owned d (stage.Resume (resume.Running r since)) = true_and (is_same d r.dev)
-owned d (stage.Resume (resume.Resumed r)) = true_and (is_same d r.dev)
-owned d (stage.Resume (resume.Domain r c)) = true_and (is_same d r.dev)
-owned d (stage.Resume (resume.Unwind r c)) = true_and (is_same d r.dev)
-owned d (stage.Control (control.ActiveLinks e)) = true_and (is_same d e)
-owned d (stage.Control (control.ActiveUnwind e c)) = true_and (is_same d e)
-owned d (stage.Await (await.ResumeSupplier r link)) = true_and (is_same d r.dev)
-owned d (stage.Await (await.ResumeUnwind r c)) = true_and (is_same d r.dev)
-owned d (stage.Await (await.ActiveSupplier e link)) = true_and (is_same d e)
-owned d (stage.Await (await.ActiveUnwind e c)) = true_and (is_same d e)
-owned d _ = refl
-
-fewer : (a b : Bool) → one (a && b) ≤ one (a && true)
-fewer true b = one_most b
-fewer false b = omega arith
-
-within_owned : (test : Phase → Bool) (d : DevId) (s : Stage) → at_part test d s ≤ at_part any_phase d s
-within_owned test d s = go (part_of s)
-  where
-    go : (x : Part) → counts test d x ≤ counts any_phase d x
-    go no_part = omega arith
-    go (part e x) = fewer (is_same d e) (test x)
-
--- a sum is the sum of two where each stage's weight is
-sum_both : (f g h : Stage → ℕ) → ((s : Stage) → f s ≡ g s + h s) → (stack : List Stage) → sum_by f stack ≡ sum_by g stack + sum_by h stack
-sum_both f g h is [] = refl
-sum_both f g h is (s ∷ rest) = omega (arith, is s, sum_both f g h is rest, sum_by-cons f s rest, sum_by-cons g s rest, sum_by-cons h s rest)
-
-tally_both : (f g h : Stage → ℕ) → ((s : Stage) → f s ≡ g s + h s) → (stacks : List (List Stage)) → tally f stacks ≡ tally g stacks + tally h stacks
-tally_both f g h is [] = refl
-tally_both f g h is (stack ∷ rest) =
-    omega (arith, sum_both f g h is stack, tally_both f g h is rest, sum_by-cons (sum_by f) stack rest, sum_by-cons (sum_by g) stack rest, sum_by-cons (sum_by h) stack rest)
-
-pub tally_least : (f g : Stage → ℕ) → ((s : Stage) → f s ≤ g s) → (stacks : List (List Stage)) → tally f stacks ≤ tally g stacks
-tally_least f g le stacks = sum_by-le-sum_by _ _ stacks (λ stack. sum_by-le-sum_by f g stack le)
-
--- those of some phases are among all
-pub some_parts : (test : Phase → Bool) (d : DevId) (stacks : List (List Stage)) → tally (at_part test d) stacks ≤ tally (at_part any_phase d) stacks
-some_parts test d stacks = tally_least (at_part test d) (at_part any_phase d) (within_owned test d) stacks
-
-pub owners_are : (plan : Plan) (w : World) (d : DevId) → Holds plan w → d.0 < length plan.devices
-    → one (is_suspending w.views d) + one (is_resuming w.views d) ≡ tally (at_part any_phase d) (places w)
-owners_are plan w d holds within =
-    let sum = tally_both (at_part any_phase d) (owns_suspend d) (owns_resume d) (owned d) (places w) in
-    let a = holds.owners.suspending d within in
-    let b = holds.owners.resuming d within in
-    omega arith
-
 -- a Suspended device needs nothing
 asleep : (st : Status) (a b : ℕ) → is_suspended_status st ≡ true → a ≤ b → one (is_suspending_status st) + one (is_resuming_status st) ≡ b → one (is_active_status st) + a ≡ 0
 asleep status.Suspended a b e le is = omega arith
@@ -220,7 +144,7 @@ asleep status.Suspending a b e le is = cc
 asleep status.Resuming a b e le is = cc
 
 pub sleeps : (plan : Plan) (w : World) (d : DevId) (test : Phase → Bool) → Holds plan w → d.0 < length plan.devices → is_suspended w.views d ≡ true → need test w d ≡ 0
-sleeps plan w d test holds within s = asleep (device w.views d).status _ _ s (some_parts test d (places w)) (owners_are plan w d holds within)
+sleeps plan w d test holds within s = asleep (device w.views d).status _ _ s (some_parts test d (places w)) (owners_are plan w d holds.owners within)
 
 -- how many own the device of a status, at the stage that writes and at all others
 abbrev pub Owned : Status → ℕ → ℕ → Type 0
@@ -247,7 +171,7 @@ nobody status.Resuming o x y s e le = cc
 
 pub owned_at : (plan : Plan) (h : History) (line : Line) (k : HasKind plan h line) (c : DevId) → Holds plan (world plan h) → c.0 < length plan.devices
     → Owned (device (world plan h).views c).status (counts any_phase c (old k.kind)) (tally (at_part any_phase c) k.others)
-owned_at plan h line k c holds within = owners_are plan (world plan h) c holds within ∙ k.was any_phase c
+owned_at plan h line k c holds within = owners_are plan (world plan h) c holds.owners within ∙ k.was any_phase c
 
 -- the owner of its device writes
 pub own_one : (k : Kind) (c : DevId) (x : Phase) → from k ≡ Some x → is_same c (dev_of k) ≡ true → counts any_phase c (old k) ≡ 1
@@ -274,6 +198,17 @@ owner_rests plan h line k test c x holds falls within owner m silent light =
     let still : one (is_active_status (unwrap_or (says k.kind c) st)) ≡ one (is_active_status st) = rw silent refl in
     let parts = own_counts test c (dev_of k.kind) (to k.kind) m in
     omega (arith, need_now plan h line k test c falls within, a.others, ap one a.inactive)
+
+-- nor does a device that stood, and that the line turns to another status than Active, need anything
+pub starter_rests : (plan : Plan) (h : History) (line : Line) (k : HasKind plan h line) (test : Phase → Bool) (c : DevId) (turned_to : Status) → Holds plan (world plan h) → Falls test
+    → c.0 < length plan.devices → is_same c (dev_of k.kind) ≡ true → is_moving (world plan h).views c ≡ false → turn k.kind ≡ Some turned_to → is_active_status turned_to ≡ false
+    → passes test (to k.kind) ≡ 0 → need test (world plan (line ∷ h)) c ≡ 0
+starter_rests plan h line k test c turned_to holds falls within m stands turns down light =
+    let st : Status = (device (world plan h).views c).status in
+    let none = nobody st _ (tally (at_part test c) k.others) _ stands (owned_at plan h line k c holds within) (some_parts test c k.others) in
+    let turns_down : one (is_active_status (unwrap_or (says k.kind c) st)) ≡ 0 = rw (turns, m) (ap one down) in
+    let parts = own_counts test c (dev_of k.kind) (to k.kind) m in
+    omega (arith, need_now plan h line k test c falls within)
 
 -- before any line nothing is needed
 pub start_need : (plan : Plan) (test : Phase → Bool) (c : DevId) → need test (world plan []) c ≡ 0

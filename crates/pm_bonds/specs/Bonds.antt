@@ -17,7 +17,7 @@ use Rattle.pm_model.specs.History.{History}
 use Rattle.pm_model.specs.PlanRows.{has_parent, domain_parent, domains_of}
 use Rattle.pm_model.specs.Views.{Views, is_held, is_on, is_present}
 use Rattle.pm_model.specs.World.{world}
-use Rattle.pm_bonds.specs.Needs.{needs_domain, needs_parent, Needs}
+use Rattle.pm_kinds.specs.Needs.{needs_domain, needs_parent, Needs}
 
 -- link l is one that a device takes: it has pm_runtime and is present
 abbrev pub is_taken : Views → ℕ → LinkRow → Bool

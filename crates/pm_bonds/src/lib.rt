@@ -14,8 +14,9 @@ ghost use Rattle.pm_model.specs.Lawful.{IsLawful};
 ghost use Rattle.pm_model.specs.PlanRows.{domain_parent, is_always_on, parent};
 ghost use Rattle.pm_model.specs.Views.{is_held, is_on};
 ghost use Rattle.pm_model.specs.World.{place, world};
+ghost use Rattle.pm_pends.specs.Supplied.{Supplied};
 ghost use Rattle.pm_bonds.specs.Bonds.{DomainStays, ParentStays, is_marked, is_taken};
-ghost use Rattle.pm_bonds.specs.Needs.{Needs, needs_links};
+ghost use Rattle.pm_kinds.specs.Needs.{Needs, needs_links};
 
 /// A held link has `pm_runtime` and is present (`device_link.rst`).
 pub fn held_is_runtime()
@@ -39,4 +40,18 @@ pub fn domains_nest()
 /// it was forced to Active and hasn't been Suspended since.
 pub fn domain_stays()
     ensures { (plan : Plan) (h : History) (d : DevId) → IsLawful plan h → DomainStays plan h d }
+{}
+
+/// A device that is Active, or whose owner is at S2, R2, R3, R4, R4b or R4c, has its parent Active, unless it is excused
+/// (`runtime_pm.rst`, section 2). At these R stages the mark held is set where there is a parent.
+pub fn parent_stays()
+    ensures stays { (plan : Plan) (h : History) (d p : DevId) → IsLawful plan h → parent plan d ≡ Some p → ParentStays plan h d p }
+    ensures marked { (plan : Plan) (h : History) (a : ActorId) → IsLawful plan h → list_all (is_marked plan) (place (world plan h) a) ≡ true }
+{}
+
+/// While a device holds a link, and is Active or its owner is at S2, R2, R3 unless a supplier failed, R4, R4b, R4c or
+/// A2, the supplier is Active, or the device is excused, or the resume of the supplier for this link is open and not
+/// done (`device_link.rst`).
+pub fn supplier_stays()
+    ensures { (plan : Plan) (h : History) (l : ℕ) (row : LinkRow) → IsLawful plan h → slice_get plan.links l ≡ Some row → Supplied plan h l row.consumer row.supplier }
 {}

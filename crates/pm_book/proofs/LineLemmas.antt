@@ -1,6 +1,6 @@
 -- What a line that is written makes of the world.
-use Rattle.std.proofs.Common.{◌≡◌, ◌+◌, ℕ, Bool, true, false, List, Option, Some, None, drop, length, option_map, slice_index_or, nat_lt, if◌then◌else◌, ap, arith, refl, sym, subst}
-use Rattle.std.specs.Option.{option_and_then, option_map_or}
+use Rattle.std.proofs.Common.{◌≡◌, ◌+◌, ℕ, Bool, true, false, List, Option, Some, None, drop, length, option_map, slice_index_or, nat_lt, if◌then◌else◌, arith, refl, sym, subst}
+use Rattle.std.specs.Option.{option_and_then}
 use Rattle.std.proofs.lemmas.Grind.{common_steps}
 use Rattle.std.proofs.lemmas.List.{length-set}
 use Rattle.pm_base.specs.declared.ActorId.{ActorId}
@@ -13,10 +13,8 @@ use Rattle.pm_model.specs.declared.stage.Move.TheVariants.{Write, Late, Wait}
 use Rattle.pm_model.specs.declared.stage.Change.{Change}
 use Rattle.pm_model.specs.declared.stage.Stage.{Stage}
 use Rattle.pm_model.specs.declared.stage.Then.{Then}
-use Rattle.pm_model.specs.Events.{by_event}
 use Rattle.pm_model.specs.Handing.{after_then}
 use Rattle.pm_model.specs.Row.{Row, writes, waits, timed}
-use Rattle.pm_model.specs.Views.{Views}
 use Rattle.pm_model.specs.World.{World, after_line, counts_call, due, move, place, row, row_at, stage_at, with_place}
 use Rattle.pm_state.specs.Standing.{IsOf, Standing, after_write}
 

@@ -3,5 +3,6 @@ pub mod RowKinds
 pub mod SuspendKinds
 pub mod ResumeKinds
 pub mod OtherKinds
+pub mod Owners
 pub mod Frames
 pub mod Lines

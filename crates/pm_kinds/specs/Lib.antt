@@ -1,3 +1,4 @@
 pub mod Parts
+pub mod Needs
 pub mod Kinds
 pub mod LineKind

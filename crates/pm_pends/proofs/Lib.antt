@@ -1,9 +1,7 @@
 pub mod Pending
 pub mod Askings
 pub mod Falling
-pub mod Lessening
 pub mod ResumePends
 pub mod Needing
 pub mod Takings
-pub mod Leavings
 pub mod Supplying

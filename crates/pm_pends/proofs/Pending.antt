@@ -24,6 +24,8 @@ use Rattle.pm_model.specs.World.{top}
 use Rattle.pm_model.proofs.Arrivals.{on_handed, after_await}
 use Rattle.pm_sums.specs.Sums.{one}
 use Rattle.pm_stacks.proofs.Tests.{same_self}
+use Rattle.pm_kinds.specs.Needs.{gives_way}
+use Rattle.pm_kinds.specs.Parts.{preparing, refused}
 use Rattle.pm_pends.specs.Pends.{asks, awaits, is_up, is_for, pends, is_bad_answer, falls_back, consumer}
 
 -- below what was called for link q stands what awaits it, and so on down
@@ -120,7 +122,7 @@ abbrev EndsHere : ℕ → DevId → Await → ℤ → Handed → Type 0
 EndsHere l d a c h = EndsBy (one (is_bad (awaits_supplier l (stage.Await a)) c)) (one (is_denial (awaits_supplier l (stage.Await a)) c)) d h
 
 bad_code : (zero one_ denied of_link of_device : Bool) → (of_link ≡ true → of_device ≡ true)
-    → one (not (zero || one_) && of_link) ≤ one (of_link && denied) + one (of_device && not (zero || one_ || denied))
+    → one (not (zero || one_) && of_link) ≤ one (of_link && denied) + one (of_device && gives_way (if zero || one_ || denied then preparing else refused))
 bad_code true b c m s e = omega arith
 bad_code false true c m s e = omega arith
 bad_code false false c false s e = omega arith

@@ -20,6 +20,8 @@ use Rattle.pm_model.specs.ResumeTable.{is_supplied}
 use Rattle.pm_model.specs.World.{top}
 use Rattle.pm_sums.specs.Sums.{one}
 use Rattle.pm_stacks.specs.Shape.{Call, raises, call_of}
+use Rattle.pm_kinds.specs.Needs.{gives_way}
+use Rattle.pm_kinds.specs.Parts.{at_part}
 
 abbrev pub link_of : Purpose → Option ℕ
 link_of (purpose.Link l) = Some l
@@ -61,26 +63,7 @@ pends l s = one (not (is_done s) && is_for l (asks s))
 
 -- 1 at a stage that gives back what d took, so that d needs no supplier any longer
 abbrev pub falls_back : DevId → Stage → ℕ
-falls_back d (stage.Resume (resume.Supplied r c)) = one (is_same d r.dev && not (is_supplied c))
-falls_back d (stage.Resume (resume.Unwind r c)) = one (is_same d r.dev)
-falls_back d (stage.Control (control.ActiveUnwind e c)) = one (is_same d e)
-falls_back d (stage.Await (await.ResumeUnwind r c)) = one (is_same d r.dev)
-falls_back d (stage.Await (await.ActiveUnwind e c)) = one (is_same d e)
-falls_back d _ = 0
-
--- 1 at a stage for which the suppliers of d have to be up; one that awaits a supplier's resume counts as the stage at which
--- it goes on
-abbrev pub needs_supplier : DevId → Stage → ℕ
-needs_supplier d (stage.Suspend (suspend.Running e f since)) = one (is_same d e)
-needs_supplier d (stage.Resume (resume.Links r)) = one (is_same d r.dev)
-needs_supplier d (stage.Resume (resume.Supplied r c)) = one (is_same d r.dev && is_supplied c)
-needs_supplier d (stage.Resume (resume.Callback r)) = one (is_same d r.dev)
-needs_supplier d (stage.Resume (resume.Running r since)) = one (is_same d r.dev)
-needs_supplier d (stage.Resume (resume.Resumed r)) = one (is_same d r.dev)
-needs_supplier d (stage.Control (control.ActiveLinks e)) = one (is_same d e)
-needs_supplier d (stage.Await (await.ResumeSupplier r link)) = one (is_same d r.dev)
-needs_supplier d (stage.Await (await.ActiveSupplier e link)) = one (is_same d e)
-needs_supplier d _ = 0
+falls_back d s = at_part gives_way d s
 
 -- the code that is handed down this stack comes to the resume of link l's supplier, and doesn't say that it is up
 abbrev pub is_bad_answer : ℕ → List Stage → ℤ → Bool

@@ -9,22 +9,19 @@ use Rattle.pm_model.specs.Views.{is_held}
 use Rattle.pm_model.specs.World.{World, world}
 use Rattle.pm_sums.specs.Sums.{tally}
 use Rattle.pm_laws.specs.Owners.{places}
-use Rattle.pm_pends.specs.Pends.{needs_supplier, pends}
-
--- d is Active, or stands at a stage that needs its suppliers
-abbrev pub Needs : World → DevId → Type 0
-Needs w d = (is_active w.views d ≡ true) ⊎ (0 < tally (needs_supplier d) (places w))
+use Rattle.pm_kinds.specs.Needs.{needs_supplier, Needs}
+use Rattle.pm_pends.specs.Pends.{pends}
 
 -- where link l is held and its consumer d needs it, its supplier s is Active, or excused, or its resume is open and not
 -- done
 abbrev pub Supplied : Plan → List Line → ℕ → DevId → DevId → Type 0
 Supplied plan h l d s =
-    is_held (world plan h).views l ≡ true → Needs (world plan h) d
+    is_held (world plan h).views l ≡ true → Needs (world plan h) needs_supplier d
     → (is_active (world plan h).views s ≡ true) ⊎ ((is_excused_from_supplier plan h d l s ≡ true) ⊎ (0 < tally (pends l) (places (world plan h))))
 
 -- what the bonds between devices say of a line: what is needed after it was needed before it, where the link was held; and
 -- a supplier stays Active, or is forced
 pub record Bonds (plan : Plan) (h : List Line) (line : Line) (l : ℕ) (d s : DevId) : Type 0 where
-  pub needed : is_held (world plan h).views l ≡ true → Needs (world plan (line ∷ h)) d → Needs (world plan h) d
+  pub needed : is_held (world plan h).views l ≡ true → Needs (world plan (line ∷ h)) needs_supplier d → Needs (world plan h) needs_supplier d
   pub stays : is_held (world plan h).views l ≡ true → is_active (world plan h).views s ≡ true
       → (is_active (world plan (line ∷ h)).views s ≡ true) ⊎ (forces s line.event ≡ true)

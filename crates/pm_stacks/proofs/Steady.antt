@@ -89,15 +89,15 @@ IsNoBegin _ = Unit {0}
 pub event_steady : (plan : Plan) (t : ℕ) (e : Event) (v : Views) (d : DevId) → IsNoBegin e
     → steady_of (device (by_event plan t e v) d) ≡ steady_of (device v d)
 unfolding by_event
-event_steady plan t (event.Get x w) v d none = got_steady plan x d w _ ∙ entry_kept steady_of v x d _ refl
-event_steady plan t (event.Put x w) v d none = gave_steady plan x d w _ ∙ entry_kept steady_of v x d _ refl
-event_steady plan t (event.State x w) v d none = word_steady plan t x d w v
-event_steady plan t (event.Begin x k) v d none = elim none [ ]
-event_steady plan t (event.End x k c) v d none = end_steady x d k c v
-event_steady plan t (event.Domain x is_up n) v d none = domain_kept steady_of plan x d is_up v
-event_steady plan t (event.Work x act) v d none = work_kept steady_of x d act v
-event_steady plan t (event.Timer x act) v d none = timer_kept steady_of x d act v
-event_steady plan t _ v d none = refl
+event_steady plan t (event.Get x w) v d other = got_steady plan x d w _ ∙ entry_kept steady_of v x d _ refl
+event_steady plan t (event.Put x w) v d other = gave_steady plan x d w _ ∙ entry_kept steady_of v x d _ refl
+event_steady plan t (event.State x w) v d other = word_steady plan t x d w v
+event_steady plan t (event.Begin x k) v d other = elim other [ ]
+event_steady plan t (event.End x k c) v d other = end_steady x d k c v
+event_steady plan t (event.Domain x is_up n) v d other = domain_kept steady_of plan x d is_up v
+event_steady plan t (event.Work x act) v d other = work_kept steady_of x d act v
+event_steady plan t (event.Timer x act) v d other = timer_kept steady_of x d act v
+event_steady plan t _ v d other = refl
 
 -- a setting is one that a command may name
 abbrev pub IsDelayed : Change → Type 0
@@ -129,18 +129,18 @@ enabled_steady e d v =
 pub change_steady : (plan : Plan) (t : ℕ) (c : Change) (v : Views) (d : DevId) → IsNoSetting c
     → steady_of (device (change_views plan t c v) d) ≡ steady_of (device v d)
 unfolding rcancel set_present
-change_steady plan t (change.Set e use_auto delay) v d none = elim none [ ]
-change_steady plan t (change.ResumeCancel e) v d none = either_steady (has_auto_timer v e) _ _ v d refl refl
-change_steady plan t (change.CallbackMarks e) v d none = marks_steady plan t e d v
-change_steady plan t (change.SuspendEnded e c) v d none = ended_steady plan t c e d v
-change_steady plan t (change.MarkBusy e) v d none = entry_kept steady_of v e d _ refl
-change_steady plan t (change.Enable e) v d none = enabled_steady e d v
-change_steady plan t (change.Disable e) v d none = depth_steady _ e d v
-change_steady plan t (change.DisableBusy e) v d none = depth_steady _ e d v
-change_steady plan t (change.DisableAtOnce e) v d none = entry_kept steady_of (disables e v) e d _ refl ∙ depth_steady _ e d v
-change_steady plan t (change.KeepStatus e) v d none = entry_kept steady_of v e d _ refl
-change_steady plan t (change.Ignore e ignores) v d none = entry_kept steady_of v e d _ refl
-change_steady plan t _ v d none = refl
+change_steady plan t (change.Set e use_auto delay) v d other = elim other [ ]
+change_steady plan t (change.ResumeCancel e) v d other = either_steady (has_auto_timer v e) _ _ v d refl refl
+change_steady plan t (change.CallbackMarks e) v d other = marks_steady plan t e d v
+change_steady plan t (change.SuspendEnded e c) v d other = ended_steady plan t c e d v
+change_steady plan t (change.MarkBusy e) v d other = entry_kept steady_of v e d _ refl
+change_steady plan t (change.Enable e) v d other = enabled_steady e d v
+change_steady plan t (change.Disable e) v d other = depth_steady _ e d v
+change_steady plan t (change.DisableBusy e) v d other = depth_steady _ e d v
+change_steady plan t (change.DisableAtOnce e) v d other = entry_kept steady_of (disables e v) e d _ refl ∙ depth_steady _ e d v
+change_steady plan t (change.KeepStatus e) v d other = entry_kept steady_of v e d _ refl
+change_steady plan t (change.Ignore e ignores) v d other = entry_kept steady_of v e d _ refl
+change_steady plan t _ v d other = refl
 
 -- how often a callback has begun
 abbrev pub begun_in : Cb → Steady → ℕ

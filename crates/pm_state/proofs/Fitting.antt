@@ -32,12 +32,9 @@ pub can_say_any : (plan : Plan) (v : Views) (d : DevId) (w : Word) → CanFreeAn
 can_say_any plan v d word.ForcedSuspended frees = frees d
 can_say_any plan v d _ frees = refl
 
--- what each of the three tests of a line tells
+-- what the tests of a line tell
 pub line_taken : (plan : Plan) (w : World) (actor : ActorId) (c : Change) (e : Event) → fits plan w actor c e ≡ true → can_take plan w.views c e ≡ true
 line_taken plan w actor c e h = first_of_two (can_take plan w.views c e) (fits_call w actor e) (first_of_two _ (is_event_of (length plan.devices) e) h)
-
-pub call_counted : (plan : Plan) (w : World) (actor : ActorId) (c : Change) (e : Event) → fits plan w actor c e ≡ true → fits_call w actor e ≡ true
-call_counted plan w actor c e h = second_of_two (can_take plan w.views c e) (fits_call w actor e) (first_of_two _ (is_event_of (length plan.devices) e) h)
 
 pub event_of_plan : (plan : Plan) (w : World) (actor : ActorId) (c : Change) (e : Event) → fits plan w actor c e ≡ true → is_event_of (length plan.devices) e ≡ true
 event_of_plan plan w actor c e h = second_of_two (can_take plan w.views c e && fits_call w actor e) (is_event_of (length plan.devices) e) h

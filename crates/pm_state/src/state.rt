@@ -2,7 +2,7 @@
 
 ghost use Rattle.std.specs.Prelude.{◌≡◌, ◌<◌, [], map, length, slice_get, IfOk};
 ghost use Rattle.std.specs.Option.{option_and_then};
-ghost use Rattle.pm_model.specs.World.{next_command, place, ready, stage_at, start};
+ghost use Rattle.pm_model.specs.World.{place, ready, stage_at, start};
 ghost use Rattle.pm_state.specs.Standing.{IsActor, IsOf, counters};
 
 use pm_base::{ActorId, DevId, NoMemory};

@@ -2,10 +2,9 @@ use Rattle.std.proofs.Common.{◌≡◌, ◌∙◌, true, ap, drop, subst, sym}
 use Rattle.pm_model.specs.CanTake.{can_take}
 use Rattle.pm_model.specs.Handing.{after_then}
 use Rattle.pm_model.specs.Views.{Views}
-use Rattle.pm_model.specs.World.{World, place}
+use Rattle.pm_model.specs.World.{place}
 use Rattle.pm_state.specs.Standing.{Standing}
-use Rattle.pm_state.specs.Tests.{fits_call}
-use Rattle.pm_state.proofs.Fitting.{call_counted, line_taken, with_place_views}
+use Rattle.pm_state.proofs.Fitting.{line_taken, with_place_views}
 use Rattle.pm_state.proofs.state.State.go_level.Goals as goal
 
 pub apply-requires-clause-fits : goal.apply-requires-clause-fits

@@ -6,7 +6,7 @@ use Rattle.pm_model.specs.Derived.{is_active}
 use Rattle.pm_model.specs.World.{World}
 use Rattle.pm_sums.specs.Sums.{tally}
 use Rattle.pm_laws.specs.Owners.{places}
-use Rattle.pm_kinds.specs.Parts.{Phase, suspending, lowering, preparing, refused, ready, resuming, resumed, failed, setting, at_part}
+use Rattle.pm_kinds.specs.Parts.{Phase, suspending, lowering, preparing, refused, ready, resuming, resumed, failed, falling, setting, unsetting, at_part}
 
 -- S2, R4, R4b, R4c
 abbrev pub needs_links : Phase → Bool
@@ -45,6 +45,13 @@ needs_supplier resuming = true
 needs_supplier resumed = true
 needs_supplier setting = true
 needs_supplier _ = false
+
+-- R3 where a supplier failed, R9, A4: what was taken for d is given back
+abbrev pub gives_way : Phase → Bool
+gives_way refused = true
+gives_way falling = true
+gives_way unsetting = true
+gives_way _ = false
 
 -- d is Active, or its owner stands at a stage of such a phase
 abbrev pub Needs : World → (Phase → Bool) → DevId → Type 0

@@ -1,0 +1,7 @@
+pub mod Tells
+pub mod Passing
+pub mod Owing
+pub mod ResumeOwes
+pub mod OtherOwes
+pub mod Staying
+pub mod Keeping
