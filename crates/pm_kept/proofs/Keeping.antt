@@ -68,7 +68,7 @@ held_bound : (plan : Plan) (d : DevId) (line : Line) (h : History) → binds pla
     → (lets_go plan d h line ≡ false) × ((got_well d line.event && holds_count plan d line.actor h ≡ true) ⊎ (binds plan d h ≡ true))
 held_bound plan d line h e = (not_true _ (front _ _ e), either_of _ _ (rear _ _ e))
 
-same_actor : (a b : ActorId) → is_actor a b ≡ true → a ≡ b
+pub same_actor : (a b : ActorId) → is_actor a b ≡ true → a ≡ b
 same_actor (Caller a) (Caller b) e = ap Caller (eqb-true a b e)
 same_actor (Work a) (Work b) e = ap Work (eqb-true a b e)
 same_actor (Timer a) (Timer b) e = ap Timer (eqb-true a b e)

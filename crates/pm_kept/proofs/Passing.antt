@@ -89,7 +89,7 @@ then_below plan d k next rest n e = go next.back next.push e
     go (Some c) push e = code_below plan d k rest c n e
 
 -- nothing awaits a helper's own work
-own_awaited : (plan : Plan) (o : Option DevId) (a : Await) → May plan a (own o) → ⊥
+pub own_awaited : (plan : Plan) (o : Option DevId) (a : Await) → May plan a (own o) → ⊥
 own_awaited plan o (await.SuspendLinks d f) (l, s, is, e) = cc
 own_awaited plan o (await.SuspendDeferred d f) e = cc
 own_awaited plan o (await.SuspendParent d f) (is, e) = cc
