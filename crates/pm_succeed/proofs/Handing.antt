@@ -1,5 +1,5 @@
 -- What a code makes of the stages that take it, while nothing disturbs.
-use Rattle.std.proofs.Common.{◌≡◌, ◌⊎◌, inl, inr, Bool, true, false, not, ◌&&◌, ℕ, ℤ, pos, nat_eq, refl}
+use Rattle.std.proofs.Common.{◌≡◌, inl, inr, Bool, true, false, ◌&&◌, ℕ, ℤ, pos, refl}
 use Rattle.std.specs.Ordering.{int_eq}
 use Rattle.pm_base.specs.declared.DevId.{DevId}
 use Rattle.pm_base.specs.declared.codes.TheConstants.{EACCES}
@@ -11,13 +11,11 @@ use Rattle.pm_model.specs.declared.stage.Await.TheVariants as await
 use Rattle.pm_model.specs.declared.stage.HelperStage.TheVariants as at
 use Rattle.pm_model.specs.declared.stage.Purpose.{Purpose}
 use Rattle.pm_model.specs.declared.stage.Purpose.TheVariants as purpose
-use Rattle.pm_model.specs.declared.stage.Stage.{Stage}
 use Rattle.pm_model.specs.declared.stage.Stage.TheVariants as stage
 use Rattle.pm_model.specs.Handing.{take_code}
-use Rattle.pm_model.specs.PlanRows.{has_parent, parent_of}
-use Rattle.pm_model.specs.Promises.{implies}
+use Rattle.pm_model.specs.PlanRows.{has_parent}
 use Rattle.pm_model.specs.ResumeTable.{is_supplied}
-use Rattle.pm_stacks.specs.Shape.{Call, raises, raising, returns_resume, May, Fits}
+use Rattle.pm_stacks.specs.Shape.{Call, raises, returns_resume, May, Fits}
 use Rattle.pm_pends.specs.Pends.{is_up}
 use Rattle.pm_succeed.specs.Undisturbed.{flags_fit, code_fits, is_bad, ends_badly, needs_up, brings_up, needs_enabled, no_end}
 use Rattle.pm_succeed.proofs.Bools.{bad_either, bad_left, bad_right, implies_up, up_supplied}

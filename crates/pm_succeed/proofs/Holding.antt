@@ -1,7 +1,6 @@
 -- What needs a device Active holds a count on it, or stands above what does.
-use Rattle.std.proofs.Common.{ℕ, ◌≡◌, ◌+◌, ◌<◌, ◌≤◌, ◌⊎◌, inl, inr, Bool, true, false, ◌&&◌, List, [], ◌∷◌, length, nat_eq, slice_index_or, ap, refl, sym, ◌∙◌, subst, arith}
+use Rattle.std.proofs.Common.{ℕ, ◌≡◌, ◌+◌, ◌<◌, ◌≤◌, inl, inr, Bool, true, false, ◌&&◌, List, [], ◌∷◌, length, slice_index_or, ap, refl, ◌∙◌, subst, arith}
 use Rattle.std.specs.List.{sum_by}
-use Rattle.std.specs.Prelude.{◌||◌}
 use Rattle.std.proofs.lemmas.Bool.{cases_lt}
 use Rattle.std.proofs.lemmas.List.{get_or_past}
 use Rattle.std.proofs.lemmas.List.Sums.{sum_by-cons}
@@ -26,10 +25,9 @@ use Rattle.pm_laws.specs.Counts.{has_mark, holds}
 use Rattle.pm_laws.specs.Owners.{places}
 use Rattle.pm_laws.proofs.Links.{neither}
 use Rattle.pm_laws.proofs.Places.{IsPlaced, tally_placed}
-use Rattle.pm_stacks.specs.Shape.{Call, raises, lowers, call_of, raising, May, Fits, IsNested, Nested}
-use Rattle.pm_stacks.proofs.Tests.{front, rear, same_device, same_self}
+use Rattle.pm_stacks.specs.Shape.{Call, raises, call_of, raising, May, Fits, IsNested, Nested}
+use Rattle.pm_stacks.proofs.Tests.{front, rear}
 use Rattle.pm_stacks.proofs.Zeros.{raised, lowered, helper_calls, zero_raised, zero_lowered, parents, suppliers, zero_calls}
-use Rattle.pm_bonds.proofs.Steps.{differ}
 use Rattle.pm_succeed.specs.Undisturbed.{is_child, call_flags_fit, is_bad, needs_up}
 use Rattle.pm_succeed.proofs.Bools.{either_of, good_is}
 use Rattle.pm_succeed.proofs.Passing.{some_of}

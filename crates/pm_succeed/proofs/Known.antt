@@ -1,6 +1,6 @@
 -- What is known of a line that doesn't disturb.
-use Rattle.std.proofs.Common.{ℕ, ◌≡◌, ◌+◌, ◌<◌, ◌≤◌, ◌⊎◌, inl, inr, Bool, true, false, not, ◌&&◌, List, [], ◌∷◌, None, ℤ, pos, length, nat_eq, nat_lt, if◌then◌else◌, ap, refl, sym, ◌∙◌, subst, arith}
-use Rattle.std.specs.List.{list_all, sum_by}
+use Rattle.std.proofs.Common.{ℕ, ◌≡◌, ◌<◌, ◌≤◌, ◌⊎◌, inl, inr, Bool, true, false, not, [], ◌∷◌, None, pos, length, nat_lt, if◌then◌else◌, ap, refl, sym, ◌∙◌, subst, arith}
+use Rattle.std.specs.List.{list_all}
 use Rattle.std.specs.Option.{unwrap_or}
 use Rattle.std.specs.Ordering.{int_eq}
 use Rattle.std.proofs.lemmas.Bool.{cases_lt, ltb-true, ltb-false}
@@ -25,14 +25,13 @@ use Rattle.pm_model.specs.Views.{Views, device, fresh_device}
 use Rattle.pm_model.specs.World.{World, place, world}
 use Rattle.pm_sums.specs.Sums.{tally}
 use Rattle.pm_laws.specs.Counts.{holds}
-use Rattle.pm_laws.specs.Owners.{places}
 use Rattle.pm_laws.proofs.Rows.{said}
 use Rattle.pm_laws.proofs.Runs.{Holds, lawful_holds}
 use Rattle.pm_laws.proofs.Said.{error_said, says_or}
 use Rattle.pm_stacks.proofs.Stacks.{stacks_nest}
 use Rattle.pm_stacks.proofs.Telling.{IsTelling}
 use Rattle.pm_stacks.proofs.Tests.{front, rear, not_true, same_device}
-use Rattle.pm_kinds.specs.Kinds.{MayRest, says}
+use Rattle.pm_kinds.specs.Kinds.{says}
 use Rattle.pm_kinds.specs.LineKind.{HasKind}
 use Rattle.pm_kinds.specs.Parts.{at_part, any_phase}
 use Rattle.pm_kinds.proofs.Lines.{line_kind}

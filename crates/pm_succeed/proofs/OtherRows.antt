@@ -179,9 +179,6 @@ enabling_calm : (plan : Plan) (x : DevId) (enabled : Bool) (v : Views) (d : DevI
 unfolding enabling
 enabling_calm plan x enabled v d c = search (both, quiet) depth 12
 
-
-
-
 barrier_idles_calm : (plan : Plan) (x : DevId) (enabled : Bool) (v : Views) (d : DevId) (c : ℤ) (s : Stage) → Calms plan x enabled v s (barrier_idles v d c)
 unfolding barrier_idles
 barrier_idles_calm plan x enabled v d c s = search (both, quiet) depth 12

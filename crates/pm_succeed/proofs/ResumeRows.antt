@@ -1,12 +1,12 @@
 -- The rows of resume, while nothing disturbs.
-use Rattle.std.proofs.Common.{ℕ, ◌≡◌, ◌⊎◌, inl, inr, Bool, true, false, not, ◌&&◌, List, [], ◌∷◌, Option, Some, None, ℤ, pos, nat_eq, if◌then◌else◌, refl, sym, ◌∙◌, subst}
+use Rattle.std.proofs.Common.{ℕ, ◌≡◌, ◌⊎◌, inl, inr, Bool, true, false, not, ◌&&◌, [], ◌∷◌, Option, Some, None, ℤ, pos, nat_eq, if◌then◌else◌, refl, sym, ◌∙◌, subst}
 use Rattle.std.specs.Option.{unwrap_or}
 use Rattle.std.specs.Ordering.{int_eq}
 use Rattle.std.proofs.lemmas.Bool.{eqb-true}
 use Rattle.pm_base.specs.declared.Cb.TheVariants as cb
 use Rattle.pm_base.specs.declared.DevId.{DevId}
 use Rattle.pm_base.specs.declared.Status.TheVariants as status
-use Rattle.pm_base.specs.declared.codes.TheConstants.{ASYNC, NOWAIT, EACCES, EBUSY, EINPROGRESS}
+use Rattle.pm_base.specs.declared.codes.TheConstants.{ASYNC, NOWAIT, EACCES, EINPROGRESS}
 use Rattle.pm_model.specs.declared.event.Event.{Event}
 use Rattle.pm_model.specs.declared.event.Event.TheVariants as event
 use Rattle.pm_model.specs.declared.event.Word.TheVariants as word
@@ -25,16 +25,16 @@ use Rattle.pm_model.specs.Derived.{has, has_error, is_disabled, is_active, is_ac
 use Rattle.pm_model.specs.PlanRows.{no_callbacks, has_domain, has_parent, parent_of}
 use Rattle.pm_model.specs.Promises.{implies}
 use Rattle.pm_model.specs.ResumeTable.{resume_goes, leaves, resume_returns, resume_verdict, resume_takes, resume_links, is_supplied, resume_ends, resume_row}
-use Rattle.pm_model.specs.Row.{Row, writes, back, resumes}
+use Rattle.pm_model.specs.Row.{writes, back, resumes}
 use Rattle.pm_model.specs.SuspendTable.{may_not_wait}
 use Rattle.pm_model.specs.Views.{Views, device}
-use Rattle.pm_stacks.specs.Shape.{raising, call_of, resume_call}
+use Rattle.pm_stacks.specs.Shape.{raising, call_of}
 use Rattle.pm_stacks.proofs.Obeying.{Obeys, waiting, either}
 use Rattle.pm_stacks.proofs.Tests.{front, rear, same_device, same_self}
 use Rattle.pm_bonds.proofs.Steps.{differ}
 use Rattle.pm_pends.specs.Pends.{is_up}
 use Rattle.pm_succeed.specs.Undisturbed.{is_child, flags_fit, code_fits, call_flags_fit, fits, is_bad, ends_badly, needs_up, brings_up, needs_enabled, no_end}
-use Rattle.pm_succeed.proofs.Bools.{either_of, fit_both, unless, good_is}
+use Rattle.pm_succeed.proofs.Bools.{either_of, fit_both, unless}
 use Rattle.pm_succeed.proofs.Calmly.{Calmly, calm, quiet, loud, is_disabling, is_told}
 use Rattle.pm_succeed.proofs.Handing.{up_fits}
 use Rattle.pm_succeed.proofs.Passing.{tells}

@@ -1,10 +1,7 @@
 -- While nothing disturbs, a get_sync of a device that was enabled at its call returns 0 or 1.
-use Rattle.std.proofs.Common.{◌≡◌, ◌<◌, ◌⊎◌, inl, inr, Bool, true, false, not, ◌&&◌, List, [], ◌∷◌, Some, None, ℕ, drop, length, ap, refl, sym, ◌∙◌, subst, arith}
-use Rattle.std.specs.Prelude.{◌||◌}
+use Rattle.std.proofs.Common.{◌≡◌, ◌<◌, ◌⊎◌, inl, inr, Bool, true, false, not, ◌&&◌, List, [], ◌∷◌, Some, None, drop, length, ap, refl, sym, ◌∙◌, subst, arith}
 use Rattle.pm_base.specs.declared.ActorId.{ActorId}
 use Rattle.pm_base.specs.declared.DevId.{DevId}
-use Rattle.pm_base.specs.declared.Status.{Status}
-use Rattle.pm_model.specs.declared.event.Command.{Command}
 use Rattle.pm_model.specs.declared.event.Event.{Event}
 use Rattle.pm_model.specs.declared.event.Event.TheVariants as event
 use Rattle.pm_model.specs.declared.event.Helper.TheVariants as helper
@@ -20,19 +17,19 @@ use Rattle.pm_model.specs.Events.{by_event}
 use Rattle.pm_model.specs.Handing.{after_then}
 use Rattle.pm_model.specs.History.{History, at_each_line}
 use Rattle.pm_model.specs.Lawful.{IsLawful, last_time}
-use Rattle.pm_model.specs.Promises.{implies, is_actor, calls_get_sync, was_enabled, disturbs, returns_well, gets_succeed}
-use Rattle.pm_model.specs.Views.{Views, device}
+use Rattle.pm_model.specs.Promises.{implies, is_actor, calls_get_sync, was_enabled, returns_well, gets_succeed}
+use Rattle.pm_model.specs.Views.{Views}
 use Rattle.pm_model.specs.World.{World, place, after_line, counts_call, start, world}
 use Rattle.pm_laws.proofs.Links.{neither}
 use Rattle.pm_laws.proofs.Places.{IsPlaced, is_placed}
 use Rattle.pm_laws.proofs.Runs.{Holds, Paid, permitted, lawful_holds}
 use Rattle.pm_laws.proofs.Said.{views_next}
-use Rattle.pm_stacks.specs.Shape.{own, call_of, May, IsNested, Nested}
+use Rattle.pm_stacks.specs.Shape.{call_of, IsNested, Nested}
 use Rattle.pm_stacks.proofs.Nesting.{stands_nested}
 use Rattle.pm_stacks.proofs.Stacks.{empty_place, paid_row, stack_placed, stacked, stacks_nest, told}
 use Rattle.pm_stacks.proofs.Standing.{IsStart, Stands, stands}
 use Rattle.pm_stacks.proofs.Telling.{IsTelling}
-use Rattle.pm_stacks.proofs.Tests.{front, rear, not_true, same_self}
+use Rattle.pm_stacks.proofs.Tests.{not_true, same_self}
 use Rattle.pm_pends.specs.Pends.{is_up}
 use Rattle.pm_bonds.proofs.Steps.{differ}
 use Rattle.pm_kept.proofs.Keeping.{same_actor}
@@ -45,7 +42,7 @@ use Rattle.pm_succeed.proofs.Depths.{stays_enabled}
 use Rattle.pm_succeed.proofs.Handing.{bad_passes, up_passes, enabled_passes}
 use Rattle.pm_succeed.proofs.Known.{is_calm, calm_parts, errors, active_within, enabled_within, spoken_within, stays_up, needed_used}
 use Rattle.pm_succeed.proofs.OtherRows.{row_calm}
-use Rattle.pm_succeed.proofs.Passing.{some_of, tells, then_below}
+use Rattle.pm_succeed.proofs.Passing.{some_of, then_below}
 
 -- what holds after every lawful list that nothing disturbs
 pub record Calmed (plan : Plan) (h : History) : Type 0 where
@@ -106,27 +103,23 @@ off_and : (a b : Bool) → a ≡ false → a && b ≡ false
 off_and true b e = cc
 off_and false b e = refl
 
-said_last : (a : Bool) (y z : Bool) → Bool
+abbrev said_last : Bool → Bool → Bool → Bool
 said_last a y z = elim (only_if a y) as (λ _. Bool) [ Some q ↦ q | None ↦ z ]
 
 said_off : (a y z : Bool) → a ≡ false → said_last a y z ≡ z
-unfolding said_last
 said_off true y z e = cc
 said_off false y z e = refl
 
 said_true : (a y z : Bool) → said_last a y z ≡ true → (y ≡ true) ⊎ (z ≡ true)
-unfolding said_last
 said_true true y z e = inl e
 said_true false y z e = inr e
 
 same_enabling : (plan : Plan) (x : DevId) (a : ActorId) (line : Line) (h : History) → is_actor a line.actor && calls_get_sync x line.event ≡ false
     → was_enabled plan x a (line ∷ h) ≡ was_enabled plan x a h
-unfolding said_last
 same_enabling plan x a line h none = said_off (is_actor a line.actor && calls_get_sync x line.event) (not (is_disabled (world plan h).views x)) (was_enabled plan x a h) none
 
 either_enabling : (plan : Plan) (x : DevId) (a : ActorId) (line : Line) (h : History) → was_enabled plan x a (line ∷ h) ≡ true
     → (not (is_disabled (world plan h).views x) ≡ true) ⊎ (was_enabled plan x a h ≡ true)
-unfolding said_last
 either_enabling plan x a line h e = said_true (is_actor a line.actor && calls_get_sync x line.event) (not (is_disabled (world plan h).views x)) (was_enabled plan x a h) e
 
 -- what an actor's stack has after a line
