@@ -30,17 +30,17 @@ use Rattle.pm_stacks.proofs.Tests.{front, rear, same_device}
 use Rattle.pm_pends.specs.Pends.{is_up}
 use Rattle.pm_bonds.proofs.Steps.{differ}
 use Rattle.pm_kept.specs.Answered.{is_sync_resume, answers}
+use Rattle.pm_kept.proofs.Handing.{tells_answer}
 use Rattle.pm_kept.proofs.Owing.{Owing, owes, silent, carries, alike}
-use Rattle.pm_kept.proofs.Tells.{tells}
 
 abbrev Owes : Views → Stage → Row → Type 0
 Owes v s row = Obeys (Owing v s) row
 
-leaves_tells : (plan : Plan) (r : ResumeCall) (c : ℤ) (d : DevId) (s : Stage) → call_of s ≡ raising r → tells d s (leaves plan r c) ≡ (is_sync_resume d (raising r) && is_up c)
+leaves_tells : (plan : Plan) (r : ResumeCall) (c : ℤ) (d : DevId) (s : Stage) → call_of s ≡ raising r → tells_answer d s (leaves plan r c) ≡ (is_sync_resume d (raising r) && is_up c)
 unfolding leaves
 leaves_tells plan r c d s is = go (r.held && has_parent plan r.dev)
   where
-    go : (b : Bool) → tells d s (if b then resume_goes (resume.Parent r c) else back c) ≡ (is_sync_resume d (raising r) && is_up c)
+    go : (b : Bool) → tells_answer d s (if b then resume_goes (resume.Parent r c) else back c) ≡ (is_sync_resume d (raising r) && is_up c)
     go true = refl
     go false = rw is refl
 

@@ -27,7 +27,11 @@ answers d (stage.Await (await.ResumePut r c)) = is_sync_resume d (raising r) && 
 answers d (stage.Helper (at.Ret h e c)) = got_well d (event.Ret h e c)
 answers d _ = false
 
--- some stage of a stack answers so
+-- some stage of a stack passes a test
+abbrev pub some_of : (Stage → Bool) → List Stage → Bool
+some_of test [] = false
+some_of test (s ∷ rest) = test s || some_of test rest
+
+-- some stage answers so
 abbrev pub is_answered : DevId → List Stage → Bool
-is_answered d [] = false
-is_answered d (s ∷ rest) = answers d s || is_answered d rest
+is_answered d stack = some_of (answers d) stack

@@ -38,10 +38,10 @@ use Rattle.pm_kinds.proofs.Lines.{line_kind}
 use Rattle.pm_bonds.proofs.Entries.{leaves}
 use Rattle.pm_bonds.proofs.Refusals.{rests_so}
 use Rattle.pm_bonds.proofs.Steps.{differ, owned_at}
+use Rattle.pm_kept.specs.Answered.{some_of}
 use Rattle.pm_succeed.specs.Undisturbed.{is_bad, needs_up}
 use Rattle.pm_succeed.proofs.Bools.{good_is}
 use Rattle.pm_succeed.proofs.Holding.{stack_held, placed_some, some_stage, place_most}
-use Rattle.pm_succeed.proofs.Passing.{some_of}
 
 -- no line has disturbed
 abbrev pub is_calm : History → Bool

@@ -33,11 +33,11 @@ use Rattle.pm_stacks.proofs.Obeying.{Obeys, waiting, either}
 use Rattle.pm_stacks.proofs.Tests.{front, rear, same_device, same_self}
 use Rattle.pm_bonds.proofs.Steps.{differ}
 use Rattle.pm_pends.specs.Pends.{is_up}
+use Rattle.pm_kept.proofs.Passing.{either_of, tells}
 use Rattle.pm_succeed.specs.Undisturbed.{is_child, flags_fit, code_fits, call_flags_fit, fits, is_bad, ends_badly, needs_up, brings_up, needs_enabled, no_end}
-use Rattle.pm_succeed.proofs.Bools.{either_of, fit_both, unless}
+use Rattle.pm_succeed.proofs.Bools.{fit_both, unless}
 use Rattle.pm_succeed.proofs.Calmly.{Calmly, calm, quiet, loud, is_disabling, is_told}
 use Rattle.pm_succeed.proofs.Handing.{up_fits}
-use Rattle.pm_succeed.proofs.Passing.{tells}
 
 -- what is known before a row of a resume
 pub record Ready (plan : Plan) (x : DevId) (enabled : Bool) (v : Views) (r : ResumeCall) (tried : Bool) : Type 0 where
