@@ -185,7 +185,7 @@ all_true : {A : Type 0} (test : A → Bool) → ((x : A) → test x ≡ true) �
 all_true test is [] = refl
 all_true test is (x ∷ l) = rw (is x, all_true test is l) refl
 
-implied : (a b : Bool) → (a ≡ true → b ≡ true) → implies a b ≡ true
+pub implied : (a b : Bool) → (a ≡ true → b ≡ true) → implies a b ≡ true
 implied true b f = f refl
 implied false b f = refl
 

@@ -17,17 +17,13 @@ use Rattle.pm_laws.proofs.Rows.{said}
 use Rattle.pm_stacks.specs.Shape.{call_of}
 use Rattle.pm_stacks.proofs.Obeying.{Duty, ObeysRow, Obeys}
 use Rattle.pm_bonds.proofs.Steps.{differ}
-use Rattle.pm_kept.specs.Answered.{answers}
+use Rattle.pm_kept.specs.Answered.{is_get_sync, answers}
 use Rattle.pm_kept.proofs.Handing.{is_start, tells_answer}
 
 -- a caller takes a count
 abbrev pub is_callers_get : Event → Bool
 is_callers_get (event.Get d why.Caller) = true
 is_callers_get _ = false
-
-abbrev pub is_get_sync : Helper → Bool
-is_get_sync helper.GetSync = true
-is_get_sync _ = false
 
 -- a get_sync returns
 abbrev pub is_return : Event → Bool

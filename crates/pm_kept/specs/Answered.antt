@@ -1,7 +1,9 @@
 -- Where a resume has found its device Active or made it so, and its get_sync is to return that (this project's own).
-use Rattle.std.specs.Prelude.{Bool, false, ◌&&◌, ◌||◌, List, [], ◌∷◌, nat_eq}
+use Rattle.std.specs.Prelude.{Bool, true, false, ◌&&◌, ◌||◌, List, [], ◌∷◌, nat_eq}
 use Rattle.pm_base.specs.declared.DevId.{DevId}
 use Rattle.pm_model.specs.declared.event.Event.TheVariants as event
+use Rattle.pm_model.specs.declared.event.Helper.{Helper}
+use Rattle.pm_model.specs.declared.event.Helper.TheVariants as helper
 use Rattle.pm_model.specs.declared.stage.Await.TheVariants as await
 use Rattle.pm_model.specs.declared.stage.HelperStage.TheVariants as at
 use Rattle.pm_model.specs.declared.stage.ResumeStage.TheVariants as resume
@@ -11,6 +13,10 @@ use Rattle.pm_model.specs.Counted.{is_same}
 use Rattle.pm_model.specs.Promises.{got_well}
 use Rattle.pm_stacks.specs.Shape.{Call, raises, raising}
 use Rattle.pm_pends.specs.Pends.{is_up}
+
+abbrev pub is_get_sync : Helper → Bool
+is_get_sync helper.GetSync = true
+is_get_sync _ = false
 
 -- R(d, 4): what a get_sync of d calls
 abbrev pub is_sync_resume : DevId → Call → Bool

@@ -27,12 +27,12 @@ use Rattle.pm_laws.proofs.Said.{views_next}
 use Rattle.pm_stacks.specs.Shape.{call_of, IsNested, Nested}
 use Rattle.pm_stacks.proofs.Nesting.{stands_nested}
 use Rattle.pm_stacks.proofs.Stacks.{empty_place, paid_row, stack_placed, stacked, stacks_nest, told}
-use Rattle.pm_stacks.proofs.Standing.{IsStart, Stands, stands}
+use Rattle.pm_stacks.proofs.Standing.{Stands, stands}
 use Rattle.pm_stacks.proofs.Telling.{IsTelling}
 use Rattle.pm_stacks.proofs.Tests.{not_true, same_self}
 use Rattle.pm_pends.specs.Pends.{is_up}
 use Rattle.pm_bonds.proofs.Steps.{differ}
-use Rattle.pm_kept.proofs.Keeping.{same_actor}
+use Rattle.pm_kept.proofs.Keeping.{implied, same_actor}
 use Rattle.pm_kept.proofs.Handing.{own_awaited}
 use Rattle.pm_kept.proofs.Staying.{status_next}
 use Rattle.pm_kept.specs.Answered.{some_of}
@@ -327,10 +327,6 @@ each_well plan [] lawful calm = refl
 each_well plan (line ∷ h) lawful calm =
     let c = (calm_parts line h calm).1 in
     rw (well_now plan h line.actor line.event (lined plan h line lawful calm (calmed plan h lawful.2 c)).well) (each_well plan h lawful.2 c)
-
-implied : (a b : Bool) → (a ≡ true → b ≡ true) → implies a b ≡ true
-implied true b f = f refl
-implied false b f = refl
 
 pub succeed : (plan : Plan) (h : History) → IsLawful plan h → gets_succeed plan h ≡ true
 succeed plan h lawful = implied (is_calm h) (at_each_line (λ g line. returns_well plan g line.actor line.event) h) (each_well plan h lawful)
