@@ -110,7 +110,7 @@ permits_written plan h actor t line late (Some s) stands e = go (move plan (worl
         (record { stage = s; stands = stands; change = change; next = next; gives = gives; in_time = late })
 
 -- and so may the line of serial's turn
-permits_next : (plan : Plan) (h : List Line) (line : Line) → next_line plan h ≡ Some line → Permits plan h line
+pub permits_next : (plan : Plan) (h : List Line) (line : Line) → next_line plan h ≡ Some line → Permits plan h line
 permits_next plan h line e = go (next_turn plan h) refl e
   where
     go :
@@ -122,7 +122,7 @@ permits_next plan h line e = go (next_turn plan h) refl e
         permits_written plan h turn.0 turn.1 line (in_time plan h (turn_at plan h (last_time h)) turn is)
         (stage_at plan (world plan h) turn.0) refl e
 
-goes_on_lawful :
+pub goes_on_lawful :
     (plan : Plan) (n : ℕ) (h : List Line) → length h + n ≤ plan.lines
     → IsLawful plan h → IsLawful plan (goes_on plan n h)
 goes_on_lawful plan zero h fits lawful = lawful

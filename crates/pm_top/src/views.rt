@@ -459,7 +459,7 @@ static ENDS: [Ended; 15] = [
             pending: RESTING,
             timer: Some(Armed {
                 deadline: 19,
-                auto_on: true,
+                autosuspends: true,
             }),
             children: 0,
             domains_off: 0,

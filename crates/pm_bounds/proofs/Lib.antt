@@ -1,0 +1,15 @@
+pub mod Limits
+pub mod Rising
+pub mod Begun
+pub mod Bounded
+pub mod Taken
+pub mod Saying
+pub mod Places
+pub mod TableSays
+pub mod ControlSays
+pub mod Said
+pub mod Timers
+pub mod Due
+pub mod OfPlan
+pub mod Called
+pub mod Moving

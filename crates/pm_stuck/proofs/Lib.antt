@@ -1,0 +1,4 @@
+pub mod Earlier
+pub mod Asleep
+pub mod Finishing
+pub mod Ending
