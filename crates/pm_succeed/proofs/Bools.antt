@@ -3,18 +3,6 @@ use Rattle.std.proofs.Common.{◌≡◌, ◌⊎◌, inl, inr, Bool, true, false,
 use Rattle.std.specs.Prelude.{◌||◌}
 use Rattle.pm_model.specs.Promises.{implies}
 
-pub either_of : (a b : Bool) → a || b ≡ true → (a ≡ true) ⊎ (b ≡ true)
-either_of true b e = inl refl
-either_of false b e = inr e
-
-pub or_front : (a b : Bool) → a ≡ true → a || b ≡ true
-or_front true b e = refl
-or_front false b e = cc
-
-pub or_rear : (a b : Bool) → b ≡ true → a || b ≡ true
-or_rear true b e = refl
-or_rear false b e = e
-
 -- of two tests one fails
 pub bad_either : (a b : Bool) → not (a && b) ≡ true → (not a ≡ true) ⊎ (not b ≡ true)
 bad_either true b e = inr e

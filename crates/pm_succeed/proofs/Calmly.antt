@@ -21,8 +21,9 @@ use Rattle.pm_laws.proofs.Rows.{said}
 use Rattle.pm_stacks.proofs.Obeying.{Duty, Obeys}
 use Rattle.pm_bonds.proofs.Steps.{differ}
 use Rattle.pm_pends.specs.Pends.{is_up}
-use Rattle.pm_succeed.specs.Undisturbed.{is_get_sync, is_bad, ends_badly, needs_up, brings_up, needs_enabled, no_end}
-use Rattle.pm_succeed.proofs.Passing.{tells}
+use Rattle.pm_kept.proofs.Passing.{tells}
+use Rattle.pm_kept.specs.Answered.{is_get_sync}
+use Rattle.pm_succeed.specs.Undisturbed.{is_bad, ends_badly, needs_up, brings_up, needs_enabled, no_end}
 
 -- a change with which a depth may rise
 abbrev pub is_disabling : Change → Bool

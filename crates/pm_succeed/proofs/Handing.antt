@@ -17,9 +17,9 @@ use Rattle.pm_model.specs.PlanRows.{has_parent}
 use Rattle.pm_model.specs.ResumeTable.{is_supplied}
 use Rattle.pm_stacks.specs.Shape.{Call, raises, returns_resume, May, Fits}
 use Rattle.pm_pends.specs.Pends.{is_up}
+use Rattle.pm_kept.proofs.Passing.{silent, Passes}
 use Rattle.pm_succeed.specs.Undisturbed.{flags_fit, code_fits, is_bad, ends_badly, needs_up, brings_up, needs_enabled, no_end}
 use Rattle.pm_succeed.proofs.Bools.{bad_either, bad_left, bad_right, implies_up, up_supplied}
-use Rattle.pm_succeed.proofs.Passing.{silent, Passes}
 
 -- a code that says that the device is up is good for each purpose
 pub up_fits : (x : DevId) (enabled : Bool) (p : Purpose) (d : DevId) (f : ℕ) (c : ℤ) → is_up c ≡ true → code_fits x enabled p d f c ≡ true

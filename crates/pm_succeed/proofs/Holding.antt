@@ -28,9 +28,10 @@ use Rattle.pm_laws.proofs.Places.{IsPlaced, tally_placed}
 use Rattle.pm_stacks.specs.Shape.{Call, raises, call_of, raising, May, Fits, IsNested, Nested}
 use Rattle.pm_stacks.proofs.Tests.{front, rear}
 use Rattle.pm_stacks.proofs.Zeros.{raised, lowered, helper_calls, zero_raised, zero_lowered, parents, suppliers, zero_calls}
+use Rattle.pm_kept.specs.Answered.{some_of}
+use Rattle.pm_kept.proofs.Passing.{either_of}
 use Rattle.pm_succeed.specs.Undisturbed.{is_child, call_flags_fit, is_bad, needs_up}
-use Rattle.pm_succeed.proofs.Bools.{either_of, good_is}
-use Rattle.pm_succeed.proofs.Passing.{some_of}
+use Rattle.pm_succeed.proofs.Bools.{good_is}
 
 one_more : (n m : ℕ) → n ≡ 1 → 1 ≤ n + m
 one_more n m e = omega (arith, e)

@@ -3,7 +3,7 @@ use Rattle.std.proofs.Common.{ℕ, ◌≡◌, ◌<◌, ◌≤◌, ◌⊎◌, inl
 use Rattle.std.specs.List.{list_all}
 use Rattle.std.specs.Option.{unwrap_or}
 use Rattle.std.specs.Ordering.{int_eq}
-use Rattle.std.proofs.lemmas.Bool.{cases_lt, ltb-true, ltb-false}
+use Rattle.std.proofs.lemmas.Bool.{cases_lt, ltb-true}
 use Rattle.std.proofs.lemmas.List.{get_or_past}
 use Rattle.pm_base.specs.declared.ActorId.{ActorId}
 use Rattle.pm_base.specs.declared.Cb.TheVariants as cb
@@ -23,7 +23,6 @@ use Rattle.pm_model.specs.Lawful.{IsLawful}
 use Rattle.pm_model.specs.Promises.{disturbs}
 use Rattle.pm_model.specs.Views.{Views, device, fresh_device}
 use Rattle.pm_model.specs.World.{World, place, world}
-use Rattle.pm_sums.specs.Sums.{tally}
 use Rattle.pm_laws.specs.Counts.{holds}
 use Rattle.pm_laws.proofs.Rows.{said}
 use Rattle.pm_laws.proofs.Runs.{Holds, lawful_holds}
@@ -31,17 +30,12 @@ use Rattle.pm_laws.proofs.Said.{error_said, says_or}
 use Rattle.pm_stacks.proofs.Stacks.{stacks_nest}
 use Rattle.pm_stacks.proofs.Telling.{IsTelling}
 use Rattle.pm_stacks.proofs.Tests.{front, rear, not_true, same_device}
-use Rattle.pm_kinds.specs.Kinds.{says}
-use Rattle.pm_kinds.specs.LineKind.{HasKind}
-use Rattle.pm_kinds.specs.Parts.{at_part, any_phase}
-use Rattle.pm_kinds.proofs.Lines.{line_kind}
-use Rattle.pm_bonds.proofs.Entries.{leaves}
-use Rattle.pm_bonds.proofs.Refusals.{rests_so}
-use Rattle.pm_bonds.proofs.Steps.{differ, owned_at}
+use Rattle.pm_bonds.proofs.Steps.{differ}
+use Rattle.pm_kept.specs.Answered.{some_of}
+use Rattle.pm_kept.proofs.Staying.{leaves_unused}
 use Rattle.pm_succeed.specs.Undisturbed.{is_bad, needs_up}
 use Rattle.pm_succeed.proofs.Bools.{good_is}
 use Rattle.pm_succeed.proofs.Holding.{stack_held, placed_some, some_stage, place_most}
-use Rattle.pm_succeed.proofs.Passing.{some_of}
 
 -- no line has disturbed
 abbrev pub is_calm : History → Bool
@@ -116,9 +110,6 @@ forced_disturbs : (d : DevId) (e : Event) → forces d e ≡ true → disturbs e
 forced_disturbs d (event.State x w) f = front _ _ f
 forced_disturbs d _ f = cc
 
-unused : (n : ℕ) → nat_lt 0 n ≡ false → n ≡ 0
-unused n e = let le : n ≤ 0 = ltb-false 0 n e in omega arith
-
 -- a device that is used stays Active over a line that doesn't disturb
 pub stays_up : (plan : Plan) (h : History) (line : Line) (d : DevId) → IsLawful plan (line ∷ h) → disturbs line.event ≡ false → 1 ≤ (device (world plan h).views d).usage
     → is_active (world plan h).views d ≡ true → is_active (world plan (line ∷ h)).views d ≡ true
@@ -127,20 +118,12 @@ stays_up plan h line d lawful calm used up = go (is_active (world plan (line ∷
     known : Holds plan (world plan h)
     known = lawful_holds plan h lawful.2
 
-    within : d.0 < length plan.devices
-    within = active_within plan (world plan h) d known up
-
-    kind : HasKind plan h line
-    kind = line_kind plan h line lawful
-
     go : (b : Bool) → is_active (world plan (line ∷ h)).views d ≡ b → is_active (world plan (line ∷ h)).views d ≡ true
     go true a = a
-    go false a =
-        let down : is_active_status (unwrap_or (says kind.kind d) (device (world plan h).views d).status) ≡ false = ap is_active_status (sym (kind.status d within)) ∙ a in
-        elim (leaves plan (world plan h).views d kind.kind line.event (tally (at_part any_phase d) kind.others) kind.event kind.guard (owned_at plan h line kind d known within) up down) [
-          | inl rest ↦ let idle = unused (device (world plan h).views d).usage (rests_so plan (world plan h).views d rest).unused in absurd (omega (arith, used))
-          | inr force ↦ differ (forced_disturbs d line.event force) calm
-        ]
+    go false a = elim (leaves_unused plan h line d lawful (active_within plan (world plan h) d known up) up a) [
+      | inl idle ↦ absurd (omega (arith, used, idle))
+      | inr force ↦ differ (forced_disturbs d line.event force) calm
+    ]
 
 -- what a place needs Active is used
 pub needed_used : (plan : Plan) (h : History) (a : ActorId) (d x : DevId) (enabled : Bool) → IsLawful plan h → d.0 < length plan.devices

@@ -1,5 +1,4 @@
 pub mod Bools
-pub mod Passing
 pub mod Handing
 pub mod Calmly
 pub mod ResumeRows

@@ -40,9 +40,10 @@ use Rattle.pm_stacks.proofs.Obeying.{Obeys, waiting, both, both_next}
 use Rattle.pm_stacks.proofs.Stacks.{obeys_same}
 use Rattle.pm_bonds.proofs.Steps.{differ}
 use Rattle.pm_pends.specs.Pends.{is_up}
-use Rattle.pm_succeed.specs.Undisturbed.{is_disable, is_get_sync, fits, needs_up, needs_enabled, is_bad, ends_badly, brings_up, no_end}
+use Rattle.pm_kept.proofs.Passing.{tells}
+use Rattle.pm_kept.specs.Answered.{is_get_sync}
+use Rattle.pm_succeed.specs.Undisturbed.{is_disable, fits, needs_up, needs_enabled, is_bad, ends_badly, brings_up, no_end}
 use Rattle.pm_succeed.proofs.Calmly.{Calmly, is_disabling, is_told, returns_badly, quiet, loud, is_call_stage}
-use Rattle.pm_succeed.proofs.Passing.{tells}
 use Rattle.pm_succeed.proofs.ResumeRows.{resume_calm}
 
 abbrev Calms : Plan → DevId → Bool → Views → Stage → Row → Type 0

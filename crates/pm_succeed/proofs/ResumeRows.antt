@@ -1,11 +1,9 @@
 -- The rows of resume, while nothing disturbs.
 use Rattle.std.proofs.Common.{ℕ, ◌≡◌, ◌⊎◌, inl, inr, Bool, true, false, not, ◌&&◌, [], ◌∷◌, Option, Some, None, ℤ, pos, nat_eq, if◌then◌else◌, refl, sym, ◌∙◌, subst}
-use Rattle.std.specs.Option.{unwrap_or}
 use Rattle.std.specs.Ordering.{int_eq}
 use Rattle.std.proofs.lemmas.Bool.{eqb-true}
 use Rattle.pm_base.specs.declared.Cb.TheVariants as cb
 use Rattle.pm_base.specs.declared.DevId.{DevId}
-use Rattle.pm_base.specs.declared.Status.TheVariants as status
 use Rattle.pm_base.specs.declared.codes.TheConstants.{ASYNC, NOWAIT, EACCES, EINPROGRESS}
 use Rattle.pm_model.specs.declared.event.Event.{Event}
 use Rattle.pm_model.specs.declared.event.Event.TheVariants as event
@@ -20,8 +18,8 @@ use Rattle.pm_model.specs.declared.stage.ResumeStage.{ResumeStage}
 use Rattle.pm_model.specs.declared.stage.ResumeStage.TheVariants as resume
 use Rattle.pm_model.specs.declared.stage.Stage.{Stage}
 use Rattle.pm_model.specs.declared.stage.Stage.TheVariants as stage
-use Rattle.pm_model.specs.Counted.{is_same, only_if}
-use Rattle.pm_model.specs.Derived.{has, has_error, is_disabled, is_active, is_active_status, is_suspending, is_resuming, is_moving, minds_parent, awaits_parent, callback_code, first_free}
+use Rattle.pm_model.specs.Counted.{is_same}
+use Rattle.pm_model.specs.Derived.{has, has_error, is_disabled, is_active, is_suspending, is_resuming, is_moving, minds_parent, awaits_parent, callback_code, first_free}
 use Rattle.pm_model.specs.PlanRows.{no_callbacks, has_domain, has_parent, parent_of}
 use Rattle.pm_model.specs.Promises.{implies}
 use Rattle.pm_model.specs.ResumeTable.{resume_goes, leaves, resume_returns, resume_verdict, resume_takes, resume_links, is_supplied, resume_ends, resume_row}
@@ -33,11 +31,12 @@ use Rattle.pm_stacks.proofs.Obeying.{Obeys, waiting, either}
 use Rattle.pm_stacks.proofs.Tests.{front, rear, same_device, same_self}
 use Rattle.pm_bonds.proofs.Steps.{differ}
 use Rattle.pm_pends.specs.Pends.{is_up}
+use Rattle.pm_kept.proofs.ResumeOwes.{four_waits, middle, same_active, turned_up}
+use Rattle.pm_kept.proofs.Passing.{either_of, tells}
 use Rattle.pm_succeed.specs.Undisturbed.{is_child, flags_fit, code_fits, call_flags_fit, fits, is_bad, ends_badly, needs_up, brings_up, needs_enabled, no_end}
-use Rattle.pm_succeed.proofs.Bools.{either_of, fit_both, unless}
+use Rattle.pm_succeed.proofs.Bools.{fit_both, unless}
 use Rattle.pm_succeed.proofs.Calmly.{Calmly, calm, quiet, loud, is_disabling, is_told}
 use Rattle.pm_succeed.proofs.Handing.{up_fits}
-use Rattle.pm_succeed.proofs.Passing.{tells}
 
 -- what is known before a row of a resume
 pub record Ready (plan : Plan) (x : DevId) (enabled : Bool) (v : Views) (r : ResumeCall) (tried : Bool) : Type 0 where
@@ -89,9 +88,6 @@ fit_one false e = cc
 same_enabled : (v : Views) (d e : DevId) → is_same d e ≡ true → is_disabled v e ≡ false → is_disabled v d ≡ false
 same_enabled v d e same ready = subst (λ y. is_disabled v y ≡ false) (same_device e d same) ready
 
-same_active : (v : Views) (d e : DevId) → is_same d e ≡ true → is_active v e ≡ true → is_active v d ≡ true
-same_active v d e same up = subst (λ y. is_active v y ≡ true) (same_device e d same) up
-
 -- the device was found Active
 finds : {x : DevId} {enabled : Bool} {v : Views} (plan : Plan) (r : ResumeCall) (change : Change) (s : Stage) → call_of s ≡ raising r → call_flags_fit r ≡ true → is_active v r.dev ≡ true
     → is_disabling change ≡ false → Obeys (Calmly plan x enabled v s) (resume_returns plan r (pos 1) change)
@@ -101,17 +97,9 @@ finds {x} {enabled} {v} plan r change s is flags up stays =
 -- it is made Active
 turns : {plan : Plan} {x : DevId} {enabled : Bool} {v : Views} {r : ResumeCall} {change : Change} {s : Stage} → call_flags_fit r ≡ true → is_disabling change ≡ false
     → Obeys (Calmly plan x enabled v s) (writes (event.State r.dev word.Active) change (resume_goes (resume.Idle r)))
-turns {v = v} {r = r} flags stays = calm (fit_both _ _ flags refl) (λ d t. inr (turned d (is_same d r.dev) (rear _ _ t))) (λ d t. cc) stays refl
-  where
-    turned : (d : DevId) (b : Bool) → b ≡ true → is_active_status (unwrap_or (only_if b status.Active) (device v d).status) ≡ true
-    turned d true e = refl
-    turned d false e = cc
+turns {v = v} {r = r} flags stays = calm (fit_both _ _ flags refl) (λ d t. inr (turned_up v d (is_same d r.dev) (rear _ _ t))) (λ d t. cc) stays refl
 
 -- a resume for a child or a link, and that of a get_sync, may wait
-four_waits : (n : ℕ) → nat_eq n 4 ≡ true → may_not_wait n ≡ false
-unfolding has
-four_waits n e = let k : n ≡ 4 = eqb-true n 4 e in rw k refl
-
 none_waits : (n : ℕ) → nat_eq n 0 ≡ true → may_not_wait n ≡ false
 unfolding has
 none_waits n e = let k : n ≡ 0 = eqb-true n 0 e in rw k refl
@@ -148,12 +136,6 @@ parent_up true true tried e n up = cc
 parent_up true false true e n up = let k = up refl in cc
 parent_up true false false e n up = cc
 parent_up false active tried e n up = cc
-
-middle : (a b c : Bool) → a && b && c ≡ true → b ≡ true
-middle true true true e = refl
-middle true true false e = cc
-middle true false c e = cc
-middle false b c e = cc
 
 minded_enabled : (plan : Plan) (v : Views) (d : DevId) → minds_parent plan v d ≡ true → is_disabled v (parent_of plan d) ≡ false
 unfolding minds_parent

@@ -27,22 +27,23 @@ use Rattle.pm_laws.proofs.Said.{views_next}
 use Rattle.pm_stacks.specs.Shape.{call_of, IsNested, Nested}
 use Rattle.pm_stacks.proofs.Nesting.{stands_nested}
 use Rattle.pm_stacks.proofs.Stacks.{empty_place, paid_row, stack_placed, stacked, stacks_nest, told}
-use Rattle.pm_stacks.proofs.Standing.{IsStart, Stands, stands}
+use Rattle.pm_stacks.proofs.Standing.{Stands, stands}
 use Rattle.pm_stacks.proofs.Telling.{IsTelling}
 use Rattle.pm_stacks.proofs.Tests.{not_true, same_self}
 use Rattle.pm_pends.specs.Pends.{is_up}
 use Rattle.pm_bonds.proofs.Steps.{differ}
-use Rattle.pm_kept.proofs.Keeping.{same_actor}
-use Rattle.pm_kept.proofs.Passing.{own_awaited}
+use Rattle.pm_kept.proofs.Keeping.{implied, same_actor}
+use Rattle.pm_kept.proofs.Handing.{own_awaited}
 use Rattle.pm_kept.proofs.Staying.{status_next}
+use Rattle.pm_kept.specs.Answered.{some_of}
+use Rattle.pm_kept.proofs.Passing.{or_front, or_rear, then_below, IsLight, stands_some}
 use Rattle.pm_succeed.specs.Undisturbed.{fits, is_bad, ends_badly, needs_up, brings_up, needs_enabled, no_end}
-use Rattle.pm_succeed.proofs.Bools.{good_is, or_front, or_rear}
+use Rattle.pm_succeed.proofs.Bools.{good_is}
 use Rattle.pm_succeed.proofs.Calmly.{Calm, is_call, is_call_stage, returns_badly}
 use Rattle.pm_succeed.proofs.Depths.{stays_enabled}
 use Rattle.pm_succeed.proofs.Handing.{bad_passes, up_passes, enabled_passes}
 use Rattle.pm_succeed.proofs.Known.{is_calm, calm_parts, errors, active_within, enabled_within, spoken_within, stays_up, needed_used}
 use Rattle.pm_succeed.proofs.OtherRows.{row_calm}
-use Rattle.pm_succeed.proofs.Passing.{some_of, then_below}
 
 -- what holds after every lawful list that nothing disturbs
 pub record Calmed (plan : Plan) (h : History) : Type 0 where
@@ -51,10 +52,7 @@ pub record Calmed (plan : Plan) (h : History) : Type 0 where
   pub up : (a : ActorId) (d : DevId) → some_of (needs_up plan d) (place (world plan h) a) ≡ true → is_active (world plan h).views d ≡ true
   pub ready : (a : ActorId) (d : DevId) → some_of (needs_enabled d) (place (world plan h) a) ≡ true → is_disabled (world plan h).views d ≡ false
 
--- a stage at which an actor stands passes a test where its stack does
-abbrev IsLight : (Stage → Bool) → Type 0
-IsLight test = (s : Stage) → IsStart s → test s ≡ false
-
+-- a stage that starts at an empty place passes no test
 bad_light : (plan : Plan) (x : DevId) (enabled : Bool) → IsLight (is_bad plan x enabled)
 bad_light plan x enabled (stage.Helper (at.Call c)) is = refl
 bad_light plan x enabled (stage.Helper (at.Work d)) is = refl
@@ -72,12 +70,6 @@ enabled_light d (stage.Helper (at.Call c)) is = refl
 enabled_light d (stage.Helper (at.Work e)) is = refl
 enabled_light d (stage.Helper (at.Timer e)) is = refl
 enabled_light d _ is = elim is [ ]
-
-stands_some : (test : Stage → Bool) → IsLight test → (s : Stage) (stack : List Stage) → Stands s stack → some_of test (s ∷ drop 1 stack) ≡ some_of test stack
-stands_some test light s stack st = elim st.either [
-  | inl p ↦ rw (p.0, light s p.1) refl
-  | inr is ↦ sym (ap (some_of test) is)
-]
 
 -- nothing stands below a call line's stage
 call_alone : (plan : Plan) (x : DevId) (enabled : Bool) (s : Stage) (rest : List Stage) → is_call_stage s ≡ true → Nested plan (call_of s) rest
@@ -335,10 +327,6 @@ each_well plan [] lawful calm = refl
 each_well plan (line ∷ h) lawful calm =
     let c = (calm_parts line h calm).1 in
     rw (well_now plan h line.actor line.event (lined plan h line lawful calm (calmed plan h lawful.2 c)).well) (each_well plan h lawful.2 c)
-
-implied : (a b : Bool) → (a ≡ true → b ≡ true) → implies a b ≡ true
-implied true b f = f refl
-implied false b f = refl
 
 pub succeed : (plan : Plan) (h : History) → IsLawful plan h → gets_succeed plan h ≡ true
 succeed plan h lawful = implied (is_calm h) (at_each_line (λ g line. returns_well plan g line.actor line.event) h) (each_well plan h lawful)

@@ -22,14 +22,11 @@ use Rattle.pm_model.specs.Promises.{implies}
 use Rattle.pm_model.specs.ResumeTable.{is_supplied}
 use Rattle.pm_stacks.specs.Shape.{Call, raises, resume_call}
 use Rattle.pm_pends.specs.Pends.{is_up}
+use Rattle.pm_kept.specs.Answered.{is_get_sync}
 
 abbrev pub is_child : Purpose → Bool
 is_child purpose.Child = true
 is_child _ = false
-
-abbrev pub is_get_sync : Helper → Bool
-is_get_sync helper.GetSync = true
-is_get_sync _ = false
 
 abbrev pub is_disable : Helper → Bool
 is_disable helper.Disable = true
