@@ -1,0 +1,16 @@
+pub mod Region
+pub mod Lists
+pub mod Agreeing
+pub mod Domains
+pub mod Keeping
+pub mod EventsKeep
+pub mod Found
+pub mod Staying
+pub mod SuspendApart
+pub mod IdleApart
+pub mod ResumeApart
+pub mod HelperApart
+pub mod ControlApart
+pub mod Stages
+pub mod Scripts
+pub mod Worlds

@@ -1,0 +1,2 @@
+//! The islands of a plan run apart.
+#![tactic(auto)]
