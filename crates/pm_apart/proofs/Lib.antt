@@ -14,3 +14,10 @@ pub mod ControlApart
 pub mod Stages
 pub mod Scripts
 pub mod Worlds
+pub mod Isles
+pub mod Bound
+pub mod Merging
+pub mod Standing
+pub mod Only
+pub mod Weaving
+pub mod Finishing

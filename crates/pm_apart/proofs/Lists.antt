@@ -19,6 +19,15 @@ alike_get inside (y ∷ xs) [] i a e = absurd a
 alike_get inside (y ∷ xs) (z ∷ ys) zero a e = ap Some (a.0 e)
 alike_get inside (y ∷ xs) (z ∷ ys) (suc i) a e = alike_get (λ n. inside (suc n)) xs ys i a.1 e
 
+pub by_get : {R A : Type 0} (test : R → Bool) (rows : List R) (xs ys : List A) (i : ℕ) (row : R) → AlikeBy test rows xs ys → slice_get rows i ≡ Some row → test row ≡ true
+    → slice_get xs i ≡ slice_get ys i
+by_get test [] xs ys i row a at e = absurd (cc)
+by_get test (r ∷ rows) [] [] i row a at e = refl
+by_get test (r ∷ rows) [] (y ∷ ys) i row a at e = absurd a
+by_get test (r ∷ rows) (x ∷ xs) [] i row a at e = absurd a
+by_get test (r ∷ rows) (x ∷ xs) (y ∷ ys) zero row a at e = let same : r ≡ row = cc in ap Some (a.0 (ap test same ∙ e))
+by_get test (r ∷ rows) (x ∷ xs) (y ∷ ys) (suc i) row a at e = by_get test rows xs ys i row a.1 at e
+
 pub alike_refl : {A : Type 0} (inside : ℕ → Bool) (xs : List A) → Alike inside xs xs
 alike_refl inside [] = tt
 alike_refl inside (x ∷ xs) = (λ _. refl, alike_refl (λ n. inside (suc n)) xs)

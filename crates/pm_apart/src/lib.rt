@@ -1,2 +1,11 @@
-//! The islands of a plan run apart.
+//! The islands of a plan run apart: what is lawful on each is lawful for the plan.
 #![tactic(auto)]
+
+ghost use Rattle.pm_model.specs.declared.plan.Plan.{Plan};
+ghost use Rattle.pm_model.specs.Apart.{OwnAreLawful};
+
+/// Lines whose times don't fall, no more than the plan allows, are lawful where each island's own are lawful for its
+/// part; and after them each island stands as after its own (this project's own).
+pub fn islands_run_apart()
+    ensures { (plan : Plan) → OwnAreLawful plan }
+{}
