@@ -107,8 +107,11 @@ all_map test x (row ∷ rows) e = join (test x) _ e (all_map test x rows e)
 no_armed : Option Armed
 no_armed = None
 
+zero_le : (n : ℕ) → nat_le 0 n ≡ true
+zero_le n = grind arith
+
 no_length : (script : List Command) (n : ℕ) → script ≡ [] → nat_le (length script) n ≡ true
-no_length script n e = rw e refl
+no_length script n e = rw e (zero_le n)
 
 pub starts_finished : (plan : Plan) → ((c : ℕ) (row : CallerRow) → slice_get plan.callers c ≡ Some row → row.script ≡ []) → IsFinished plan []
 unfolding no_armed

@@ -76,7 +76,7 @@ are_apart p i j apart = record {
 }
 
 -- the part is a plan still
-same_length : (is_own : ℕ → Bool) (rows : List CallerRow) → length (with_scripts is_own rows) ≡ length rows
+pub same_length : (is_own : ℕ → Bool) (rows : List CallerRow) → length (with_scripts is_own rows) ≡ length rows
 same_length is_own [] = refl
 same_length is_own (row ∷ rows) = ap suc (same_length (λ n. is_own (suc n)) rows)
 

@@ -21,3 +21,4 @@ pub mod Standing
 pub mod Only
 pub mod Weaving
 pub mod Finishing
+pub mod Weaves
