@@ -10,7 +10,7 @@ use Rattle.pm_base.specs.declared.ActorId.TheVariants.{Caller, Work, Timer}
 use Rattle.pm_model.specs.declared.event.Line.{Line}
 use Rattle.pm_model.specs.declared.plan.Plan.{Plan}
 use Rattle.pm_model.specs.declared.rows.CallerRow.{CallerRow}
-use Rattle.pm_model.specs.Islands.{IsLabelling, IsPart, Node, names_device, node_of, own, the_caller, the_device, the_domain, touch, with_scripts}
+use Rattle.pm_model.specs.Islands.{IsLabelling, IsPart, Node, names_device, node_of, own, the_caller, the_device, the_domain, with_scripts}
 use Rattle.pm_model.specs.IsPlan.{is_plan, is_caller, is_caller_name, is_script}
 use Rattle.pm_model.specs.PlanRows.{parent, domain}
 use Rattle.pm_stacks.proofs.Tests.{front, or_rear, rear, same_self}

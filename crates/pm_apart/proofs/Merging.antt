@@ -1,10 +1,9 @@
 -- Lawful lists of the islands make a lawful list of the whole.
-use Rattle.std.proofs.Common.{ℕ, zero, suc, ◌≡◌, ◌≤◌, Bool, true, false, cond, List, [], ◌∷◌, Option, Some, None, map, nat_eq, nat_lt, slice_index_or, refl, sym, subst, ◌∙◌, ap, ◌+◌, ◌<◌, length, arith}
+use Rattle.std.proofs.Common.{ℕ, zero, suc, ◌≡◌, ◌≤◌, Bool, true, false, cond, List, [], ◌∷◌, Option, Some, None, map, nat_eq, slice_index_or, refl, sym, subst, ◌∙◌, ap, length, arith}
 use Rattle.std.specs.Prelude.{option_map}
 use Rattle.std.proofs.lemmas.Bool.{eqb-true}
 use Rattle.pm_base.specs.declared.ActorId.{ActorId}
 use Rattle.pm_base.specs.declared.ActorId.TheVariants.{Caller, Work, Timer}
-use Rattle.pm_model.specs.declared.event.Event.{Event}
 use Rattle.pm_model.specs.declared.event.Line.{Line}
 use Rattle.pm_model.specs.declared.plan.Plan.{Plan}
 use Rattle.pm_model.specs.declared.stage.Change.{Change}
@@ -21,8 +20,8 @@ use Rattle.pm_model.specs.World.{World, row, due, move, stage_at, row_at, after_
 use Rattle.pm_laws.proofs.Runs.{written}
 use Rattle.pm_stacks.proofs.Tests.{same_self}
 use Rattle.pm_apart.proofs.Bound.{bound_holds}
-use Rattle.pm_apart.proofs.Region.{AreBound, Island, AreApart, WorldsAgree, ArePlaced, StageIn, StagesIn, StaysIn, is_actor_of, is_own_link}
-use Rattle.pm_apart.proofs.Isles.{Labelled, are_apart, at_home, callers_in, home, is_home, isle, law_in, own_of, part, same_scripts}
+use Rattle.pm_apart.proofs.Region.{AreBound, WorldsAgree, ArePlaced, StageIn, StagesIn, StaysIn, is_actor_of, is_own_link}
+use Rattle.pm_apart.proofs.Isles.{Labelled, are_apart, at_home, callers_in, home, isle, law_in, own_of, part, same_scripts}
 use Rattle.pm_apart.proofs.Keeping.{agree_refl}
 use Rattle.pm_apart.proofs.Lists.{alike_refl, alike_sym, alike_const, alike_get}
 use Rattle.pm_apart.proofs.Scripts.{same_change, same_event, same_row}

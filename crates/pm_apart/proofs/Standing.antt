@@ -1,17 +1,17 @@
 -- Where each island stands after lines of all: as after its own in its part.
-use Rattle.std.proofs.Common.{ℕ, zero, suc, ◌≡◌, ◌≤◌, Bool, true, List, [], ◌∷◌, Option, Some, None, length, nat_eq, refl, sym, subst, ◌∙◌, ap}
+use Rattle.std.proofs.Common.{ℕ, ◌≡◌, Bool, true, List, Option, Some, None, nat_eq, refl, sym, subst, ◌∙◌, ap}
 use Rattle.std.specs.Prelude.{option_map, slice_get}
 use Rattle.pm_model.specs.declared.event.Line.{Line}
 use Rattle.pm_model.specs.declared.plan.Plan.{Plan}
 use Rattle.pm_model.specs.declared.rows.LinkRow.{LinkRow}
-use Rattle.pm_model.specs.Apart.{IsInTime, IsLawfulOn, OwnAreLawful, StandAlike}
-use Rattle.pm_model.specs.Islands.{IsLabelling, IsPart, Node, own, the_caller, the_device, the_domain}
+use Rattle.pm_model.specs.Apart.{IsLawfulOn, OwnAreLawful, StandAlike}
+use Rattle.pm_model.specs.Islands.{Node, own, the_device}
 use Rattle.pm_model.specs.Lawful.{IsLawful}
 use Rattle.pm_model.specs.World.{World, world}
 use Rattle.pm_stacks.proofs.Tests.{same_self}
-use Rattle.pm_apart.proofs.Isles.{Labelled, isle, own_of, part, part_is}
+use Rattle.pm_apart.proofs.Isles.{Labelled, isle, part, part_is}
 use Rattle.pm_apart.proofs.Lists.{alike_get, by_get}
-use Rattle.pm_apart.proofs.Merging.{Meets, merges}
+use Rattle.pm_apart.proofs.Merging.{merges}
 use Rattle.pm_apart.proofs.Region.{AlikeBy, WorldsAgree}
 
 -- a link whose consumer is on the island
@@ -50,6 +50,8 @@ lawful_on p n h on = subst (λ q. IsLawful q h) (part_is p n on.0 on.1) on.2
 pub own_are_lawful : (plan : Plan) → OwnAreLawful plan
 own_are_lawful plan island h shared timely room each =
     let p : Labelled plan = record { island = island; shared = shared } in
-    let whole = merges plan p h timely room (λ n. lawful_on p n (own island n h) (each n)) in
-    (whole.0, λ n q is. subst (λ q. StandAlike plan island n (world plan h) (world q (own island n h))) (sym (part_is p n q is))
-    (stand_alike plan p n (world plan h) (world (part p n) (own island n h)) (whole.1.agree n)))
+    let whole = merges plan p h timely room (λ n. lawful_on p n (own island n h) (each n)) in (
+      whole.0,
+      λ n q is. subst (λ q. StandAlike plan island n (world plan h) (world q (own island n h))) (sym (part_is p n q is))
+          (stand_alike plan p n (world plan h) (world (part p n) (own island n h)) (whole.1.agree n)),
+    )

@@ -1,5 +1,5 @@
 -- A merge of rising lists rises, and the lines of one list stand in it in their order.
-use Rattle.std.proofs.Common.{ℕ, zero, suc, ◌≡◌, ◌+◌, ◌<◌, Bool, true, false, not, cond, ◌&&◌, List, [], ◌∷◌, nat_eq, nat_le, Option, Some, reverse, if◌then◌else◌, refl, sym, subst, ◌∙◌, ap, arith}
+use Rattle.std.proofs.Common.{ℕ, zero, suc, ◌≡◌, ◌+◌, ◌<◌, Bool, true, false, not, cond, ◌&&◌, List, [], ◌∷◌, nat_eq, nat_le, Some, if◌then◌else◌, refl, sym, subst, ◌∙◌, ap, arith}
 use Rattle.std.specs.Prelude.{◌≤◌, length, slice_get}
 use Rattle.std.specs.List.{list_all, filter}
 use Rattle.std.proofs.lemmas.Bool.{and_parts, eqb-true, false≢true}
