@@ -164,8 +164,8 @@ link_kind plan v l row at (forces_held d) x y g b =
     same (forces_held d) row.consumer _ _ _ x b.link (λ s. b.link.none (was_asleep (Some status.Active) (is_same row.consumer d) _ refl s)) (λ q r m. differ (none_free plan v d l row at g.0 m q) r)
 link_kind plan v l row at (gives_link d s z t) x y g b =
     given (is_same row.supplier s && is_same row.consumer d) _ _ _ _ _ x _ y b
-    (λ m. let own = (both _ _ m).1 in (own_one (gives_link d s z t) row.consumer z refl own, light_at (is_same row.consumer d) (needs_links t) (links_need.lets_go t g)))
-    (let none = light_at (is_same row.consumer d) (needs_links t) (links_need.lets_go t g) in omega arith)
+    (λ m. let own = (both _ _ m).1 in (own_one (gives_link d s z t) row.consumer z refl own, light_at (is_same row.consumer d) (needs_links t) (links_need.lets_go t g.1)))
+    (let none = light_at (is_same row.consumer d) (needs_links t) (links_need.lets_go t g.1) in omega arith)
 link_kind plan v l row at (takes_link d link z) x y g b =
     taken (is_same row.supplier link.1 && is_same row.consumer d) _ _ _ _ x _ y b (λ m. let own = (both _ _ m).1 in (own_one (takes_link d link z) row.consumer z refl own, found_free plan v d link l row at g.0 m))
 link_kind plan v l row at (forces_off d) x y g b =

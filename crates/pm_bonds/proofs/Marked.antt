@@ -31,6 +31,7 @@ use Rattle.pm_stacks.proofs.Tests.{same_self}
 use Rattle.pm_stacks.specs.Shape.{Fits, IsMarked, AreNested, IsNested, Nested, call_of, Call}
 use Rattle.pm_kinds.specs.Parts.{preparing, refused, counts, part, at_part}
 use Rattle.pm_kinds.specs.Needs.{needs_parent}
+use Rattle.pm_kinds.proofs.Owners.{sum_both, tally_both}
 use Rattle.pm_bonds.proofs.Steps.{same_is}
 
 -- the mark held is set, so the parent has a count of this call
@@ -105,23 +106,33 @@ stack_marked plan d p [] child nested = omega arith
 stack_marked plan d p (s ∷ rest) child nested =
     omega (arith, stage_marked plan d p s child nested.1, nested_marked plan d p (call_of s) rest child nested.2, sum_by-cons (at_part needs_parent d) s rest, sum_by-cons (owns_suspend d) s rest, sum_by-cons (holds plan p) s rest)
 
-stacks_marked : (plan : Plan) (d p : DevId) (stacks : List (List Stage)) → IsChild plan d p → ((i : ℕ) → IsNested plan (slice_index_or stacks i []))
-    → tally (at_part needs_parent d) stacks ≤ tally (owns_suspend d) stacks + tally (holds plan p) stacks
-stacks_marked plan d p [] child nested = omega arith
-stacks_marked plan d p (stack ∷ rest) child nested =
-    omega (arith, stack_marked plan d p stack child (nested 0), stacks_marked plan d p rest child (λ i. nested (suc i)), sum_by-cons (sum_by (at_part needs_parent d)) stack rest, sum_by-cons (sum_by (owns_suspend d)) stack rest, sum_by-cons (sum_by (holds plan p)) stack rest)
+-- what weighs no more in each stack of this shape weighs no more in all
+stacks_within : (plan : Plan) (f g : Stage → ℕ) (stacks : List (List Stage)) → ((stack : List Stage) → IsNested plan stack → sum_by f stack ≤ sum_by g stack)
+    → ((i : ℕ) → IsNested plan (slice_index_or stacks i [])) → tally f stacks ≤ tally g stacks
+stacks_within plan f g [] le nested = omega arith
+stacks_within plan f g (stack ∷ rest) le nested =
+    omega (arith, le stack (nested 0), stacks_within plan f g rest le (λ i. nested (suc i)), sum_by-cons (sum_by f) stack rest, sum_by-cons (sum_by g) stack rest)
+
+pub all_within : (plan : Plan) (w : World) (f g : Stage → ℕ) → ((stack : List Stage) → IsNested plan stack → sum_by f stack ≤ sum_by g stack) → AreNested plan w
+    → tally f (places w) ≤ tally g (places w)
+all_within plan w f g le nested =
+    omega (
+      arith,
+      stacks_within plan f g w.caller_places le (λ i. nested (Caller i)),
+      stacks_within plan f g w.work_places le (λ i. nested (Work i)),
+      stacks_within plan f g w.timer_places le (λ i. nested (Timer i)),
+      tally_joined f w.caller_places w.work_places w.timer_places,
+      tally_joined g w.caller_places w.work_places w.timer_places,
+    )
 
 pub all_marked : (plan : Plan) (w : World) (d p : DevId) → IsChild plan d p → AreNested plan w
     → tally (at_part needs_parent d) (places w) ≤ tally (owns_suspend d) (places w) + tally (holds plan p) (places w)
 all_marked plan w d p child nested =
+    let both : (Stage → ℕ) = λ s. owns_suspend d s + holds plan p s in
     omega (
       arith,
-      stacks_marked plan d p w.caller_places child (λ i. nested (Caller i)),
-      stacks_marked plan d p w.work_places child (λ i. nested (Work i)),
-      stacks_marked plan d p w.timer_places child (λ i. nested (Timer i)),
-      tally_joined (at_part needs_parent d) w.caller_places w.work_places w.timer_places,
-      tally_joined (owns_suspend d) w.caller_places w.work_places w.timer_places,
-      tally_joined (holds plan p) w.caller_places w.work_places w.timer_places,
+      all_within plan w (at_part needs_parent d) both (λ stack shape. let sum = sum_both both (owns_suspend d) (holds plan p) (λ s. refl) stack in omega (arith, stack_marked plan d p stack child shape)) nested,
+      tally_both both (owns_suspend d) (holds plan p) (λ s. refl) (places w),
     )
 
 -- where no child is counted, this one is neither Active nor Suspending

@@ -31,11 +31,11 @@ pub same_is : (c d : DevId) → is_same c d ≡ true → d ≡ c
 same_is c d b = ap (λ n. let x : DevId = record { 0 = n } in x) (eqb-true d.0 c.0 b)
 
 -- the device of a line, and every other
-own_counts : (test : Phase → Bool) (c d : DevId) (x : Option Phase) → is_same c d ≡ true → counts test c (part_at d x) ≡ passes test x
+pub own_counts : (test : Phase → Bool) (c d : DevId) (x : Option Phase) → is_same c d ≡ true → counts test c (part_at d x) ≡ passes test x
 own_counts test c d None m = refl
 own_counts test c d (Some x) m = rw m refl
 
-other_counts : (test : Phase → Bool) (c d : DevId) (x : Option Phase) → is_same c d ≡ false → counts test c (part_at d x) ≡ 0
+pub other_counts : (test : Phase → Bool) (c d : DevId) (x : Option Phase) → is_same c d ≡ false → counts test c (part_at d x) ≡ 0
 other_counts test c d None m = refl
 other_counts test c d (Some x) m = rw m refl
 
@@ -108,7 +108,7 @@ kind_least plan v test (begins_suspend d) n g e = omega (arith, ap one (rests_so
 kind_least plan v test (ends_suspend d c) n g e = omega (arith, ap one n.suspending, one_most (test lowering))
 kind_least plan v test (fails_suspend d c) n g e = omega (arith, ap one n.suspending)
 kind_least plan v test (lowers_domain d m x y) n g e = omega (arith, ap one (n.lets_go y (lowered x y g)))
-kind_least plan v test (gives_link d s x y) n g e = omega (arith, ap one (n.lets_go y g))
+kind_least plan v test (gives_link d s x y) n g e = omega (arith, ap one (n.lets_go y g.1))
 kind_least plan v test (enters d) n g e = omega (arith, ap one e)
 kind_least plan v test (sets_active d) n g e = omega (arith, ap one e)
 kind_least plan v test (raises_domain d m) n g e = omega (arith, ap one n.ready, ap one (off (test preparing) e))

@@ -1,7 +1,8 @@
 -- The kind of each line of a lawful list.
 use Rattle.std.proofs.Common.{ℕ, ◌≡◌, ◌+◌, ◌<◌, ◌≤◌, Bool, true, false, List, ◌∷◌, Option, Some, None, drop, length, slice_get, slice_index_or, ap, refl, sym, ◌∙◌, subst, arith}
 use Rattle.std.specs.List.{sum_by}
-use Rattle.std.specs.Option.{unwrap_or}
+use Rattle.std.specs.Option.{unwrap_or, option_map_or}
+use Rattle.std.proofs.lemmas.Bool.{ltb-true}
 use Rattle.std.proofs.lemmas.Option.{slice_get_within}
 use Rattle.pm_base.specs.declared.Cb.TheVariants as cb
 use Rattle.pm_base.specs.declared.DevId.{DevId}
@@ -15,26 +16,33 @@ use Rattle.pm_model.specs.declared.event.Word.{Word}
 use Rattle.pm_model.specs.declared.event.Word.TheVariants as word
 use Rattle.pm_model.specs.declared.plan.Plan.{Plan}
 use Rattle.pm_model.specs.declared.rows.LinkRow.{LinkRow}
+use Rattle.pm_model.specs.declared.stage.Await.TheVariants as await
+use Rattle.pm_model.specs.declared.stage.ControlStage.TheVariants as control
+use Rattle.pm_model.specs.declared.stage.ResumeStage.TheVariants as resume
 use Rattle.pm_model.specs.declared.stage.Stage.{Stage}
 use Rattle.pm_model.specs.declared.stage.Stage.TheVariants as stage
+use Rattle.pm_model.specs.declared.stage.SuspendStage.TheVariants as suspend
 use Rattle.pm_model.specs.ChangeViews.{change_views}
 use Rattle.pm_model.specs.Counted.{is_same, only_if, says_status, says_held, is_held_pair, says_on, is_switched_on}
 use Rattle.pm_model.specs.Events.{by_event}
 use Rattle.pm_model.specs.Handing.{after_then}
 use Rattle.pm_model.specs.History.{History}
-use Rattle.pm_model.specs.Lawful.{IsLawful}
+use Rattle.pm_model.specs.Lawful.{IsLawful, last_time}
 use Rattle.pm_model.specs.Row.{Row}
 use Rattle.pm_model.specs.Views.{Views, device, is_held, is_on, is_present}
+use Rattle.pm_model.specs.WellFormed.{device_of, is_in}
 use Rattle.pm_model.specs.World.{World, row, place, with_place, counts_call, after_line, world}
 use Rattle.pm_sums.specs.Sums.{tally, weigh}
 use Rattle.pm_laws.specs.Owners.{places}
 use Rattle.pm_laws.proofs.Places.{IsPlaced, shown, is_placed, tally_placed, then_keeps}
 use Rattle.pm_laws.proofs.Runs.{Holds, Paid, permitted, lawful_holds, places_moved, status_is}
 use Rattle.pm_laws.proofs.Said.{views_next, says_or, held_said, on_said}
+use Rattle.pm_stacks.specs.Fit.{IsFit}
+use Rattle.pm_stacks.proofs.Fitting.{stands_fit}
 use Rattle.pm_stacks.proofs.Stacks.{paid_row}
 use Rattle.pm_stacks.proofs.Standing.{stands, stands_sum}
-use Rattle.pm_kinds.specs.Parts.{Phase, part_of, counts, at_part, Falls, Stays}
-use Rattle.pm_kinds.specs.Kinds.{Kind, keeps, ends_suspend, fails_suspend, suspends, adds_link, drops_link, old, new, says, holds, shows, is_silent, is_owners_word, EventIs, Guard}
+use Rattle.pm_kinds.specs.Parts.{Phase, part, part_of, part_at, counts, at_part, Falls, Stays}
+use Rattle.pm_kinds.specs.Kinds.{Kind, keeps, ends_suspend, fails_suspend, suspends, adds_link, drops_link, dev_of, old, new, says, holds, shows, is_silent, is_owners_word, EventIs, Guard}
 use Rattle.pm_kinds.specs.LineKind.{HasKind}
 use Rattle.pm_kinds.proofs.Frames.{start_light, parts_weigh, then_falls}
 use Rattle.pm_kinds.proofs.OtherKinds.{idle_kind, helper_kind, control_kind}
@@ -94,11 +102,36 @@ kind_holds plan v (drops_link d t) e c s is g = silent_held e c s is
 kind_holds plan v (suspends d w x) e c s is g = rw is (owners_held w c s d g.1)
 kind_holds plan v _ e c s is g = rw is refl
 
+-- the device of a stage's part is one of the plan's
+in_plan : (n : ℕ) (e d : DevId) → e ≡ d → is_in n e ≡ true → d.0 < n
+in_plan n e d same within = ltb-true d.0 n (ap (is_in n) (sym same) ∙ within)
+
+part_within : (n : ℕ) (s : Stage) (d : DevId) (x : Phase) → part_of s ≡ part d x → option_map_or (is_in n) (device_of s) true ≡ true → d.0 < n
+part_within n (stage.Suspend (suspend.Running e f since)) d x is within = let same : e ≡ d = cc in in_plan n e d same within
+part_within n (stage.Suspend (suspend.Domain e f)) d x is within = let same : e ≡ d = cc in in_plan n e d same within
+part_within n (stage.Suspend (suspend.Links e f)) d x is within = let same : e ≡ d = cc in in_plan n e d same within
+part_within n (stage.Await (await.SuspendLinks e f)) d x is within = let same : e ≡ d = cc in in_plan n e d same within
+part_within n (stage.Resume (resume.Links r)) d x is within = let same : r.dev ≡ d = cc in in_plan n r.dev d same within
+part_within n (stage.Resume (resume.Supplied r c)) d x is within = let same : r.dev ≡ d = cc in in_plan n r.dev d same within
+part_within n (stage.Resume (resume.Callback r)) d x is within = let same : r.dev ≡ d = cc in in_plan n r.dev d same within
+part_within n (stage.Resume (resume.Running r since)) d x is within = let same : r.dev ≡ d = cc in in_plan n r.dev d same within
+part_within n (stage.Resume (resume.Resumed r)) d x is within = let same : r.dev ≡ d = cc in in_plan n r.dev d same within
+part_within n (stage.Resume (resume.Domain r c)) d x is within = let same : r.dev ≡ d = cc in in_plan n r.dev d same within
+part_within n (stage.Resume (resume.Unwind r c)) d x is within = let same : r.dev ≡ d = cc in in_plan n r.dev d same within
+part_within n (stage.Control (control.ActiveLinks e)) d x is within = let same : e ≡ d = cc in in_plan n e d same within
+part_within n (stage.Control (control.ActiveUnwind e c)) d x is within = let same : e ≡ d = cc in in_plan n e d same within
+part_within n (stage.Await (await.ResumeSupplier r link)) d x is within = let same : r.dev ≡ d = cc in in_plan n r.dev d same within
+part_within n (stage.Await (await.ResumeUnwind r c)) d x is within = let same : r.dev ≡ d = cc in in_plan n r.dev d same within
+part_within n (stage.Await (await.ActiveSupplier e link)) d x is within = let same : e ≡ d = cc in in_plan n e d same within
+part_within n (stage.Await (await.ActiveUnwind e c)) d x is within = let same : e ≡ d = cc in in_plan n e d same within
+part_within n _ d x is within = cc
+
 pub line_kind : (plan : Plan) (h : History) (line : Line) → IsLawful plan (line ∷ h) → HasKind plan h line
 line_kind plan h line lawful = record {
   kind = k.kind;
   event = k.is.event;
   guard = k.is.guard;
+  within = λ x owner. part_within (length plan.devices) p.stage (dev_of k.kind) x (k.is.was ∙ ap (part_at (dev_of k.kind)) owner) fit.device;
   others = others;
   was = was;
   falls = falls;
@@ -123,6 +156,9 @@ line_kind plan h line lawful = record {
 
     k : RowKind plan w.views p.stage line.event p.change p.next
     k = (row_kind plan w.views line.time p.stage _ known.settled (paid_row plan w line p)).paid
+
+    fit : IsFit plan w.views (last_time h) p.stage
+    fit = stands_fit plan h line.actor p.stage lawful.2 p.stands
 
     below : List Stage
     below = drop 1 (place w line.actor)

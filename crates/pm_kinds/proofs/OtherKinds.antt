@@ -31,7 +31,7 @@ use Rattle.pm_model.specs.Views.{Views, device, pending_of}
 use Rattle.pm_laws.proofs.HelperRows.{command}
 use Rattle.pm_laws.proofs.Links.{neither}
 use Rattle.pm_kinds.specs.Parts.{Phase, setting, unsetting, no_part, part, part_of}
-use Rattle.pm_kinds.specs.Kinds.{begins_idle, gives_link, suspends, sets_active, takes_link, forces_again, forces_bare, forces_held, forces_off, adds_link, drops_link, drops_held}
+use Rattle.pm_kinds.specs.Kinds.{may_give, begins_idle, gives_link, suspends, sets_active, takes_link, forces_again, forces_bare, forces_held, forces_off, adds_link, drops_link, drops_held}
 use Rattle.pm_kinds.proofs.RowKinds.{Owes, waiting, either, either_leads, of_kind, still}
 use Rattle.pm_kinds.proofs.SuspendKinds.{off}
 
@@ -153,19 +153,19 @@ active_starts_kind plan v d x =
     either (has_link plan v d) (λ has. of_kind (sets_active d) refl (λ _ _. refl) refl refl (may_force v d may, inactive)) (λ none.
     either (awaits_parent plan v d) (λ _. search still) (λ ready. of_kind (forces_bare d) refl (λ _ _. refl) refl refl (none, may_force v d may, ready)))))
 
-gives_kind : (plan : Plan) (v : Views) (d : DevId) (c : ℤ) (s : Stage) (x : Phase) → part_of s ≡ part d x → (o : Option (ℕ × DevId)) → first_held plan v d ≡ o
+gives_kind : (plan : Plan) (v : Views) (d : DevId) (c : ℤ) (s : Stage) (x : Phase) → part_of s ≡ part d x → may_give x ≡ true → (o : Option (ℕ × DevId)) → first_held plan v d ≡ o
     → Owes plan v s (active_gives d c o)
-gives_kind plan v d c s x is (Some link) e = of_kind (gives_link d link.1 x unsetting) is (λ _ _. refl) refl refl refl
-gives_kind plan v d c s x is None e = of_kind (suspends d word.Suspended x) is (λ _ _. refl) refl refl (e, refl)
+gives_kind plan v d c s x is may (Some link) e = of_kind (gives_link d link.1 x unsetting) is (λ _ _. refl) refl refl (may, refl)
+gives_kind plan v d c s x is may None e = of_kind (suspends d word.Suspended x) is (λ _ _. refl) refl refl (e, refl, may)
 
-unwinds_kind : (plan : Plan) (v : Views) (d : DevId) (c : ℤ) (s : Stage) (x : Phase) → part_of s ≡ part d x → Owes plan v s (active_unwinds plan v d c)
+unwinds_kind : (plan : Plan) (v : Views) (d : DevId) (c : ℤ) (s : Stage) (x : Phase) → part_of s ≡ part d x → may_give x ≡ true → Owes plan v s (active_unwinds plan v d c)
 unfolding active_unwinds
-unwinds_kind plan v d c s x is = gives_kind plan v d c s x is (first_held plan v d) refl
+unwinds_kind plan v d c s x is may = gives_kind plan v d c s x is may (first_held plan v d) refl
 
 takes_kind : (plan : Plan) (v : Views) (d : DevId) (o : Option (ℕ × DevId)) → first_free plan v d ≡ o → Owes plan v (stage.Control (control.ActiveLinks d)) (active_takes plan v d o)
 takes_kind plan v d (Some link) e = of_kind (takes_link d link setting) refl (λ _ _. refl) refl refl (e, refl)
 takes_kind plan v d None e =
-    either (awaits_parent plan v d) (λ _. unwinds_kind plan v d EBUSY (stage.Control (control.ActiveLinks d)) setting refl)
+    either (awaits_parent plan v d) (λ _. unwinds_kind plan v d EBUSY (stage.Control (control.ActiveLinks d)) setting refl refl)
     (λ ready. of_kind (forces_held d) refl (λ _ _. refl) refl refl (e, ready))
 
 links_kind : (plan : Plan) (v : Views) (d : DevId) → Owes plan v (stage.Control (control.ActiveLinks d)) (active_links plan v d)
@@ -244,5 +244,5 @@ control_kind plan v t (control.BarrierResume d) = barrier_resumes_kind plan v d
 control_kind plan v t (control.BarrierIdle d c) = barrier_idles_kind plan v d c (stage.Control (control.BarrierIdle d c)) refl
 control_kind plan v t (control.BarrierWait d c) = barrier_ends_kind plan v d c
 control_kind plan v t (control.ActiveLinks d) = links_kind plan v d
-control_kind plan v t (control.ActiveUnwind d c) = unwinds_kind plan v d c (stage.Control (control.ActiveUnwind d c)) unsetting refl
+control_kind plan v t (control.ActiveUnwind d c) = unwinds_kind plan v d c (stage.Control (control.ActiveUnwind d c)) unsetting refl refl
 control_kind plan v t (control.SuppliersIdle d last) = suppliers_kind plan v d last

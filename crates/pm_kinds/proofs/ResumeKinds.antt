@@ -19,7 +19,7 @@ use Rattle.pm_model.specs.Row.{back}
 use Rattle.pm_model.specs.SuspendTable.{may_not_wait}
 use Rattle.pm_model.specs.Views.{Views, device}
 use Rattle.pm_kinds.specs.Parts.{Phase, preparing, refused, failed, falling, no_part, part, part_of}
-use Rattle.pm_kinds.specs.Kinds.{is_of_link, lowers_domain, gives_link, suspends, resumes_quiet, enters, takes_link, raises_domain, begins_resume, begins_at_once, ends_resume, fails_resume, resumes}
+use Rattle.pm_kinds.specs.Kinds.{may_give, is_of_link, lowers_domain, gives_link, suspends, resumes_quiet, enters, takes_link, raises_domain, begins_resume, begins_at_once, ends_resume, fails_resume, resumes}
 use Rattle.pm_kinds.proofs.RowKinds.{Owes, waiting, either, either_leads, Leads, of_kind, still, alike}
 
 leaves_leads : (plan : Plan) (r : ResumeCall) (c : ℤ) → Leads (leaves plan r c) no_part
@@ -60,14 +60,14 @@ links_kind : (plan : Plan) (v : Views) (t : ℕ) (r : ResumeCall) (s : Stage) �
 unfolding resume_links
 links_kind plan v t r s is = takes_kind plan v t r s is (first_free plan v r.dev) refl
 
-gives_kind : (plan : Plan) (v : Views) (r : ResumeCall) (c : ℤ) (s : Stage) (x : Phase) → part_of s ≡ part r.dev x → (o : Option (ℕ × DevId)) → first_held plan v r.dev ≡ o
+gives_kind : (plan : Plan) (v : Views) (r : ResumeCall) (c : ℤ) (s : Stage) (x : Phase) → part_of s ≡ part r.dev x → may_give x ≡ true → (o : Option (ℕ × DevId)) → first_held plan v r.dev ≡ o
     → Owes plan v s (resume_gives v r c o)
-gives_kind plan v r c s x is (Some link) e = of_kind (gives_link r.dev link.1 x falling) is (λ _ _. refl) refl refl refl
-gives_kind plan v r c s x is None e = of_kind (suspends r.dev word.Suspended x) is (λ _ _. refl) refl refl (e, refl)
+gives_kind plan v r c s x is may (Some link) e = of_kind (gives_link r.dev link.1 x falling) is (λ _ _. refl) refl refl (may, refl)
+gives_kind plan v r c s x is may None e = of_kind (suspends r.dev word.Suspended x) is (λ _ _. refl) refl refl (e, refl, may)
 
-unwinds_kind : (plan : Plan) (v : Views) (r : ResumeCall) (c : ℤ) (s : Stage) (x : Phase) → part_of s ≡ part r.dev x → Owes plan v s (resume_unwinds plan v r c)
+unwinds_kind : (plan : Plan) (v : Views) (r : ResumeCall) (c : ℤ) (s : Stage) (x : Phase) → part_of s ≡ part r.dev x → may_give x ≡ true → Owes plan v s (resume_unwinds plan v r c)
 unfolding resume_unwinds
-unwinds_kind plan v r c s x is = gives_kind plan v r c s x is (first_held plan v r.dev) refl
+unwinds_kind plan v r c s x is may = gives_kind plan v r c s x is may (first_held plan v r.dev) refl
 
 supplied_part : (r : ResumeCall) (c : ℤ) (b : Bool) → is_supplied c ≡ b → part_of (stage.Resume (resume.Supplied r c)) ≡ part r.dev (if b then preparing else refused)
 supplied_part r c b e = ap (λ x. part r.dev (if x then preparing else refused)) e
@@ -82,7 +82,7 @@ domain_kind : (plan : Plan) (v : Views) (r : ResumeCall) (c : ℤ) → Owes plan
 unfolding resume_domain
 domain_kind plan v r c =
     either (has_domain plan r.dev) (λ _. of_kind (lowers_domain r.dev _ failed falling) refl (λ _ _. refl) refl refl refl)
-    (λ _. unwinds_kind plan v r c (stage.Resume (resume.Domain r c)) failed refl)
+    (λ _. unwinds_kind plan v r c (stage.Resume (resume.Domain r c)) failed refl refl)
 
 pub resume_kind : (plan : Plan) (v : Views) (t : ℕ) (s : ResumeStage) → Owes plan v (stage.Resume s) (resume_row plan v s t)
 resume_kind plan v t (resume.Enter r) = search still
@@ -91,7 +91,7 @@ resume_kind plan v t (resume.Waiting r tried) = either (is_moving v r.dev) (λ _
 resume_kind plan v t (resume.Links r) = links_kind plan v t r (stage.Resume (resume.Links r)) refl
 resume_kind plan v t (resume.Supplied r c) =
     either (is_supplied c) (λ good. links_kind plan v t r (stage.Resume (resume.Supplied r c)) (supplied_part r c true good))
-    (λ bad. unwinds_kind plan v r c (stage.Resume (resume.Supplied r c)) refused (supplied_part r c false bad))
+    (λ bad. unwinds_kind plan v r c (stage.Resume (resume.Supplied r c)) refused (supplied_part r c false bad) refl)
 resume_kind plan v t (resume.Callback r) = of_kind (begins_resume r.dev) refl (λ _ _. refl) refl refl tt
 resume_kind plan v t (resume.Running r since) = ends_kind plan v r since
 resume_kind plan v t (resume.Resumed r) = of_kind (resumes r.dev) refl (λ _ _. refl) refl refl tt
@@ -99,4 +99,4 @@ resume_kind plan v t (resume.Idle r) = search still
 resume_kind plan v t (resume.Done r c) = search returns_kind
 resume_kind plan v t (resume.Parent r c) = search still
 resume_kind plan v t (resume.Domain r c) = domain_kind plan v r c
-resume_kind plan v t (resume.Unwind r c) = unwinds_kind plan v r c (stage.Resume (resume.Unwind r c)) falling refl
+resume_kind plan v t (resume.Unwind r c) = unwinds_kind plan v r c (stage.Resume (resume.Unwind r c)) falling refl refl

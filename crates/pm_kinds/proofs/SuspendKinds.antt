@@ -21,7 +21,7 @@ use Rattle.pm_model.specs.Row.{writes}
 use Rattle.pm_model.specs.SuspendTable.{may_not_wait, suspend_goes, suspend_row, suspend_verdict, suspend_ends, suspend_gives, suspend_links, suspend_domain, tells_parent, suspend_parent}
 use Rattle.pm_model.specs.Views.{Views, pending_of}
 use Rattle.pm_kinds.specs.Parts.{Phase, lowering, giving, part, part_of}
-use Rattle.pm_kinds.specs.Kinds.{begins_suspend, ends_suspend, fails_suspend, lowers_domain, gives_link, suspends, suspends_quiet}
+use Rattle.pm_kinds.specs.Kinds.{may_give, begins_suspend, ends_suspend, fails_suspend, lowers_domain, gives_link, suspends, suspends_quiet}
 use Rattle.pm_kinds.proofs.RowKinds.{Owes, waiting, either, of_kind, still, alike}
 
 -- a device without callbacks doesn't move
@@ -51,22 +51,22 @@ verdict_kind plan v t d f settled =
     either (has f ASYNC) (λ _. search still) (λ not_async.
     of_kind (begins_suspend d) refl (λ _ _. refl) refl refl (record { free = off _ free; stands = stands (is_resuming v d) (is_suspending v d) (has f ASYNC) not_resuming not_suspending not_async }))))))))
 
-gives_kind : (plan : Plan) (v : Views) (d : DevId) (f : ℕ) (s : Stage) (x : Phase) → part_of s ≡ part d x → (o : Option (ℕ × DevId)) → first_held plan v d ≡ o
+gives_kind : (plan : Plan) (v : Views) (d : DevId) (f : ℕ) (s : Stage) (x : Phase) → part_of s ≡ part d x → may_give x ≡ true → (o : Option (ℕ × DevId)) → first_held plan v d ≡ o
     → Owes plan v s (suspend_gives v d f o)
-gives_kind plan v d f s x is (Some link) e = of_kind (gives_link d link.1 x giving) is (λ _ _. refl) refl refl refl
-gives_kind plan v d f s x is None e =
-    either (pending_of v d).deferred (λ _. of_kind (suspends d word.Deferred x) is (λ _ _. refl) refl refl (e, refl))
-    (λ _. of_kind (suspends d word.Suspended x) is (λ _ _. refl) refl refl (e, refl))
+gives_kind plan v d f s x is may (Some link) e = of_kind (gives_link d link.1 x giving) is (λ _ _. refl) refl refl (may, refl)
+gives_kind plan v d f s x is may None e =
+    either (pending_of v d).deferred (λ _. of_kind (suspends d word.Deferred x) is (λ _ _. refl) refl refl (e, refl, may))
+    (λ _. of_kind (suspends d word.Suspended x) is (λ _ _. refl) refl refl (e, refl, may))
 
-links_kind : (plan : Plan) (v : Views) (d : DevId) (f : ℕ) (s : Stage) (x : Phase) → part_of s ≡ part d x → Owes plan v s (suspend_links plan v d f)
+links_kind : (plan : Plan) (v : Views) (d : DevId) (f : ℕ) (s : Stage) (x : Phase) → part_of s ≡ part d x → may_give x ≡ true → Owes plan v s (suspend_links plan v d f)
 unfolding suspend_links
-links_kind plan v d f s x is = gives_kind plan v d f s x is (first_held plan v d) refl
+links_kind plan v d f s x is may = gives_kind plan v d f s x is may (first_held plan v d) refl
 
 domain_kind : (plan : Plan) (v : Views) (d : DevId) (f : ℕ) → Owes plan v (stage.Suspend (suspend.Domain d f)) (suspend_domain plan v d f)
 unfolding suspend_domain
 domain_kind plan v d f =
     either (has_domain plan d) (λ _. of_kind (lowers_domain d _ lowering giving) refl (λ _ _. refl) refl refl refl)
-    (λ _. links_kind plan v d f (stage.Suspend (suspend.Domain d f)) lowering refl)
+    (λ _. links_kind plan v d f (stage.Suspend (suspend.Domain d f)) lowering refl refl)
 
 parent_kind : (plan : Plan) (v : Views) (d : DevId) (f : ℕ) → Owes plan v (stage.Suspend (suspend.Parent d f)) (suspend_parent plan v d f)
 unfolding suspend_parent
@@ -94,7 +94,7 @@ suspend_kind plan v t (suspend.Verdict d f) settled = verdict_kind plan v t d f 
 suspend_kind plan v t (suspend.Waiting d f) settled = either (is_moving v d) (λ _. waiting) (λ _. alike (stage.Suspend (suspend.Verdict d f)) refl (verdict_kind plan v t d f settled))
 suspend_kind plan v t (suspend.Running d f since) settled = ends_kind plan v t d f since
 suspend_kind plan v t (suspend.Domain d f) settled = domain_kind plan v d f
-suspend_kind plan v t (suspend.Links d f) settled = links_kind plan v d f (stage.Suspend (suspend.Links d f)) giving refl
+suspend_kind plan v t (suspend.Links d f) settled = links_kind plan v d f (stage.Suspend (suspend.Links d f)) giving refl refl
 suspend_kind plan v t (suspend.Deferred d f) settled = search still
 suspend_kind plan v t (suspend.Parent d f) settled = parent_kind plan v d f
 suspend_kind plan v t (suspend.Done d f c) settled = search still

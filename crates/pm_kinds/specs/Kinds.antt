@@ -219,6 +219,17 @@ lowers lowering giving = true
 lowers failed falling = true
 lowers _ _ = false
 
+-- a phase in which an owner has no more to do than to give its links back
+abbrev pub may_give : Phase → Bool
+may_give lowering = true
+may_give giving = true
+may_give refused = true
+may_give failed = true
+may_give falling = true
+may_give setting = true
+may_give unsetting = true
+may_give _ = false
+
 -- a phase in which links are given back
 abbrev pub lets_go : Phase → Bool
 lets_go giving = true
@@ -256,8 +267,8 @@ Guard plan v (begins_suspend d) = MayRest plan v d
 Guard plan v (ends_suspend d c) = int_eq c (pos 0) ≡ true
 Guard plan v (fails_suspend d c) = int_eq c (pos 0) ≡ false
 Guard plan v (lowers_domain d n x y) = lowers x y ≡ true
-Guard plan v (gives_link d s x y) = lets_go y ≡ true
-Guard plan v (suspends d w x) = (first_held plan v d ≡ None) × (is_owners_word w ≡ true)
+Guard plan v (gives_link d s x y) = (may_give x ≡ true) × (lets_go y ≡ true)
+Guard plan v (suspends d w x) = (first_held plan v d ≡ None) × (is_owners_word w ≡ true) × (may_give x ≡ true)
 Guard plan v (suspends_quiet d) = (no_callbacks plan d ≡ true) × MayRest plan v d
 Guard plan v (resumes_quiet d) = (no_callbacks plan d ≡ true) × (is_moving v d ≡ false) × (awaits_parent plan v d ≡ false)
 Guard plan v (enters d) = (is_moving v d ≡ false) × (awaits_parent plan v d ≡ false) × (is_active v d ≡ false)

@@ -13,14 +13,15 @@ use Rattle.pm_model.specs.World.{world}
 use Rattle.pm_sums.specs.Sums.{tally}
 use Rattle.pm_laws.specs.Owners.{places}
 use Rattle.pm_kinds.specs.Parts.{Phase, counts, at_part, Falls, Stays}
-use Rattle.pm_kinds.specs.Kinds.{Kind, old, new, says, holds, shows, EventIs, Guard}
+use Rattle.pm_kinds.specs.Kinds.{Kind, dev_of, from, old, new, says, holds, shows, EventIs, Guard}
 
--- the line is of a kind: its event and what was true before it; the parts of stages before and after it, beside those of
+-- the line is of a kind: its event, what was true before it, and that the device of an owner is one of the plan's; the parts of stages before and after it, beside those of
 -- all stages that stay; and what it makes of each device's status, of each link and of each domain
 pub record HasKind (plan : Plan) (h : History) (line : Line) : Type 0 where
   pub kind : Kind
   pub event : EventIs kind line.event
   pub guard : Guard plan (world plan h).views kind
+  pub within : (x : Phase) → from kind ≡ Some x → (let d = dev_of kind in d.0 < length plan.devices)
   pub others : List (List Stage)
   pub was : (test : Phase → Bool) (d : DevId) → tally (at_part test d) (places (world plan h)) ≡ counts test d (old kind) + tally (at_part test d) others
   pub falls : (test : Phase → Bool) (d : DevId) → Falls test → tally (at_part test d) (places (world plan (line ∷ h))) ≤ counts test d (new kind) + tally (at_part test d) others
