@@ -126,6 +126,11 @@ tally_both f g h is (stack ∷ rest) =
 pub tally_least : (f g : Stage → ℕ) → ((s : Stage) → f s ≤ g s) → (stacks : List (List Stage)) → tally f stacks ≤ tally g stacks
 tally_least f g le stacks = sum_by-le-sum_by _ _ stacks (λ stack. sum_by-le-sum_by f g stack le)
 
+pub tally_same : (f g : Stage → ℕ) (stacks : List (List Stage)) → ((s : Stage) → f s ≡ g s) → tally f stacks ≡ tally g stacks
+tally_same f g stacks is =
+    let below = tally_least f g (λ s. let e = is s in omega arith) stacks in
+    let above = tally_least g f (λ s. let e = is s in omega arith) stacks in omega arith
+
 -- those of two tests that no phase passes both are among all
 apart_at : (same a b : Bool) → one a + one b ≤ 1 → one (same && a) + one (same && b) ≤ one (same && true)
 apart_at true a b le = le

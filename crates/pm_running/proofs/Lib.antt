@@ -1,1 +1,4 @@
 pub mod Running
+pub mod Exclusive
+pub mod Gathering
+pub mod Safe
