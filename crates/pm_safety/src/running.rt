@@ -30,13 +30,13 @@ fn is_of(cb: Cb, dev: DevId, other: Cb, device: DevId) -> bool
 fn says_runs(cb: Cb, dev: DevId, event: Event) -> Option<bool>
     ensures { result ≡ says_runs cb dev event }
 {
-    let (other, device, runs) = match event {
+    let (other, device, begun) = match event {
         Event::Begin { dev, cb } => (cb, dev, true),
         Event::End { dev, cb, .. } => (cb, dev, false),
         _ => return None,
     };
     if is_of(cb, dev, other, device) {
-        Some(runs)
+        Some(begun)
     } else {
         None
     }
@@ -49,8 +49,8 @@ fn runs(cb: Cb, dev: DevId, lines: &[Line]) -> bool
 {
     let mut rest = lines;
     while let Some((line, before)) = rest.split_last() {
-        if let Some(runs) = says_runs(cb, dev, line.event) {
-            return runs;
+        if let Some(said) = says_runs(cb, dev, line.event) {
+            return said;
         }
         rest = before;
     }

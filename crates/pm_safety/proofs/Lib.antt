@@ -1,0 +1,4 @@
+pub mod BondLemmas
+pub mod LinkLemmas
+pub mod LineLemmas
+pub mod SafeLemmas
