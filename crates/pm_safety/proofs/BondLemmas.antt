@@ -1,23 +1,21 @@
 -- What is answered of a device, from what is looked at.
-use Rattle.std.proofs.Common.{ℕ, suc, ◌≡◌, Bool, true, false, not, ◌&&◌, cond, List, [], ◌∷◌, Option, Some, None, length, map, nat_eq, if◌then◌else◌, ap, refl, sym, ◌∙◌, arith}
+use Rattle.std.proofs.Common.{ℕ, suc, ◌≡◌, Bool, true, false, not, ◌&&◌, cond, List, [], ◌∷◌, length, map, nat_eq, if◌then◌else◌, ap, refl, sym, ◌∙◌, arith}
 use Rattle.std.specs.Prelude.{◌||◌}
 use Rattle.std.specs.List.{enumerate_from, filter, list_all, list_any}
-use Rattle.std.specs.Option.{option_map_or}
 use Rattle.std.proofs.lemmas.Grind.{common_steps}
 use Rattle.pm_base.specs.declared.DevId.{DevId}
 use Rattle.pm_model.specs.declared.plan.Plan.{Plan}
 use Rattle.pm_model.specs.declared.rows.LinkRow.{LinkRow}
 use Rattle.pm_model.specs.Derived.{is_active, up}
-use Rattle.pm_model.specs.Excuse.{is_excused_from_domain, is_excused_from_parent, is_excused_from_supplier}
+use Rattle.pm_model.specs.Excuse.{is_excused_from_domain, is_excused_from_supplier}
 use Rattle.pm_model.specs.History.{History}
-use Rattle.pm_model.specs.PlanRows.{domains_of, has_domain, parent}
-use Rattle.pm_model.specs.Promises.{BondState, all_hold, domain_bonds, implies, parent_bonds, supplier_bonds}
+use Rattle.pm_model.specs.PlanRows.{domains_of, has_domain}
+use Rattle.pm_model.specs.Promises.{BondState, all_hold, domain_bonds, implies, supplier_bonds}
 use Rattle.pm_model.specs.Views.{Views, is_on}
 use Rattle.pm_model.specs.World.{world}
-use Rattle.pm_safety.specs.declared.answers.Bond.TheVariants as bond
 use Rattle.pm_safety.specs.Inspected.{answer, bond_of, has_active, has_some, is_bond}
 
--- of at most one bond
+-- where there is at most one bond
 one_bond : (live some hold : Bool) (b : BondState) → b.holds ≡ hold → answer live some hold ≡ bond_of live (if some then b ∷ [] else [])
 one_bond false some hold b e = refl
 one_bond true false hold b e = refl
@@ -47,25 +45,7 @@ domains_are plan h d live =
     let b : BondState = record { holds = list_all (is_on v) (domains_of plan d); is_excused = is_excused_from_domain plan h d } in
     one_bond live (has_domain plan d) (nat_eq (length (up plan v d)) 0) b (sym (all_on (is_on v) (domains_of plan d)))
 
--- the bond with this parent
-abbrev with_parent : Plan → History → DevId → Option DevId → List BondState
-with_parent plan h d o =
-    option_map_or (λ p. record { holds = is_active (world plan h).views p; is_excused = is_excused_from_parent plan h d p } ∷ []) o []
-
-pub parent_is : (plan : Plan) (h : History) (d : DevId) (live : Bool) (p : DevId) → parent plan d ≡ Some p
-    → answer live true (is_active (world plan h).views p) ≡ bond_of live (parent_bonds plan h d)
-parent_is plan h d live p is =
-    let b : BondState = record { holds = is_active (world plan h).views p; is_excused = is_excused_from_parent plan h d p } in
-    one_bond live true (is_active (world plan h).views p) b refl ∙ ap (λ o. bond_of live (with_parent plan h d o)) (sym is)
-
-pub no_parent : (plan : Plan) (h : History) (d : DevId) (live : Bool) → parent plan d ≡ None → bond.Nothing ≡ bond_of live (parent_bonds plan h d)
-no_parent plan h d live is = none live ∙ ap (λ o. bond_of live (with_parent plan h d o)) (sym is)
-  where
-    none : (live : Bool) → bond.Nothing ≡ bond_of live []
-    none true = refl
-    none false = refl
-
--- of those that a test keeps
+-- where the bonds are of those that a test keeps
 some_kept : {A : Type 0} (test : A → Bool) (state : A → BondState) (l : List A) → list_any test l ≡ has_some (map state (filter test l))
 some_kept test state [] = refl
 some_kept test state (x ∷ l) = go (test x) (some_kept test state l)

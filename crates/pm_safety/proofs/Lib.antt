@@ -1,4 +1,3 @@
 pub mod BondLemmas
 pub mod LinkLemmas
-pub mod LineLemmas
 pub mod SafeLemmas

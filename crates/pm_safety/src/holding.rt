@@ -1,6 +1,6 @@
 //! How a device stands with its domains, its parent and its suppliers.
 
-ghost use Rattle.std.specs.Prelude.{◌≡◌, ◌<◌, length};
+ghost use Rattle.std.specs.Prelude.{◌≡◌, ◌<◌, ◌&&◌, length, nat_eq};
 ghost use Rattle.std.specs.List.{enumerate_from, list_all, list_any};
 ghost use Rattle.pm_device.specs.Parts.{IsFor};
 ghost use Rattle.pm_link.specs.Links.{row_at};
@@ -44,7 +44,14 @@ fn link_at(plan: &Plan, link: usize) -> &LinkRow
     &plan.links.as_slice()[link]
 }
 
-// Whether a link, by its place, has an effect on the device.
+// Whether a link is one of the consumer's that has `DL_FLAG_PM_RUNTIME`.
+fn is_runtime(row: &LinkRow, dev: DevId) -> bool
+    ensures { result ≡ (nat_eq row.now.consumer.0 dev.0 && row.now.pm_runtime) }
+{
+    row.consumer.0 == dev.0 && row.pm_runtime
+}
+
+// Whether a link, by its place, is such a one and present.
 fn is_bond(parts: &Parts, plan: &Plan, dev: DevId, link: usize) -> bool
     requires made_for { IsFor plan.now parts.now.shape }
     requires in_range { link < length plan.now.links }
@@ -52,9 +59,7 @@ fn is_bond(parts: &Parts, plan: &Plan, dev: DevId, link: usize) -> bool
     ensures { result ≡ is_bond parts.now.views dev (link, row_at plan.now.links link) }
 {
     let row = link_at(plan, link);
-    row.consumer.0 == dev.0
-        && row.pm_runtime
-        && parts.is_present(plan, row.consumer, row.supplier)
+    is_runtime(row, dev) && parts.is_present(plan, row.consumer, row.supplier)
 }
 
 // Whether the supplier of such a link is Active.
@@ -73,7 +78,7 @@ fn has_supplier(parts: &Parts, plan: &Plan, dev: DevId) -> bool
     requires present_len { length parts.now.views.present ≡ length plan.now.links }
     ensures { result ≡ list_any (is_bond parts.now.views dev) (enumerate_from 0 plan.now.links) }
 {
-    for link in 0..plan.links.len() {
+    for link in 0..plan.links.as_slice().len() {
         if is_bond(parts, plan, dev, link) {
             return true;
         }
@@ -87,7 +92,7 @@ fn suppliers_are_active(parts: &Parts, plan: &Plan, dev: DevId) -> bool
     requires present_len { length parts.now.views.present ≡ length plan.now.links }
     ensures { result ≡ list_all (has_active parts.now.views dev) (enumerate_from 0 plan.now.links) }
 {
-    for link in 0..plan.links.len() {
+    for link in 0..plan.links.as_slice().len() {
         if !has_active(parts, plan, dev, link) {
             return false;
         }

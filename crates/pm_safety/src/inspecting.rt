@@ -25,10 +25,10 @@ pub fn inspect(book: &Book, dev: DevId) -> Inspect
 {
     let plan = book.plan();
     let parts = book.parts();
-    let _lawful = book.lines();
+    let lines = book.lines();
     sizes();
     runs_are_safe();
-    let live = is_live(book, dev);
+    let live = is_live(parts, lines, dev);
     Inspect {
         live,
         domains: domains(parts, plan, dev, live),

@@ -1,11 +1,12 @@
 //! Whether a device is live.
 
-ghost use Rattle.std.specs.Prelude.{◌≡◌, ◌<◌, ◌&&◌, length, reverse};
+ghost use Rattle.std.specs.Prelude.{◌≡◌, ◌<◌, ◌&&◌, ◌||◌, length, reverse};
+ghost use Rattle.pm_base.specs.declared.Cb.TheVariants as cb;
 ghost use Rattle.pm_model.specs.Counted.{is_cb, is_same, runs, says_runs};
-ghost use Rattle.pm_model.specs.Excuse.{is_live};
+ghost use Rattle.pm_model.specs.Derived.{is_active};
 
 use pm_base::{Cb, DevId};
-use pm_book::Book;
+use pm_device::Parts;
 use pm_model::{Event, Line};
 
 // Whether two callbacks are of one kind.
@@ -57,14 +58,11 @@ fn runs(cb: Cb, dev: DevId, lines: &[Line]) -> bool
     false
 }
 
-/// Whether a device is Active, or its suspend or resume callback runs. Where it isn't Active, the lines are
-/// looked at from the last one back.
-pub fn is_live(book: &Book, dev: DevId) -> bool
-    requires { dev.0 < length book.now.plan.devices }
-    ensures { result ≡ is_live book.now.plan book.now.lines dev }
+/// Whether a device is Active, or its suspend or resume callback runs, by the counters and the lines in order.
+/// Where it isn't Active, the lines are looked at from the last one back.
+pub fn is_live(parts: &Parts, lines: &[Line], dev: DevId) -> bool
+    requires { dev.0 < length parts.now.shape.parents }
+    ensures { result ≡ (is_active parts.now.views dev || runs cb.Suspend dev (reverse lines.now) || runs cb.Resume dev (reverse lines.now)) }
 {
-    let lines = book.lines();
-    book.parts().is_active(dev)
-        || runs(Cb::Suspend, dev, lines)
-        || runs(Cb::Resume, dev, lines)
+    parts.is_active(dev) || runs(Cb::Suspend, dev, lines) || runs(Cb::Resume, dev, lines)
 }
