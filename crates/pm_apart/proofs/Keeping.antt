@@ -43,29 +43,29 @@ agree_trans plan k u v w a b = record {
 }
 
 -- views that agree, with one list of entries made anew
-pub devices_anew : (plan : Plan) (k : Region plan) (v w : Views) (xs ys : List Device) → Agree plan k v w → Alike k.inside xs ys
+pub devices_anew : {plan : Plan} {k : Region plan} {v w : Views} (xs ys : List Device) → Agree plan k v w → Alike k.inside xs ys
     → Agree plan k (record v { devices = xs }) (record w { devices = ys })
-devices_anew plan k v w xs ys a b = record { devices = b; pending = a.pending; timers = a.timers; on = a.on; held = a.held; present = a.present; }
+devices_anew xs ys a b = record { devices = b; pending = a.pending; timers = a.timers; on = a.on; held = a.held; present = a.present; }
 
-pub pending_anew : (plan : Plan) (k : Region plan) (v w : Views) (xs ys : List Pending) → Agree plan k v w → Alike k.inside xs ys
+pub pending_anew : {plan : Plan} {k : Region plan} {v w : Views} (xs ys : List Pending) → Agree plan k v w → Alike k.inside xs ys
     → Agree plan k (record v { pending = xs }) (record w { pending = ys })
-pending_anew plan k v w xs ys a b = record { devices = a.devices; pending = b; timers = a.timers; on = a.on; held = a.held; present = a.present; }
+pending_anew xs ys a b = record { devices = a.devices; pending = b; timers = a.timers; on = a.on; held = a.held; present = a.present; }
 
-pub timers_anew : (plan : Plan) (k : Region plan) (v w : Views) (xs ys : List (Option Armed)) → Agree plan k v w → Alike k.inside xs ys
+pub timers_anew : {plan : Plan} {k : Region plan} {v w : Views} (xs ys : List (Option Armed)) → Agree plan k v w → Alike k.inside xs ys
     → Agree plan k (record v { timers = xs }) (record w { timers = ys })
-timers_anew plan k v w xs ys a b = record { devices = a.devices; pending = a.pending; timers = b; on = a.on; held = a.held; present = a.present; }
+timers_anew xs ys a b = record { devices = a.devices; pending = a.pending; timers = b; on = a.on; held = a.held; present = a.present; }
 
-pub on_anew : (plan : Plan) (k : Region plan) (v w : Views) (xs ys : List Bool) → Agree plan k v w → Alike k.domains xs ys
+pub on_anew : {plan : Plan} {k : Region plan} {v w : Views} (xs ys : List Bool) → Agree plan k v w → Alike k.domains xs ys
     → Agree plan k (record v { on = xs }) (record w { on = ys })
-on_anew plan k v w xs ys a b = record { devices = a.devices; pending = a.pending; timers = a.timers; on = b; held = a.held; present = a.present; }
+on_anew xs ys a b = record { devices = a.devices; pending = a.pending; timers = a.timers; on = b; held = a.held; present = a.present; }
 
-pub held_anew : (plan : Plan) (k : Region plan) (v w : Views) (xs ys : List Bool) → Agree plan k v w → AlikeBy (is_own_link k) plan.links xs ys
+pub held_anew : {plan : Plan} {k : Region plan} {v w : Views} (xs ys : List Bool) → Agree plan k v w → AlikeBy (is_own_link k) plan.links xs ys
     → Agree plan k (record v { held = xs }) (record w { held = ys })
-held_anew plan k v w xs ys a b = record { devices = a.devices; pending = a.pending; timers = a.timers; on = a.on; held = b; present = a.present; }
+held_anew xs ys a b = record { devices = a.devices; pending = a.pending; timers = a.timers; on = a.on; held = b; present = a.present; }
 
-pub present_anew : (plan : Plan) (k : Region plan) (v w : Views) (xs ys : List Bool) → Agree plan k v w → AlikeBy (is_own_link k) plan.links xs ys
+pub present_anew : {plan : Plan} {k : Region plan} {v w : Views} (xs ys : List Bool) → Agree plan k v w → AlikeBy (is_own_link k) plan.links xs ys
     → Agree plan k (record v { present = xs }) (record w { present = ys })
-present_anew plan k v w xs ys a b = record { devices = a.devices; pending = a.pending; timers = a.timers; on = a.on; held = a.held; present = b; }
+present_anew xs ys a b = record { devices = a.devices; pending = a.pending; timers = a.timers; on = a.on; held = a.held; present = b; }
 
 pub local_same : {plan : Plan} {k : Region plan} → IsLocal plan k (λ v. v)
 local_same {plan} {k} = record { keeps = λ v w a. a; spares = λ l v apart. agree_refl plan l v; same_held = λ v. refl }
@@ -80,22 +80,22 @@ local_then {plan} {k} b c x y = record {
 -- one entry is made anew from itself
 pub local_device : {plan : Plan} {k : Region plan} (d : DevId) (f : Device → Device) → k.inside d.0 ≡ true → IsLocal plan k (λ v. with_device v d (f (device v d)))
 local_device {plan} {k} d f i = record {
-  keeps = λ v w a. devices_anew plan k v w _ _ a (alike_set k.inside v.devices w.devices d.0 (f (device v d)) (f (device w d)) a.devices (λ _. ap f (device_agrees plan k v w d a i)));
-  spares = λ l v apart. devices_anew plan l v v _ _ (agree_refl plan l v) (alike_aside l.inside v.devices d.0 (f (device v d)) (apart.devices d.0 i));
+  keeps = λ v w a. devices_anew _ _ a (alike_set k.inside v.devices w.devices d.0 (f (device v d)) (f (device w d)) a.devices (λ _. ap f (device_agrees d a i)));
+  spares = λ l v apart. devices_anew _ _ (agree_refl plan l v) (alike_aside l.inside v.devices d.0 (f (device v d)) (apart.devices d.0 i));
   same_held = λ v. refl;
 }
 
 pub local_pending : {plan : Plan} {k : Region plan} (d : DevId) (f : Pending → Pending) → k.inside d.0 ≡ true → IsLocal plan k (λ v. with_pending v d (f (pending_of v d)))
 local_pending {plan} {k} d f i = record {
-  keeps = λ v w a. pending_anew plan k v w _ _ a (alike_set k.inside v.pending w.pending d.0 (f (pending_of v d)) (f (pending_of w d)) a.pending (λ _. ap f (pending_agrees plan k v w d a i)));
-  spares = λ l v apart. pending_anew plan l v v _ _ (agree_refl plan l v) (alike_aside l.inside v.pending d.0 (f (pending_of v d)) (apart.devices d.0 i));
+  keeps = λ v w a. pending_anew _ _ a (alike_set k.inside v.pending w.pending d.0 (f (pending_of v d)) (f (pending_of w d)) a.pending (λ _. ap f (pending_agrees d a i)));
+  spares = λ l v apart. pending_anew _ _ (agree_refl plan l v) (alike_aside l.inside v.pending d.0 (f (pending_of v d)) (apart.devices d.0 i));
   same_held = λ v. refl;
 }
 
 pub local_timer : {plan : Plan} {k : Region plan} (d : DevId) (x : Option Armed) → k.inside d.0 ≡ true → IsLocal plan k (λ v. with_timer v d x)
 local_timer {plan} {k} d x i = record {
-  keeps = λ v w a. timers_anew plan k v w _ _ a (alike_set k.inside v.timers w.timers d.0 x x a.timers (λ _. refl));
-  spares = λ l v apart. timers_anew plan l v v _ _ (agree_refl plan l v) (alike_aside l.inside v.timers d.0 x (apart.devices d.0 i));
+  keeps = λ v w a. timers_anew _ _ a (alike_set k.inside v.timers w.timers d.0 x x a.timers (λ _. refl));
+  spares = λ l v apart. timers_anew _ _ (agree_refl plan l v) (alike_aside l.inside v.timers d.0 x (apart.devices d.0 i));
   same_held = λ v. refl;
 }
 
@@ -146,7 +146,7 @@ local_if {plan} {k} test b c same x y = record {
 local_rcancel : {plan : Plan} {k : Region plan} (d : DevId) → k.inside d.0 ≡ true → IsLocal plan k (rcancel d)
 unfolding rcancel has_auto_timer
 local_rcancel {plan} {k} d i =
-    local_if (λ v. has_auto_timer v d) (set_request Nothing d) (cancel d) (λ v w a. rw (timer_agrees plan k v w d a i) refl)
+    local_if (λ v. has_auto_timer v d) (set_request Nothing d) (cancel d) (λ v w a. rw (timer_agrees {plan = plan} {k = k} d a i) refl)
     (local_request Nothing d i) (local_cancel d i)
 
 local_marks : {plan : Plan} {k : Region plan} (d : DevId) (t : ℕ) → k.inside d.0 ≡ true → IsLocal plan k (callback_marks plan d t)
@@ -172,7 +172,7 @@ local_enables : {plan : Plan} {k : Region plan} (d : DevId) → k.inside d.0 ≡
 unfolding enables
 local_enables {plan} {k} d i =
     local_if (λ v. nat_eq (device v d).depth 1) (λ v. set_last false d (set_depth 0 d v)) (λ v. set_depth ((device v d).depth - 1) d v)
-    (λ v w a. rw (device_agrees plan k v w d a i) refl)
+    (λ v w a. rw (device_agrees {plan = plan} {k = k} d a i) refl)
     (local_then (set_depth 0 d) (set_last false d) (local_depth 0 d i) (local_last false d i)) (local_device d (λ x. record x { depth = x.depth - 1 }) i)
 
 -- a link of a pair whose consumer lies in another region
@@ -187,8 +187,8 @@ not_pair k l c s row apart i own = go (nat_eq row.consumer.0 c.0) refl
 local_present : {plan : Plan} {k : Region plan} (c s : DevId) (b : Bool) → k.inside c.0 ≡ true → IsLocal plan k (set_present plan c s b)
 unfolding set_present
 local_present {plan} {k} c s b i = record {
-  keeps = λ v w a. present_anew plan k v w _ _ a (by_map (is_own_link k) (λ p. if is_of_pair c s p.0 then b else p.1) plan.links v.present w.present a.present);
-  spares = λ l v apart. present_anew plan l v v _ _ (agree_refl plan l v) (by_aside (is_own_link l) (λ p. if is_of_pair c s p.0 then b else p.1) plan.links v.present (λ row x own. rw (not_pair k l c s row apart i own) refl));
+  keeps = λ v w a. present_anew _ _ a (by_map (is_own_link k) (λ p. if is_of_pair c s p.0 then b else p.1) plan.links v.present w.present a.present);
+  spares = λ l v apart. present_anew _ _ (agree_refl plan l v) (by_aside (is_own_link l) (λ p. if is_of_pair c s p.0 then b else p.1) plan.links v.present (λ row x own. rw (not_pair k l c s row apart i own) refl));
   same_held = λ v. refl;
 }
 
@@ -215,11 +215,11 @@ local_disables_busy d i = local_then (disables d) (cancel_all d) (local_disables
 
 local_keeps_status : {plan : Plan} {k : Region plan} (d : DevId) → k.inside d.0 ≡ true → IsLocal plan k (keeps_status d)
 local_keeps_status {plan} {k} d i =
-    local_read (λ v. is_active v d) (λ b v. set_last b d v) (λ v w a. rw (device_agrees plan k v w d a i) refl) (λ b. local_last b d i)
+    local_read (λ v. is_active v d) (λ b v. set_last b d v) (λ v w a. rw (device_agrees {plan = plan} {k = k} d a i) refl) (λ b. local_last b d i)
 
 local_at_once : {plan : Plan} {k : Region plan} (d : DevId) → k.inside d.0 ≡ true → IsLocal plan k (disabled_at_once d)
 local_at_once {plan} {k} d i =
-    local_read (λ v. is_active v d) (λ b v. set_last b d (disables_busy d v)) (λ v w a. rw (device_agrees plan k v w d a i) refl)
+    local_read (λ v. is_active v d) (λ b v. set_last b d (disables_busy d v)) (λ v w a. rw (device_agrees {plan = plan} {k = k} d a i) refl)
     (λ b. local_then (disables_busy d) (set_last b d) (local_disables_busy d i) (local_last b d i))
 
 -- each change that a row names is local to its device

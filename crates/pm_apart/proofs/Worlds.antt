@@ -55,8 +55,8 @@ place_alike plan k v w (Timer d) a i = alike_at k.region.inside v.timer_places w
 
 ready_alike : (plan : Plan) (k : Island plan) (v w : World) (a : ActorId) → WorldsAgree plan k v w → is_actor_of k a ≡ true → ready plan v a ≡ ready plan w a
 ready_alike plan k v w (Caller c) a i = rw (alike_at k.callers v.called w.called c 0 a.called i) refl
-ready_alike plan k v w (Work d) a i = rw (pending_agrees plan k.region v.views w.views (record { 0 = d }) a.views i) refl
-ready_alike plan k v w (Timer d) a i = rw (timer_agrees plan k.region v.views w.views (record { 0 = d }) a.views i) refl
+ready_alike plan k v w (Work d) a i = rw (pending_agrees (record { 0 = d }) a.views i) refl
+ready_alike plan k v w (Timer d) a i = rw (timer_agrees (record { 0 = d }) a.views i) refl
 
 pub stage_alike : (plan : Plan) (k : Island plan) (v w : World) (a : ActorId) → WorldsAgree plan k v w → is_actor_of k a ≡ true → stage_at plan v a ≡ stage_at plan w a
 stage_alike plan k v w x a i = rw (place_alike plan k v w x a i, ready_alike plan k v w x a i) refl
@@ -220,8 +220,8 @@ own_placed plan k w line e change next placed i stays =
     placed_same (Work d) own = placed (Work d) own
     placed_same (Timer d) own = placed (Timer d) own
 
-agree_sym : (plan : Plan) (k : Region plan) (v w : Views) → Agree plan k v w → Agree plan k w v
-agree_sym plan k v w a = record {
+agree_sym : {plan : Plan} {k : Region plan} {v w : Views} → Agree plan k v w → Agree plan k w v
+agree_sym {plan} {k} {v} {w} a = record {
   devices = alike_sym k.inside v.devices w.devices a.devices;
   pending = alike_sym k.inside v.pending w.pending a.pending;
   timers = alike_sym k.inside v.timers w.timers a.timers;
@@ -232,7 +232,7 @@ agree_sym plan k v w a = record {
 
 pub worlds_sym : (plan : Plan) (k : Island plan) (v w : World) → WorldsAgree plan k v w → WorldsAgree plan k w v
 worlds_sym plan k v w a = record {
-  views = agree_sym plan k.region v.views w.views a.views;
+  views = agree_sym a.views;
   caller_places = alike_sym k.callers v.caller_places w.caller_places a.caller_places;
   work_places = alike_sym k.region.inside v.work_places w.work_places a.work_places;
   timer_places = alike_sym k.region.inside v.timer_places w.timer_places a.timer_places;
