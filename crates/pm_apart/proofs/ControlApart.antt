@@ -19,8 +19,8 @@ use Rattle.pm_model.specs.Row.{Row}
 use Rattle.pm_model.specs.Views.{Views, device}
 use Rattle.pm_model.specs.WellFormed.{control_device}
 use Rattle.pm_apart.proofs.Region.{AlikeBy, AreBound, Region, Agree, StaysIn, is_own_link}
-use Rattle.pm_apart.proofs.Agreeing.{device_agrees, pending_agrees, refusal_agrees, busy_agrees, minds_agrees, fields_agree, held_agrees, free_agrees, next_agrees, has_link_agrees, parent_inside}
-use Rattle.pm_apart.proofs.Found.{held_in, free_runtime, free_in, next_in}
+use Rattle.pm_apart.proofs.ViewsAlike.{device_agrees, pending_agrees, refusal_agrees, busy_agrees, minds_agrees, fields_agree, held_agrees, free_agrees, next_agrees, has_link_agrees, parent_inside}
+use Rattle.pm_apart.proofs.FoundLinks.{held_in, free_runtime, free_in, next_in}
 use Rattle.pm_apart.proofs.Staying.{ok, waiting, either, both, called_in}
 
 abbrev Same : Row → Row → Type 0

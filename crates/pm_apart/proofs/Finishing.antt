@@ -14,8 +14,8 @@ use Rattle.pm_model.specs.World.{World, called_by, start, world}
 use Rattle.pm_model.specs.Views.{fresh_pending}
 use Rattle.pm_apart.proofs.Region.{Alike}
 use Rattle.pm_apart.proofs.Isles.{Labelled, at_home, callers_in, home, isle, own_of, part, same_scripts}
-use Rattle.pm_apart.proofs.Merging.{Meets}
-use Rattle.pm_apart.proofs.Lists.{alike_at, alike_get}
+use Rattle.pm_apart.proofs.Whole.{Meets}
+use Rattle.pm_apart.proofs.AlikeLists.{alike_at, alike_get}
 
 -- each entry is one of a list whose entries all pass
 all_of : {A : Type 0} (test : A → Bool) (xs : List A) (home : ℕ → ℕ) (inside : ℕ → ℕ → Bool) (ys : ℕ → List A) → ((n : ℕ) → inside (home n) n ≡ true)

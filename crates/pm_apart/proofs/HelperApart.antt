@@ -14,7 +14,7 @@ use Rattle.pm_model.specs.HelperTable.{helper_row, helper_starts, put_suspends, 
 use Rattle.pm_model.specs.Views.{Views, device, pending_of}
 use Rattle.pm_model.specs.WellFormed.{called_for, helper_device}
 use Rattle.pm_apart.proofs.Region.{Region, Agree, DeviceIn, StagesIn, StaysIn}
-use Rattle.pm_apart.proofs.Agreeing.{device_agrees, pending_agrees, timer_agrees, fields_agree}
+use Rattle.pm_apart.proofs.ViewsAlike.{device_agrees, pending_agrees, timer_agrees, fields_agree}
 use Rattle.pm_apart.proofs.Staying.{ok, both, called_in}
 
 starts_alike : {plan : Plan} {k : Region plan} {v w : Views} (c : Command) → Agree plan k v w → k.inside c.dev.0 ≡ true → helper_starts v c ≡ helper_starts w c

@@ -9,7 +9,7 @@ use Rattle.pm_model.specs.IdleTable.{idle_row, idle_verdict, idle_ends, after_pu
 use Rattle.pm_model.specs.Views.{Views}
 use Rattle.pm_model.specs.WellFormed.{idle_device}
 use Rattle.pm_apart.proofs.Region.{Region, Agree, StaysIn}
-use Rattle.pm_apart.proofs.Agreeing.{device_agrees, pending_agrees, refusal_agrees, fields_agree, code_agrees}
+use Rattle.pm_apart.proofs.ViewsAlike.{device_agrees, pending_agrees, refusal_agrees, fields_agree, code_agrees}
 use Rattle.pm_apart.proofs.Staying.{ok, both, both_next}
 
 verdict_alike : {plan : Plan} {k : Region plan} {v w : Views} (d : DevId) (f t : ℕ) → Agree plan k v w → k.inside d.0 ≡ true

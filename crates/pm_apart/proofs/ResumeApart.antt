@@ -13,9 +13,9 @@ use Rattle.pm_model.specs.ResumeTable.{resume_row, resume_verdict, resume_return
 use Rattle.pm_model.specs.Views.{Views}
 use Rattle.pm_model.specs.WellFormed.{resume_device}
 use Rattle.pm_apart.proofs.Region.{Region, Agree, ChangeIn, StaysIn}
-use Rattle.pm_apart.proofs.Agreeing.{device_agrees, minds_agrees, fields_agree, held_agrees, free_agrees, code_agrees, parent_inside}
-use Rattle.pm_apart.proofs.Domains.{up_agrees, down_agrees}
-use Rattle.pm_apart.proofs.Found.{held_in, free_runtime, free_in}
+use Rattle.pm_apart.proofs.ViewsAlike.{device_agrees, minds_agrees, fields_agree, held_agrees, free_agrees, code_agrees, parent_inside}
+use Rattle.pm_apart.proofs.DomainsAlike.{up_agrees, down_agrees}
+use Rattle.pm_apart.proofs.FoundLinks.{held_in, free_runtime, free_in}
 use Rattle.pm_apart.proofs.Staying.{ok, waiting, both, both_next}
 
 verdict_alike : {plan : Plan} {k : Region plan} {v w : Views} (r : ResumeCall) (tried : Bool) → Agree plan k v w → k.inside r.dev.0 ≡ true

@@ -10,8 +10,8 @@ use Rattle.pm_model.specs.Lawful.{IsLawful}
 use Rattle.pm_model.specs.World.{World, world}
 use Rattle.pm_stacks.proofs.Tests.{same_self}
 use Rattle.pm_apart.proofs.Isles.{Labelled, isle, part, part_is}
-use Rattle.pm_apart.proofs.Lists.{alike_get, by_get}
-use Rattle.pm_apart.proofs.Merging.{merges}
+use Rattle.pm_apart.proofs.AlikeLists.{alike_get, by_get}
+use Rattle.pm_apart.proofs.Whole.{merges}
 use Rattle.pm_apart.proofs.Region.{AlikeBy, WorldsAgree}
 
 -- a link whose consumer is on the island

@@ -14,11 +14,11 @@ use Rattle.pm_model.specs.SuspendTable.{suspend_row, suspend_verdict, suspend_en
 use Rattle.pm_model.specs.Views.{Views}
 use Rattle.pm_model.specs.WellFormed.{suspend_device}
 use Rattle.pm_apart.proofs.Region.{Region, Agree, StaysIn}
-use Rattle.pm_apart.proofs.Agreeing.{device_agrees, pending_agrees, timer_agrees, refusal_agrees, expiry_agrees, fields_agree, held_agrees, code_agrees, parent_inside}
-use Rattle.pm_apart.proofs.Domains.{down_agrees}
-use Rattle.pm_apart.proofs.EventsKeep.{event_moves}
-use Rattle.pm_apart.proofs.Found.{held_in}
-use Rattle.pm_apart.proofs.Keeping.{local_ended}
+use Rattle.pm_apart.proofs.ViewsAlike.{device_agrees, pending_agrees, timer_agrees, refusal_agrees, expiry_agrees, fields_agree, held_agrees, code_agrees, parent_inside}
+use Rattle.pm_apart.proofs.DomainsAlike.{down_agrees}
+use Rattle.pm_apart.proofs.LocalEvents.{event_moves}
+use Rattle.pm_apart.proofs.FoundLinks.{held_in}
+use Rattle.pm_apart.proofs.LocalChanges.{local_ended}
 use Rattle.pm_apart.proofs.Staying.{ok, waiting, both, both_next}
 
 verdict_alike : {plan : Plan} {k : Region plan} {v w : Views} (d : DevId) (f t : ℕ) → Agree plan k v w → k.inside d.0 ≡ true

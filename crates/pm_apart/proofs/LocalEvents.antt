@@ -27,9 +27,9 @@ use Rattle.pm_model.specs.Events.{by_event, by_word, got, gave, set_status, set_
 use Rattle.pm_model.specs.PlanRows.{is_of_pair}
 use Rattle.pm_model.specs.Views.{Views, device}
 use Rattle.pm_apart.proofs.Region.{Alike, AlikeBy, Region, Agree, Apart, AreBound, IsLocal, Moves, EventIn, GetIn, WhyIn, is_own_link}
-use Rattle.pm_apart.proofs.Lists.{alike_refl, alike_set, alike_aside, alike_trans, by_refl, by_map, by_aside}
-use Rattle.pm_apart.proofs.Domains.{up_agrees, down_agrees, up_own, down_own}
-use Rattle.pm_apart.proofs.Keeping.{agree_refl, agree_trans, devices_anew, held_anew, on_anew, local_same, local_then, local_device, local_request, local_queued, local_deferred, local_disarm, local_timer, local_busy, local_if, not_pair}
+use Rattle.pm_apart.proofs.AlikeLists.{alike_refl, alike_set, alike_aside, alike_trans, by_refl, by_map, by_aside}
+use Rattle.pm_apart.proofs.DomainsAlike.{up_agrees, down_agrees, up_own, down_own}
+use Rattle.pm_apart.proofs.LocalChanges.{agree_refl, agree_trans, devices_anew, held_anew, on_anew, local_same, local_then, local_device, local_request, local_queued, local_deferred, local_disarm, local_timer, local_busy, local_if, not_pair}
 
 pub moves : {plan : Plan} {k : Region plan} {c : Views → Views} → IsLocal plan k c → Moves plan k c
 moves x = record { keeps = λ v w a. x.keeps v w a; spares = λ l v apart _. x.spares l v apart }
@@ -39,7 +39,7 @@ pub moves_then : {plan : Plan} {k : Region plan} (b c : Views → Views) → IsL
 moves_then {plan} {k} b c x y = record {
   keeps = λ v w a. y.keeps (b v) (b w) (x.keeps v w a);
   spares = λ l v apart bound.
-      agree_trans plan l v (b v) (c (b v)) (x.spares l v apart) (y.spares l (b v) apart (subst (λ hs. AreBound (is_own_link k) plan.links hs) (sym (x.same_held v)) bound));
+      agree_trans (x.spares l v apart) (y.spares l (b v) apart (subst (λ hs. AreBound (is_own_link k) plan.links hs) (sym (x.same_held v)) bound));
 }
 
 moves_held : {plan : Plan} {k : Region plan} (c s : DevId) (b : Bool) → k.inside c.0 ≡ true → Moves plan k (set_held plan c s b)

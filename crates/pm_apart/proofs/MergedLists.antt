@@ -18,12 +18,12 @@ use Rattle.pm_model.specs.Lawful.{IsFinished, IsLawful, last_time}
 use Rattle.pm_stacks.proofs.Tests.{same_self}
 use Rattle.pm_apart.proofs.Finishing.{finishes, starts_finished}
 use Rattle.pm_apart.proofs.Isles.{Labelled, callers_in, home, is_home, isle, only_own_scripts, own_of, part, part_is, same_length, same_scripts}
-use Rattle.pm_apart.proofs.Lists.{alike_get}
-use Rattle.pm_apart.proofs.Merging.{Meets, merges}
-use Rattle.pm_apart.proofs.Only.{only_own}
+use Rattle.pm_apart.proofs.AlikeLists.{alike_get}
+use Rattle.pm_apart.proofs.Whole.{Meets, merges}
+use Rattle.pm_apart.proofs.OwnActors.{only_own}
 use Rattle.pm_apart.proofs.Region.{Island, is_actor_of}
 use Rattle.pm_apart.proofs.Standing.{lawful_on}
-use Rattle.pm_apart.proofs.Weaving.{AreOf, is_rising, list_of, list_of_is, merged_own, merged_rises, no_later}
+use Rattle.pm_apart.proofs.MergeOrder.{AreOf, is_rising, list_of, list_of_is, merged_own, merged_rises, no_later}
 
 abbrev line_home : {plan : Plan} → Labelled plan → Line → ℕ
 line_home p x = home p x.actor
@@ -80,7 +80,7 @@ rising_take (suc n) [] r = refl
 rising_take (suc n) (x ∷ xs) r = let h = and_parts _ _ r in rw (all_take (λ y. nat_le x.time y.time) n xs h.0, rising_take n xs h.1) refl
 
 -- the lists are of the islands, in order, and each is lawful for its part
-pub record Lists (plan : Plan) (p : Labelled plan) (lists : List (List Line)) : Type 0 where
+pub record OfIslands (plan : Plan) (p : Labelled plan) (lists : List (List Line)) : Type 0 where
   pub are : AreOf (line_home p) 0 lists
   pub lawful : (k : ℕ) → IsLawful (part p k) (reverse (list_of k 0 lists))
 
@@ -89,7 +89,7 @@ own_merged : (plan : Plan) (p : Labelled plan) (k : ℕ) (lists : List (List Lin
 own_merged plan p k lists are = filter_reverse (λ x. nat_eq (line_home p x) k) (merged lists) ∙ ap reverse (merged_own (line_home p) k 0 lists are)
 
 -- and in the merge that is cut
-own_lawful : (plan : Plan) (p : Labelled plan) (k : ℕ) (lists : List (List Line)) → Lists plan p lists
+own_lawful : (plan : Plan) (p : Labelled plan) (k : ℕ) (lists : List (List Line)) → OfIslands plan p lists
     → IsLawful (part p k) (own_of p k (reverse (take plan.lines (merged lists))))
 own_lawful plan p k lists l =
     let m = merged lists in
@@ -99,7 +99,7 @@ own_lawful plan p k lists l =
     let split : own_of p k (reverse m) ≡ own_of p k gone ++ own_of p k cut = ap (own_of p k) whole ∙ filter-append (λ x. nat_eq (line_home p x) k) gone cut in
     lawful_rest (part p k) (own_of p k gone) (own_of p k cut) (subst (λ x. IsLawful (part p k) x) (sym (own_merged plan p k lists l.are) ∙ split) (l.lawful k))
 
-merge_of : (plan : Plan) (p : Labelled plan) (lists : List (List Line)) → Lists plan p lists
+merge_of : (plan : Plan) (p : Labelled plan) (lists : List (List Line)) → OfIslands plan p lists
     → IsLawful plan (reverse (take plan.lines (merged lists))) × Meets plan p (reverse (take plan.lines (merged lists)))
 merge_of plan p lists l =
     let m = merged lists in
@@ -187,7 +187,7 @@ each_list home n (lines ∷ lists) each = (head (each n).0, head_rises (each n).
         let none : list_of k (n + 1) lists ≡ [] = past k (n + 1) lists (omega (arith, same)) in
         (rw none refl, rw none refl)
 
-lists_of : (plan : Plan) (p : Labelled plan) (lists : List (List Line)) → ((k : ℕ) → IsLawful (part p k) (reverse (list_of k 0 lists))) → Lists plan p lists
+lists_of : (plan : Plan) (p : Labelled plan) (lists : List (List Line)) → ((k : ℕ) → IsLawful (part p k) (reverse (list_of k 0 lists))) → OfIslands plan p lists
 lists_of plan p lists lawful = record { are = each_list (line_home p) 0 lists (λ k. (its k, rises k)); lawful = lawful }
   where
     its : (k : ℕ) → list_all (λ x. nat_eq (line_home p x) k) (list_of k 0 lists) ≡ true
@@ -240,7 +240,7 @@ merge_is_finished plan island lists shared each listed room = finishes plan p cu
         found : (j : ℕ) (lines : List Line) → IsFinishedOn plan island j (reverse lines) → IsLawful (part p j) (reverse lines) × IsFinished (part p j) (reverse lines)
         found j lines on = subst (λ q. IsLawful q (reverse lines) × IsFinished q (reverse lines)) (part_is p j on.0 on.1) (on.2, on.3)
 
-    all : Lists plan p lists
+    all : OfIslands plan p lists
     all = lists_of plan p lists (λ k. (passes k).0)
 
     done : (k : ℕ) → IsFinished (part p k) (own_of p k cut)

@@ -19,8 +19,8 @@ use Rattle.pm_model.specs.PlanRows.{is_of_pair, marks_busy}
 use Rattle.pm_model.specs.ChangeViews.{change_views, suspend_ended}
 use Rattle.pm_model.specs.Views.{Views, device, pending_of, with_device, with_pending, with_timer}
 use Rattle.pm_apart.proofs.Region.{Alike, AlikeBy, Region, Agree, Apart, ChangeIn, IsLocal, is_own_link}
-use Rattle.pm_apart.proofs.Lists.{alike_refl, alike_set, alike_aside, alike_trans, by_refl, by_trans, by_map, by_aside}
-use Rattle.pm_apart.proofs.Agreeing.{device_agrees, pending_agrees, timer_agrees}
+use Rattle.pm_apart.proofs.AlikeLists.{alike_refl, alike_set, alike_aside, alike_trans, by_refl, by_trans, by_map, by_aside}
+use Rattle.pm_apart.proofs.ViewsAlike.{device_agrees, pending_agrees, timer_agrees}
 
 pub agree_refl : (plan : Plan) (k : Region plan) (v : Views) → Agree plan k v v
 agree_refl plan k v = record {
@@ -32,8 +32,8 @@ agree_refl plan k v = record {
   present = by_refl (is_own_link k) plan.links v.present;
 }
 
-pub agree_trans : (plan : Plan) (k : Region plan) (u v w : Views) → Agree plan k u v → Agree plan k v w → Agree plan k u w
-agree_trans plan k u v w a b = record {
+pub agree_trans : {plan : Plan} {k : Region plan} {u v w : Views} → Agree plan k u v → Agree plan k v w → Agree plan k u w
+agree_trans {plan} {k} {u} {v} {w} a b = record {
   devices = alike_trans k.inside u.devices v.devices w.devices a.devices b.devices;
   pending = alike_trans k.inside u.pending v.pending w.pending a.pending b.pending;
   timers = alike_trans k.inside u.timers v.timers w.timers a.timers b.timers;
@@ -73,7 +73,7 @@ local_same {plan} {k} = record { keeps = λ v w a. a; spares = λ l v apart. agr
 pub local_then : {plan : Plan} {k : Region plan} (b c : Views → Views) → IsLocal plan k b → IsLocal plan k c → IsLocal plan k (λ v. c (b v))
 local_then {plan} {k} b c x y = record {
   keeps = λ v w a. y.keeps (b v) (b w) (x.keeps v w a);
-  spares = λ l v apart. agree_trans plan l v (b v) (c (b v)) (x.spares l v apart) (y.spares l (b v) apart);
+  spares = λ l v apart. agree_trans (x.spares l v apart) (y.spares l (b v) apart);
   same_held = λ v. y.same_held (b v) ∙ x.same_held v;
 }
 

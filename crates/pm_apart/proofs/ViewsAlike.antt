@@ -16,7 +16,7 @@ use Rattle.pm_model.specs.Derived.{is_active_status, is_suspending_status, is_co
 use Rattle.pm_model.specs.PlanRows.{parent, parent_of}
 use Rattle.pm_model.specs.Views.{Views, device, pending_of, timer, fresh_device, fresh_pending}
 use Rattle.pm_apart.proofs.Region.{Alike, AlikeBy, Region, Agree, is_own_link}
-use Rattle.pm_apart.proofs.Lists.{alike_at}
+use Rattle.pm_apart.proofs.AlikeLists.{alike_at}
 
 pub device_agrees : {plan : Plan} {k : Region plan} {v w : Views} (d : DevId) → Agree plan k v w → k.inside d.0 ≡ true → device v d ≡ device w d
 device_agrees {plan} {k} {v} {w} d a i = alike_at k.inside v.devices w.devices d.0 fresh_device a.devices i

@@ -20,10 +20,10 @@ use Rattle.pm_model.specs.World.{row, due, place, stage_at, called_by, row_at, a
 use Rattle.pm_apart.proofs.Region.{AreBound, Region, Island, AreApart, WorldsAgree, ArePlaced, StagesIn, is_actor_of, is_own_link}
 use Rattle.pm_laws.proofs.Runs.{written}
 use Rattle.pm_stacks.proofs.Tests.{not_true}
-use Rattle.pm_apart.proofs.Bound.{bound_holds}
-use Rattle.pm_apart.proofs.Merging.{world_goes, no_place}
-use Rattle.pm_apart.proofs.Stages.{row_stays}
-use Rattle.pm_apart.proofs.Worlds.{stage_alike, stage_in, other_line, own_placed, worlds_refl, worlds_trans}
+use Rattle.pm_apart.proofs.HeldLinks.{bound_holds}
+use Rattle.pm_apart.proofs.Whole.{world_goes, no_place}
+use Rattle.pm_apart.proofs.StageSteps.{row_stays}
+use Rattle.pm_apart.proofs.IslandSteps.{stage_alike, stage_in, other_line, own_placed, worlds_refl, worlds_trans}
 
 abbrev pub rest_of : (plan : Plan) → Region plan → Region plan
 rest_of plan k = record {
@@ -108,7 +108,7 @@ only_own plan k only (line ∷ h) lawful =
     go : (b : Bool) → is_actor_of k line.actor ≡ b → Alone plan k only h → AreBound (is_own_link k.region) plan.links (world plan h).views.held → Alone plan k only (line ∷ h)
     go false out before bound =
         let x = is_rest plan k only line.actor out in
-        let same = stage_alike plan (rest plan k only) (start plan) (world plan h) line.actor before.calm x in
+        let same = stage_alike line.actor before.calm x in
         absurd (no_stage lawful.0.stage (sym (start_none plan k only line.actor x) ∙ same ∙ lawful.0.stands))
     go true own before bound =
         let w = world plan h in
@@ -121,9 +121,9 @@ only_own plan k only (line ∷ h) lawful =
         let stays = row_stays plan k.region w.views line.time s r inside bound wrote in
         let at_row : row_at plan w line.actor line.time ≡ Some r = rw lawful.0.stands wrote in
         let goes : world plan (line ∷ h) ≡ after_line plan w line (Some r) = world_goes plan h line (Some r) at_row in
-        let still = other_line plan k (rest plan k only) w line line.event c next (apart_rest plan k only) own refl stays bound in
+        let still = other_line plan k (rest plan k only) w line c next (apart_rest plan k only) own stays bound in
         record {
           all = all_in _ _ own before.all;
-          placed = subst (λ x. ArePlaced plan k x) (sym goes) (own_placed plan k w line line.event c next before.placed own stays);
-          calm = subst (λ x. WorldsAgree plan (rest plan k only) (start plan) x) (sym goes) (worlds_trans plan (rest plan k only) (start plan) w _ before.calm still);
+          placed = subst (λ x. ArePlaced plan k x) (sym goes) (own_placed plan k w line c next before.placed own stays);
+          calm = subst (λ x. WorldsAgree plan (rest plan k only) (start plan) x) (sym goes) (worlds_trans before.calm still);
         }

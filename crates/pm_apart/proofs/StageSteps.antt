@@ -21,7 +21,7 @@ use Rattle.pm_model.specs.Views.{Views}
 use Rattle.pm_model.specs.World.{row, due}
 use Rattle.pm_model.proofs.Arrivals.{after_await, on_handed}
 use Rattle.pm_apart.proofs.Region.{AlikeBy, AreBound, Region, Agree, StageIn, StagesIn, StaysIn, is_own_link}
-use Rattle.pm_apart.proofs.Agreeing.{timer_agrees}
+use Rattle.pm_apart.proofs.ViewsAlike.{timer_agrees}
 use Rattle.pm_apart.proofs.ControlApart.{control_alike, control_stays}
 use Rattle.pm_apart.proofs.HelperApart.{helper_alike, helper_stays}
 use Rattle.pm_apart.proofs.IdleApart.{idle_alike, idle_stays}

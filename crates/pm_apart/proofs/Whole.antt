@@ -19,14 +19,14 @@ use Rattle.pm_model.specs.Views.{Views}
 use Rattle.pm_model.specs.World.{World, row, due, move, stage_at, row_at, after_line, start, world}
 use Rattle.pm_laws.proofs.Runs.{written}
 use Rattle.pm_stacks.proofs.Tests.{same_self}
-use Rattle.pm_apart.proofs.Bound.{bound_holds}
+use Rattle.pm_apart.proofs.HeldLinks.{bound_holds}
 use Rattle.pm_apart.proofs.Region.{AreBound, WorldsAgree, ArePlaced, StageIn, StagesIn, StaysIn, is_actor_of, is_own_link}
 use Rattle.pm_apart.proofs.Isles.{Labelled, are_apart, at_home, callers_in, home, isle, law_in, own_of, part, same_scripts}
-use Rattle.pm_apart.proofs.Keeping.{agree_refl}
-use Rattle.pm_apart.proofs.Lists.{alike_refl, alike_sym, alike_const, alike_get}
-use Rattle.pm_apart.proofs.Scripts.{same_change, same_event, same_row}
-use Rattle.pm_apart.proofs.Stages.{row_alike, row_stays, due_alike, bound_alike}
-use Rattle.pm_apart.proofs.Worlds.{stage_alike, stage_in, own_line, other_line, own_placed, worlds_trans, worlds_sym}
+use Rattle.pm_apart.proofs.LocalChanges.{agree_refl}
+use Rattle.pm_apart.proofs.AlikeLists.{alike_refl, alike_sym, alike_const, alike_get}
+use Rattle.pm_apart.proofs.ScriptsAside.{same_change, same_event, same_row}
+use Rattle.pm_apart.proofs.StageSteps.{row_alike, row_stays, due_alike, bound_alike}
+use Rattle.pm_apart.proofs.IslandSteps.{stage_alike, stage_in, own_line, other_line, own_placed, worlds_trans, worlds_sym}
 
 -- a stage of an island's actor doesn't read other scripts
 part_stage : (plan : Plan) (p : Labelled plan) (i : ℕ) (w : World) (a : ActorId) → is_actor_of (isle p i) a ≡ true → stage_at (part p i) w a ≡ stage_at plan w a
@@ -85,7 +85,7 @@ step plan p i h line meets home ordered bound permits =
     let agree = meets.agree i in
     let s = permits.stage in
     let there : stage_at plan w line.actor ≡ Some s = sym (part_stage plan p i w line.actor home) ∙ permits.stands in
-    let here : stage_at plan (world plan h) line.actor ≡ Some s = stage_alike plan k (world plan h) w line.actor agree home ∙ there in
+    let here : stage_at plan (world plan h) line.actor ≡ Some s = stage_alike line.actor agree home ∙ there in
     let inside : StageIn k.region s = stage_in plan k w line.actor s (meets.placed i) home there in
     let r : Row = writes line.event permits.change permits.next in
     let wrote : row (part p i) w.views s line.time ≡ Some r = written (due (part p i) w.views s) line.time (row (part p i) w.views s line.time) line.event permits.change permits.next permits.gives in
@@ -123,8 +123,8 @@ own_meets plan p i h line meets home s =
     world_goes (part p i) (own_of p i h) line r s.there ∙ part_line plan p i w line r in
     let ours : world plan (line ∷ h) ≡ after_line plan (world plan h) line r = world_goes plan h line r s.here in
     let agree : WorldsAgree plan k (after_line plan (world plan h) line r) (after_line plan w line r) =
-    own_line plan k (world plan h) w line line.event s.change s.next (meets.agree i) home refl s.stays in
-    let placed : ArePlaced plan k (after_line plan w line r) = own_placed plan k w line line.event s.change s.next (meets.placed i) home s.stays in (
+    own_line line s.change s.next (meets.agree i) home s.stays in
+    let placed : ArePlaced plan k (after_line plan w line r) = own_placed plan k w line s.change s.next (meets.placed i) home s.stays in (
       subst (λ x. WorldsAgree plan k x (world (part p i) (line ∷ own_of p i h))) (sym ours) (subst (λ y. WorldsAgree plan k (after_line plan (world plan h) line r) y) (sym its) agree),
       subst (λ y. ArePlaced plan k y) (sym its) placed,
     )
@@ -139,8 +139,8 @@ other_meets plan p i j h line meets home apart bound s =
     let r = Some (writes line.event s.change s.next) in
     let held = bound_alike (is_own_link k.region) plan.links (world plan h).views.held w.views.held (meets.agree i).views.held bound in
     let ours : world plan (line ∷ h) ≡ after_line plan (world plan h) line r = world_goes plan h line r s.here in
-    let still = other_line plan k l (world plan h) line line.event s.change s.next (are_apart p i j apart) home refl s.stays held in
-    subst (λ x. WorldsAgree plan l x (world (part p j) (own_of p j h))) (sym ours) (worlds_trans plan l _ (world plan h) _ (worlds_sym plan l _ _ still) (meets.agree j))
+    let still = other_line plan k l (world plan h) line s.change s.next (are_apart p i j apart) home s.stays held in
+    subst (λ x. WorldsAgree plan l x (world (part p j) (own_of p j h))) (sym ours) (worlds_trans (worlds_sym still) (meets.agree j))
 
 -- lines whose times don't fall, no more than the plan allows, are lawful where each island's own are lawful for its part
 pub merges : (plan : Plan) (p : Labelled plan) (h : List Line) → IsInTime h → length h ≤ plan.lines → ((i : ℕ) → IsLawful (part p i) (own_of p i h))

@@ -13,8 +13,8 @@ use Rattle.pm_model.specs.Derived.{is_suspended, up, down, are_quiet, are_off, g
 use Rattle.pm_model.specs.PlanRows.{domain, domains_of, domain_parent, chain}
 use Rattle.pm_model.specs.Views.{Views, device}
 use Rattle.pm_apart.proofs.Region.{Alike, Region, Agree}
-use Rattle.pm_apart.proofs.Lists.{alike_at, alike_get, alike_set}
-use Rattle.pm_apart.proofs.Agreeing.{device_agrees}
+use Rattle.pm_apart.proofs.AlikeLists.{alike_at, alike_get, alike_set}
+use Rattle.pm_apart.proofs.ViewsAlike.{device_agrees}
 
 abbrev is_own : (ℕ → Bool) → Option DomId → Bool
 is_own inside o = option_map_or (λ x. inside x.0) o true
