@@ -72,17 +72,17 @@ is_done : (plan : Plan) (w : World) → is_finished plan w ≡ true → IsDone p
 is_done plan w e =
     let x = split _ _ _ _ _ _ e in record { scripts = x.0; caller_places = x.1; work_places = x.2; timer_places = x.3; pending = x.4; armed = x.5 }
 
-pub finishes : (plan : Plan) (p : Labelled plan) (h : List Line) → Meets plan p h → ((i : ℕ) → IsFinished (part p i) (own_of p i h)) → IsFinished plan h
+pub finishes : (plan : Plan) (p : Labelled plan) (h : List Line) → Meets p h → ((i : ℕ) → IsFinished (part p i) (own_of p i h)) → IsFinished plan h
 finishes plan p h meets done =
     let w : ℕ → World = λ i. world (part p i) (own_of p i h) in
     let scripts = numbered_all (λ q. nat_le (length q.1.script) (called_by (world plan h) q.0)) 0 plan.callers
     (λ c m row at is. script c m row at is) in
     and_from _ _ (and_from _ _ (and_from _ _ (and_from _ _ (and_from _ _ scripts
-    (all_of is_empty_place (world plan h).caller_places (λ c. home p (Caller c)) (λ i. (isle p i).callers) (λ i. (w i).caller_places) (λ c. at_home p (Caller c)) (λ i. (meets.agree i).caller_places) (λ i. (is_done (part p i) (world (part p i) (own_of p i h)) (done i)).caller_places)))
-    (all_of is_empty_place (world plan h).work_places (λ d. home p (Work d)) (λ i. (isle p i).region.inside) (λ i. (w i).work_places) (λ d. at_home p (Work d)) (λ i. (meets.agree i).work_places) (λ i. (is_done (part p i) (world (part p i) (own_of p i h)) (done i)).work_places)))
-    (all_of is_empty_place (world plan h).timer_places (λ d. home p (Timer d)) (λ i. (isle p i).region.inside) (λ i. (w i).timer_places) (λ d. at_home p (Timer d)) (λ i. (meets.agree i).timer_places) (λ i. (is_done (part p i) (world (part p i) (own_of p i h)) (done i)).timer_places)))
-    (all_of (λ x. not x.queued) (world plan h).views.pending (λ d. home p (Work d)) (λ i. (isle p i).region.inside) (λ i. (w i).views.pending) (λ d. at_home p (Work d)) (λ i. (meets.agree i).views.pending) (λ i. (is_done (part p i) (world (part p i) (own_of p i h)) (done i)).pending)))
-    (all_of is_none (world plan h).views.timers (λ d. home p (Timer d)) (λ i. (isle p i).region.inside) (λ i. (w i).views.timers) (λ d. at_home p (Timer d)) (λ i. (meets.agree i).views.timers) (λ i. (is_done (part p i) (world (part p i) (own_of p i h)) (done i)).armed))
+    (all_of is_empty_place (world plan h).caller_places (λ c. home p (Caller c)) (λ i. (isle p i).callers) (λ i. (w i).caller_places) (λ c. at_home p (Caller c)) (λ i. (meets i).0.caller_places) (λ i. (is_done (part p i) (world (part p i) (own_of p i h)) (done i)).caller_places)))
+    (all_of is_empty_place (world plan h).work_places (λ d. home p (Work d)) (λ i. (isle p i).region.inside) (λ i. (w i).work_places) (λ d. at_home p (Work d)) (λ i. (meets i).0.work_places) (λ i. (is_done (part p i) (world (part p i) (own_of p i h)) (done i)).work_places)))
+    (all_of is_empty_place (world plan h).timer_places (λ d. home p (Timer d)) (λ i. (isle p i).region.inside) (λ i. (w i).timer_places) (λ d. at_home p (Timer d)) (λ i. (meets i).0.timer_places) (λ i. (is_done (part p i) (world (part p i) (own_of p i h)) (done i)).timer_places)))
+    (all_of (λ x. not x.queued) (world plan h).views.pending (λ d. home p (Work d)) (λ i. (isle p i).region.inside) (λ i. (w i).views.pending) (λ d. at_home p (Work d)) (λ i. (meets i).0.views.pending) (λ i. (is_done (part p i) (world (part p i) (own_of p i h)) (done i)).pending)))
+    (all_of is_none (world plan h).views.timers (λ d. home p (Timer d)) (λ i. (isle p i).region.inside) (λ i. (w i).views.timers) (λ d. at_home p (Timer d)) (λ i. (meets i).0.views.timers) (λ i. (is_done (part p i) (world (part p i) (own_of p i h)) (done i)).armed))
   where
     script : (c m : ℕ) (row : CallerRow) → m ≡ 0 + c → slice_get plan.callers c ≡ Some row → nat_le (length row.script) (called_by (world plan h) m) ≡ true
     script c m row at is =
@@ -90,7 +90,7 @@ finishes plan p h meets done =
         let his = at_home p (Caller c) in
         let here : m ≡ c = omega (arith, at) in
         let found = alike_get (isle p i).callers (callers_in p i) plan.callers c (same_scripts p i) his ∙ is in
-        let told = alike_at (isle p i).callers (world plan h).called (world (part p i) (own_of p i h)).called c 0 (meets.agree i).called his in
+        let told = alike_at (isle p i).callers (world plan h).called (world (part p i) (own_of p i h)).called c 0 (meets i).0.called his in
         rw (here, told) (all_numbered (λ q. nat_le (length q.1.script) (called_by (world (part p i) (own_of p i h)) q.0)) 0 c c (callers_in p i) row (omega arith) (is_done (part p i) (world (part p i) (own_of p i h)) (done i)).scripts found)
 
 -- a plan of which no caller has a script is finished before any line

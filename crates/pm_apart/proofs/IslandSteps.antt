@@ -23,7 +23,7 @@ use Rattle.pm_model.specs.Row.{writes}
 use Rattle.pm_model.specs.Spelling.{takes_device}
 use Rattle.pm_model.specs.Views.{Views, pending_of, timer}
 use Rattle.pm_model.specs.World.{World, place, with_place, called_by, ready, top, stage_at, counts_call, after_line}
-use Rattle.pm_apart.proofs.Region.{Alike, AreBound, DeviceIn, EventIn, Region, Agree, Island, WorldsAgree, AreApart, ArePlaced, is_actor_of, is_own_link, StageIn, StagesIn, StaysIn}
+use Rattle.pm_apart.proofs.Region.{Alike, AreBound, DeviceIn, Region, Agree, Island, WorldsAgree, AreApart, ArePlaced, is_actor_of, is_own_link, StageIn, StagesIn, StaysIn}
 use Rattle.pm_apart.proofs.AlikeLists.{alike_at, alike_refl, alike_set, alike_aside, alike_trans, alike_sym, by_sym}
 use Rattle.pm_apart.proofs.ViewsAlike.{pending_agrees, timer_agrees}
 use Rattle.pm_apart.proofs.LocalChanges.{agree_refl, agree_trans, change_local}
@@ -122,15 +122,15 @@ counts_aside plan k l _ _ xs apart i = alike_refl l.callers xs
 -- worlds that agree, with one list of places made anew
 caller_places_anew : {plan : Plan} {k : Island plan} {v w : World} (xs ys : List (List Stage)) → WorldsAgree plan k v w → Alike k.callers xs ys
     → WorldsAgree plan k (record v { caller_places = xs }) (record w { caller_places = ys })
-caller_places_anew xs ys a b = record { views = a.views; caller_places = b; work_places = a.work_places; timer_places = a.timer_places; called = a.called; }
+caller_places_anew xs ys a b = record { views = a.views; caller_places = b; work_places = a.work_places; timer_places = a.timer_places; called = a.called }
 
 work_places_anew : {plan : Plan} {k : Island plan} {v w : World} (xs ys : List (List Stage)) → WorldsAgree plan k v w → Alike k.region.inside xs ys
     → WorldsAgree plan k (record v { work_places = xs }) (record w { work_places = ys })
-work_places_anew xs ys a b = record { views = a.views; caller_places = a.caller_places; work_places = b; timer_places = a.timer_places; called = a.called; }
+work_places_anew xs ys a b = record { views = a.views; caller_places = a.caller_places; work_places = b; timer_places = a.timer_places; called = a.called }
 
 timer_places_anew : {plan : Plan} {k : Island plan} {v w : World} (xs ys : List (List Stage)) → WorldsAgree plan k v w → Alike k.region.inside xs ys
     → WorldsAgree plan k (record v { timer_places = xs }) (record w { timer_places = ys })
-timer_places_anew xs ys a b = record { views = a.views; caller_places = a.caller_places; work_places = a.work_places; timer_places = b; called = a.called; }
+timer_places_anew xs ys a b = record { views = a.views; caller_places = a.caller_places; work_places = a.work_places; timer_places = b; called = a.called }
 
 -- a place is set
 put_alike : {plan : Plan} {k : Island plan} {v w : World} (a : ActorId) (stages : List Stage) → WorldsAgree plan k v w → WorldsAgree plan k (with_place v a stages) (with_place w a stages)

@@ -45,27 +45,27 @@ agree_trans {plan} {k} {u} {v} {w} a b = record {
 -- views that agree, with one list of entries made anew
 pub devices_anew : {plan : Plan} {k : Region plan} {v w : Views} (xs ys : List Device) → Agree plan k v w → Alike k.inside xs ys
     → Agree plan k (record v { devices = xs }) (record w { devices = ys })
-devices_anew xs ys a b = record { devices = b; pending = a.pending; timers = a.timers; on = a.on; held = a.held; present = a.present; }
+devices_anew xs ys a b = record { devices = b; pending = a.pending; timers = a.timers; on = a.on; held = a.held; present = a.present }
 
 pub pending_anew : {plan : Plan} {k : Region plan} {v w : Views} (xs ys : List Pending) → Agree plan k v w → Alike k.inside xs ys
     → Agree plan k (record v { pending = xs }) (record w { pending = ys })
-pending_anew xs ys a b = record { devices = a.devices; pending = b; timers = a.timers; on = a.on; held = a.held; present = a.present; }
+pending_anew xs ys a b = record { devices = a.devices; pending = b; timers = a.timers; on = a.on; held = a.held; present = a.present }
 
 pub timers_anew : {plan : Plan} {k : Region plan} {v w : Views} (xs ys : List (Option Armed)) → Agree plan k v w → Alike k.inside xs ys
     → Agree plan k (record v { timers = xs }) (record w { timers = ys })
-timers_anew xs ys a b = record { devices = a.devices; pending = a.pending; timers = b; on = a.on; held = a.held; present = a.present; }
+timers_anew xs ys a b = record { devices = a.devices; pending = a.pending; timers = b; on = a.on; held = a.held; present = a.present }
 
 pub on_anew : {plan : Plan} {k : Region plan} {v w : Views} (xs ys : List Bool) → Agree plan k v w → Alike k.domains xs ys
     → Agree plan k (record v { on = xs }) (record w { on = ys })
-on_anew xs ys a b = record { devices = a.devices; pending = a.pending; timers = a.timers; on = b; held = a.held; present = a.present; }
+on_anew xs ys a b = record { devices = a.devices; pending = a.pending; timers = a.timers; on = b; held = a.held; present = a.present }
 
 pub held_anew : {plan : Plan} {k : Region plan} {v w : Views} (xs ys : List Bool) → Agree plan k v w → AlikeBy (is_own_link k) plan.links xs ys
     → Agree plan k (record v { held = xs }) (record w { held = ys })
-held_anew xs ys a b = record { devices = a.devices; pending = a.pending; timers = a.timers; on = a.on; held = b; present = a.present; }
+held_anew xs ys a b = record { devices = a.devices; pending = a.pending; timers = a.timers; on = a.on; held = b; present = a.present }
 
 pub present_anew : {plan : Plan} {k : Region plan} {v w : Views} (xs ys : List Bool) → Agree plan k v w → AlikeBy (is_own_link k) plan.links xs ys
     → Agree plan k (record v { present = xs }) (record w { present = ys })
-present_anew xs ys a b = record { devices = a.devices; pending = a.pending; timers = a.timers; on = a.on; held = a.held; present = b; }
+present_anew xs ys a b = record { devices = a.devices; pending = a.pending; timers = a.timers; on = a.on; held = a.held; present = b }
 
 pub local_same : {plan : Plan} {k : Region plan} → IsLocal plan k (λ v. v)
 local_same {plan} {k} = record { keeps = λ v w a. a; spares = λ l v apart. agree_refl plan l v; same_held = λ v. refl }

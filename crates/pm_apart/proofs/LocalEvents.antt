@@ -27,7 +27,7 @@ use Rattle.pm_model.specs.Events.{by_event, by_word, got, gave, set_status, set_
 use Rattle.pm_model.specs.PlanRows.{is_of_pair}
 use Rattle.pm_model.specs.Views.{Views, device}
 use Rattle.pm_apart.proofs.Region.{Alike, AlikeBy, Region, Agree, Apart, AreBound, IsLocal, Moves, EventIn, GetIn, WhyIn, is_own_link}
-use Rattle.pm_apart.proofs.AlikeLists.{alike_refl, alike_set, alike_aside, alike_trans, by_refl, by_map, by_aside}
+use Rattle.pm_apart.proofs.AlikeLists.{alike_refl, alike_set, alike_aside, alike_trans, by_map, by_aside}
 use Rattle.pm_apart.proofs.DomainsAlike.{up_agrees, down_agrees, up_own, down_own}
 use Rattle.pm_apart.proofs.LocalChanges.{agree_refl, agree_trans, devices_anew, held_anew, on_anew, local_same, local_then, local_device, local_request, local_queued, local_deferred, local_disarm, local_timer, local_busy, local_if, not_pair}
 

@@ -100,7 +100,7 @@ own_lawful plan p k lists l =
     lawful_rest (part p k) (own_of p k gone) (own_of p k cut) (subst (λ x. IsLawful (part p k) x) (sym (own_merged plan p k lists l.are) ∙ split) (l.lawful k))
 
 merge_of : (plan : Plan) (p : Labelled plan) (lists : List (List Line)) → OfIslands plan p lists
-    → IsLawful plan (reverse (take plan.lines (merged lists))) × Meets plan p (reverse (take plan.lines (merged lists)))
+    → IsLawful plan (reverse (take plan.lines (merged lists))) × Meets p (reverse (take plan.lines (merged lists)))
 merge_of plan p lists l =
     let m = merged lists in
     let size : length (reverse (take plan.lines m)) ≤ plan.lines = grind (arith, length-reverse (take plan.lines m), length-take plan.lines m) in
