@@ -10,8 +10,8 @@ use Rattle.pm_model.specs.Lawful.{IsLawful}
 use Rattle.pm_model.specs.World.{World, world}
 use Rattle.pm_stacks.proofs.Tests.{same_self}
 use Rattle.pm_apart.proofs.Isles.{Labelled, isle, part, part_is}
-use Rattle.pm_apart.proofs.Lists.{alike_get, by_get}
-use Rattle.pm_apart.proofs.Merging.{merges}
+use Rattle.pm_apart.proofs.AlikeLists.{alike_get, by_get}
+use Rattle.pm_apart.proofs.Whole.{merges}
 use Rattle.pm_apart.proofs.Region.{AlikeBy, WorldsAgree}
 
 -- a link whose consumer is on the island
@@ -53,5 +53,5 @@ own_are_lawful plan island h shared timely room each =
     let whole = merges plan p h timely room (λ n. lawful_on p n (own island n h) (each n)) in (
       whole.0,
       λ n q is. subst (λ q. StandAlike plan island n (world plan h) (world q (own island n h))) (sym (part_is p n q is))
-          (stand_alike plan p n (world plan h) (world (part p n) (own island n h)) (whole.1.agree n)),
+          (stand_alike plan p n (world plan h) (world (part p n) (own island n h)) (whole.1 n).0),
     )

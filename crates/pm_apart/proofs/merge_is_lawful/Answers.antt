@@ -1,5 +1,5 @@
 use Rattle.pm_apart.proofs.merge_is_lawful.Goals as goal
-use Rattle.pm_apart.proofs.Weaves as proof
+use Rattle.pm_apart.proofs.MergedLists as proof
 
 pub returns-clause-lawful : goal.returns-clause-lawful
 returns-clause-lawful c = λ plan. proof.merge_is_lawful plan

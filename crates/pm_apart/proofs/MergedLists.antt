@@ -2,9 +2,10 @@
 use Rattle.std.proofs.Common.{ℕ, zero, suc, ◌≡◌, ◌+◌, ◌<◌, ◌≤◌, Bool, true, false, cond, List, [], ◌∷◌, ◌++◌, Some, nat_eq, nat_le, length, take, drop, reverse, if◌then◌else◌, refl, sym, subst, ◌∙◌, ap, arith}
 use Rattle.std.specs.Prelude.{slice_get}
 use Rattle.std.specs.List.{list_all, filter}
-use Rattle.std.proofs.lemmas.Bool.{and_parts, eqb-true}
+use Rattle.std.proofs.lemmas.Bool.{and_from, and_parts, eqb-true}
 use Rattle.std.proofs.lemmas.List.{reverse-append, reverse-reverse, take-append-drop, append-nil, length-reverse, length-take, take_all}
 use Rattle.std.proofs.lemmas.List.Elements.{filter-append}
+use Rattle.std.proofs.lemmas.List.Folds.{list_all-append}
 use Rattle.std.proofs.lemmas.Option.{slice_get_within}
 use Rattle.pm_base.specs.declared.ActorId.{ActorId}
 use Rattle.pm_base.specs.declared.ActorId.TheVariants.{Caller, Work, Timer}
@@ -17,12 +18,12 @@ use Rattle.pm_model.specs.Lawful.{IsFinished, IsLawful, last_time}
 use Rattle.pm_stacks.proofs.Tests.{same_self}
 use Rattle.pm_apart.proofs.Finishing.{finishes, starts_finished}
 use Rattle.pm_apart.proofs.Isles.{Labelled, callers_in, home, is_home, isle, only_own_scripts, own_of, part, part_is, same_length, same_scripts}
-use Rattle.pm_apart.proofs.Lists.{alike_get}
-use Rattle.pm_apart.proofs.Merging.{Meets, merges}
-use Rattle.pm_apart.proofs.Only.{only_own}
+use Rattle.pm_apart.proofs.AlikeLists.{alike_get}
+use Rattle.pm_apart.proofs.Whole.{Meets, merges}
+use Rattle.pm_apart.proofs.OwnActors.{only_own}
 use Rattle.pm_apart.proofs.Region.{Island, is_actor_of}
 use Rattle.pm_apart.proofs.Standing.{lawful_on}
-use Rattle.pm_apart.proofs.Weaving.{AreOf, is_rising, list_of, list_of_is, merged_own, merged_rises, no_later}
+use Rattle.pm_apart.proofs.MergeOrder.{AreOf, is_rising, list_of, list_of_is, merged_own, merged_rises, no_later}
 
 abbrev line_home : {plan : Plan} → Labelled plan → Line → ℕ
 line_home p x = home p x.actor
@@ -56,15 +57,11 @@ falls_end [] x f all = (omega arith, tt)
 falls_end (y ∷ []) x f all = (le_of x.time y.time (and_parts _ _ all).0, (omega arith, tt))
 falls_end (y ∷ z ∷ g) x f all = (f.0, falls_end (z ∷ g) x f.1 (and_parts _ _ all).1)
 
-all_append : (p : Line → Bool) (xs ys : List Line) → list_all p xs ≡ true → list_all p ys ≡ true → list_all p (xs ++ ys) ≡ true
-all_append p [] ys e f = f
-all_append p (x ∷ xs) ys e f = let h = and_parts (p x) (list_all p xs) e in rw (h.0, all_append p xs ys h.1 f) refl
-
 all_reverse : (p : Line → Bool) (xs : List Line) → list_all p xs ≡ true → list_all p (reverse xs) ≡ true
 all_reverse p [] e = refl
 all_reverse p (x ∷ xs) e =
     let h = and_parts (p x) (list_all p xs) e in
-    subst (λ l. list_all p l ≡ true) (sym (reversed x xs)) (all_append p (reverse xs) (x ∷ []) (all_reverse p xs h.1) (rw h.0 refl))
+    subst (λ l. list_all p l ≡ true) (sym (reversed x xs)) (list_all-append p (reverse xs) (x ∷ []) ∙ and_from _ _ (all_reverse p xs h.1) (rw h.0 refl))
 
 rising_falls : (xs : List Line) → is_rising xs ≡ true → IsInTime (reverse xs)
 rising_falls [] r = tt
@@ -83,7 +80,7 @@ rising_take (suc n) [] r = refl
 rising_take (suc n) (x ∷ xs) r = let h = and_parts _ _ r in rw (all_take (λ y. nat_le x.time y.time) n xs h.0, rising_take n xs h.1) refl
 
 -- the lists are of the islands, in order, and each is lawful for its part
-pub record Lists (plan : Plan) (p : Labelled plan) (lists : List (List Line)) : Type 0 where
+pub record OfIslands (plan : Plan) (p : Labelled plan) (lists : List (List Line)) : Type 0 where
   pub are : AreOf (line_home p) 0 lists
   pub lawful : (k : ℕ) → IsLawful (part p k) (reverse (list_of k 0 lists))
 
@@ -92,7 +89,7 @@ own_merged : (plan : Plan) (p : Labelled plan) (k : ℕ) (lists : List (List Lin
 own_merged plan p k lists are = filter_reverse (λ x. nat_eq (line_home p x) k) (merged lists) ∙ ap reverse (merged_own (line_home p) k 0 lists are)
 
 -- and in the merge that is cut
-own_lawful : (plan : Plan) (p : Labelled plan) (k : ℕ) (lists : List (List Line)) → Lists plan p lists
+own_lawful : (plan : Plan) (p : Labelled plan) (k : ℕ) (lists : List (List Line)) → OfIslands plan p lists
     → IsLawful (part p k) (own_of p k (reverse (take plan.lines (merged lists))))
 own_lawful plan p k lists l =
     let m = merged lists in
@@ -102,8 +99,8 @@ own_lawful plan p k lists l =
     let split : own_of p k (reverse m) ≡ own_of p k gone ++ own_of p k cut = ap (own_of p k) whole ∙ filter-append (λ x. nat_eq (line_home p x) k) gone cut in
     lawful_rest (part p k) (own_of p k gone) (own_of p k cut) (subst (λ x. IsLawful (part p k) x) (sym (own_merged plan p k lists l.are) ∙ split) (l.lawful k))
 
-merge_of : (plan : Plan) (p : Labelled plan) (lists : List (List Line)) → Lists plan p lists
-    → IsLawful plan (reverse (take plan.lines (merged lists))) × Meets plan p (reverse (take plan.lines (merged lists)))
+merge_of : (plan : Plan) (p : Labelled plan) (lists : List (List Line)) → OfIslands plan p lists
+    → IsLawful plan (reverse (take plan.lines (merged lists))) × Meets p (reverse (take plan.lines (merged lists)))
 merge_of plan p lists l =
     let m = merged lists in
     let size : length (reverse (take plan.lines m)) ≤ plan.lines = grind (arith, length-reverse (take plan.lines m), length-take plan.lines m) in
@@ -154,7 +151,7 @@ rising_end [] x r e = refl
 rising_end (y ∷ xs) x r e =
     let f = and_parts (no_later y.time xs) (is_rising xs) r in
     let g = and_parts (nat_le y.time x.time) (list_all (λ y. nat_le y.time x.time) xs) e in
-    rw (all_append (λ z. nat_le y.time z.time) xs (x ∷ []) f.0 (rw g.0 refl), rising_end xs x f.1 g.1) refl
+    rw (list_all-append (λ z. nat_le y.time z.time) xs (x ∷ []) ∙ and_from _ _ f.0 (rw g.0 refl), rising_end xs x f.1 g.1) refl
 
 lawful_rises : (q : Plan) (h : List Line) → IsLawful q h → is_rising (reverse h) ≡ true
 lawful_rises q [] l = refl
@@ -190,7 +187,7 @@ each_list home n (lines ∷ lists) each = (head (each n).0, head_rises (each n).
         let none : list_of k (n + 1) lists ≡ [] = past k (n + 1) lists (omega (arith, same)) in
         (rw none refl, rw none refl)
 
-lists_of : (plan : Plan) (p : Labelled plan) (lists : List (List Line)) → ((k : ℕ) → IsLawful (part p k) (reverse (list_of k 0 lists))) → Lists plan p lists
+lists_of : (plan : Plan) (p : Labelled plan) (lists : List (List Line)) → ((k : ℕ) → IsLawful (part p k) (reverse (list_of k 0 lists))) → OfIslands plan p lists
 lists_of plan p lists lawful = record { are = each_list (line_home p) 0 lists (λ k. (its k, rises k)); lawful = lawful }
   where
     its : (k : ℕ) → list_all (λ x. nat_eq (line_home p x) k) (list_of k 0 lists) ≡ true
@@ -243,7 +240,7 @@ merge_is_finished plan island lists shared each listed room = finishes plan p cu
         found : (j : ℕ) (lines : List Line) → IsFinishedOn plan island j (reverse lines) → IsLawful (part p j) (reverse lines) × IsFinished (part p j) (reverse lines)
         found j lines on = subst (λ q. IsLawful q (reverse lines) × IsFinished q (reverse lines)) (part_is p j on.0 on.1) (on.2, on.3)
 
-    all : Lists plan p lists
+    all : OfIslands plan p lists
     all = lists_of plan p lists (λ k. (passes k).0)
 
     done : (k : ℕ) → IsFinished (part p k) (own_of p k cut)

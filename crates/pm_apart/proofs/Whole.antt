@@ -19,14 +19,14 @@ use Rattle.pm_model.specs.Views.{Views}
 use Rattle.pm_model.specs.World.{World, row, due, move, stage_at, row_at, after_line, start, world}
 use Rattle.pm_laws.proofs.Runs.{written}
 use Rattle.pm_stacks.proofs.Tests.{same_self}
-use Rattle.pm_apart.proofs.Bound.{bound_holds}
+use Rattle.pm_apart.proofs.HeldLinks.{bound_holds}
 use Rattle.pm_apart.proofs.Region.{AreBound, WorldsAgree, ArePlaced, StageIn, StagesIn, StaysIn, is_actor_of, is_own_link}
 use Rattle.pm_apart.proofs.Isles.{Labelled, are_apart, at_home, callers_in, home, isle, law_in, own_of, part, same_scripts}
-use Rattle.pm_apart.proofs.Keeping.{agree_refl}
-use Rattle.pm_apart.proofs.Lists.{alike_refl, alike_sym, alike_const, alike_get}
-use Rattle.pm_apart.proofs.Scripts.{same_change, same_event, same_row}
-use Rattle.pm_apart.proofs.Stages.{row_alike, row_stays, due_alike, bound_alike}
-use Rattle.pm_apart.proofs.Worlds.{stage_alike, stage_in, own_line, other_line, own_placed, worlds_trans, worlds_sym}
+use Rattle.pm_apart.proofs.LocalChanges.{agree_refl}
+use Rattle.pm_apart.proofs.AlikeLists.{const_at, alike_refl, alike_sym, alike_const, alike_get}
+use Rattle.pm_apart.proofs.ScriptsAside.{same_change, same_event, same_row}
+use Rattle.pm_apart.proofs.StageSteps.{row_alike, row_stays, due_alike, bound_alike}
+use Rattle.pm_apart.proofs.IslandSteps.{stage_alike, stage_in, own_line, other_line, own_placed, worlds_trans, worlds_sym}
 
 -- a stage of an island's actor doesn't read other scripts
 part_stage : (plan : Plan) (p : Labelled plan) (i : ℕ) (w : World) (a : ActorId) → is_actor_of (isle p i) a ≡ true → stage_at (part p i) w a ≡ stage_at plan w a
@@ -44,15 +44,16 @@ part_line plan p i w line (Some (writes e change next)) =
 part_line plan p i w line (Some (waits d)) = rw (same_event plan (callers_in p i) (law_in p i) line.time line.event w.views) refl
 part_line plan p i w line None = rw (same_event plan (callers_in p i) (law_in p i) line.time line.event w.views) refl
 
-pub no_place : {A B : Type 0} (rows : List A) (n : ℕ) (b : List B) → b ≡ [] → slice_index_or (map (λ _. b) rows) n [] ≡ []
-no_place [] n b e = refl
-no_place (row ∷ rows) zero b e = e
-no_place (row ∷ rows) (suc n) b e = no_place rows n b e
+abbrev pub no_stages : List Stage
+no_stages = []
 
--- after these lines each island is as after its own lines in its own plan
-pub record Meets (plan : Plan) (p : Labelled plan) (h : List Line) : Type 0 where
-  pub agree : (i : ℕ) → WorldsAgree plan (isle p i) (world plan h) (world (part p i) (own_of p i h))
-  pub placed : (i : ℕ) → ArePlaced plan (isle p i) (world (part p i) (own_of p i h))
+-- after lines h of all, and g of its own in its part, the island stands alike, and its stages lie in it
+abbrev pub Fares : {plan : Plan} → Labelled plan → ℕ → List Line → List Line → Type 0
+Fares {plan} p i h g = WorldsAgree plan (isle p i) (world plan h) (world (part p i) g) × ArePlaced plan (isle p i) (world (part p i) g)
+
+-- after these lines each island is as after its own
+abbrev pub Meets : {plan : Plan} → Labelled plan → List Line → Type 0
+Meets p h = (i : ℕ) → Fares p i h (own_of p i h)
 
 start_agrees : (plan : Plan) (p : Labelled plan) (i : ℕ) → WorldsAgree plan (isle p i) (start plan) (start (part p i))
 start_agrees plan p i = record {
@@ -64,9 +65,9 @@ start_agrees plan p i = record {
 }
 
 start_placed : (plan : Plan) (p : Labelled plan) (i : ℕ) → ArePlaced plan (isle p i) (start (part p i))
-start_placed plan p i (Caller c) own = subst (λ x. StagesIn (isle p i).region x) (sym (no_place (callers_in p i) c [] refl)) tt
-start_placed plan p i (Work d) own = subst (λ x. StagesIn (isle p i).region x) (sym (no_place plan.devices d [] refl)) tt
-start_placed plan p i (Timer d) own = subst (λ x. StagesIn (isle p i).region x) (sym (no_place plan.devices d [] refl)) tt
+start_placed plan p i (Caller c) own = subst (λ x. StagesIn (isle p i).region x) (sym (const_at (callers_in p i) c no_stages)) tt
+start_placed plan p i (Work d) own = subst (λ x. StagesIn (isle p i).region x) (sym (const_at plan.devices d no_stages)) tt
+start_placed plan p i (Timer d) own = subst (λ x. StagesIn (isle p i).region x) (sym (const_at plan.devices d no_stages)) tt
 
 -- a line that the part permits is permitted in the whole, by the same row
 record Step (plan : Plan) (p : Labelled plan) (i : ℕ) (h : List Line) (line : Line) : Type 0 where
@@ -77,22 +78,22 @@ record Step (plan : Plan) (p : Labelled plan) (i : ℕ) (h : List Line) (line : 
   there : row_at (part p i) (world (part p i) (own_of p i h)) line.actor line.time ≡ Some (writes line.event change next)
   permits : Permits plan h line
 
-step : (plan : Plan) (p : Labelled plan) (i : ℕ) (h : List Line) (line : Line) → Meets plan p h → is_actor_of (isle p i) line.actor ≡ true → last_time h ≤ line.time
+step : (plan : Plan) (p : Labelled plan) (i : ℕ) (h : List Line) (line : Line) → Meets p h → is_actor_of (isle p i) line.actor ≡ true → last_time h ≤ line.time
     → AreBound (is_own_link (isle p i).region) plan.links (world (part p i) (own_of p i h)).views.held → Permits (part p i) (own_of p i h) line → Step plan p i h line
 step plan p i h line meets home ordered bound permits =
     let k = isle p i in
     let w = world (part p i) (own_of p i h) in
-    let agree = meets.agree i in
+    let agree = (meets i).0 in
     let s = permits.stage in
     let there : stage_at plan w line.actor ≡ Some s = sym (part_stage plan p i w line.actor home) ∙ permits.stands in
-    let here : stage_at plan (world plan h) line.actor ≡ Some s = stage_alike plan k (world plan h) w line.actor agree home ∙ there in
-    let inside : StageIn k.region s = stage_in plan k w line.actor s (meets.placed i) home there in
+    let here : stage_at plan (world plan h) line.actor ≡ Some s = stage_alike line.actor agree home ∙ there in
+    let inside : StageIn k.region s = stage_in plan k w line.actor s (meets i).1 home there in
     let r : Row = writes line.event permits.change permits.next in
     let wrote : row (part p i) w.views s line.time ≡ Some r = written (due (part p i) w.views s) line.time (row (part p i) w.views s line.time) line.event permits.change permits.next permits.gives in
     let its : row plan w.views s line.time ≡ Some r = sym (same_row plan (callers_in p i) (law_in p i) w.views s line.time) ∙ wrote in
-    let ours : row plan (world plan h).views s line.time ≡ Some r = row_alike plan k.region (world plan h).views w.views line.time s agree.views inside ∙ its in
+    let ours : row plan (world plan h).views s line.time ≡ Some r = row_alike line.time s agree.views inside ∙ its in
     let dues : due plan (world plan h).views s ≡ due (part p i) w.views s =
-    due_alike plan k.region (world plan h).views w.views s agree.views inside ∙ sym (part_due plan p i w.views s) in
+    due_alike s agree.views inside ∙ sym (part_due plan p i w.views s) in
     let moves : move plan (world plan h).views s line.time ≡ Some (Write line.event permits.change permits.next) =
     rw (dues, ours) (sym (ap (λ x. option_map (timed (due (part p i) w.views s) line.time) x) wrote) ∙ permits.gives) in
     record {
@@ -113,8 +114,8 @@ pub world_goes : (plan : Plan) (h : List Line) (line : Line) (r : Option Row) �
     → world plan (line ∷ h) ≡ after_line plan (world plan h) line r
 world_goes plan h line r e = ap (λ x. after_line plan (world plan h) line x) e
 
-own_meets : (plan : Plan) (p : Labelled plan) (i : ℕ) (h : List Line) (line : Line) → Meets plan p h → is_actor_of (isle p i) line.actor ≡ true → Step plan p i h line
-    → WorldsAgree plan (isle p i) (world plan (line ∷ h)) (world (part p i) (line ∷ own_of p i h)) × ArePlaced plan (isle p i) (world (part p i) (line ∷ own_of p i h))
+own_meets : (plan : Plan) (p : Labelled plan) (i : ℕ) (h : List Line) (line : Line) → Meets p h → is_actor_of (isle p i) line.actor ≡ true → Step plan p i h line
+    → Fares p i (line ∷ h) (line ∷ own_of p i h)
 own_meets plan p i h line meets home s =
     let k = isle p i in
     let w = world (part p i) (own_of p i h) in
@@ -123,13 +124,13 @@ own_meets plan p i h line meets home s =
     world_goes (part p i) (own_of p i h) line r s.there ∙ part_line plan p i w line r in
     let ours : world plan (line ∷ h) ≡ after_line plan (world plan h) line r = world_goes plan h line r s.here in
     let agree : WorldsAgree plan k (after_line plan (world plan h) line r) (after_line plan w line r) =
-    own_line plan k (world plan h) w line line.event s.change s.next (meets.agree i) home refl s.stays in
-    let placed : ArePlaced plan k (after_line plan w line r) = own_placed plan k w line line.event s.change s.next (meets.placed i) home s.stays in (
+    own_line line s.change s.next (meets i).0 home s.stays in
+    let placed : ArePlaced plan k (after_line plan w line r) = own_placed plan k w line s.change s.next (meets i).1 home s.stays in (
       subst (λ x. WorldsAgree plan k x (world (part p i) (line ∷ own_of p i h))) (sym ours) (subst (λ y. WorldsAgree plan k (after_line plan (world plan h) line r) y) (sym its) agree),
       subst (λ y. ArePlaced plan k y) (sym its) placed,
     )
 
-other_meets : (plan : Plan) (p : Labelled plan) (i j : ℕ) (h : List Line) (line : Line) → Meets plan p h → is_actor_of (isle p i) line.actor ≡ true → nat_eq i j ≡ false
+other_meets : (plan : Plan) (p : Labelled plan) (i j : ℕ) (h : List Line) (line : Line) → Meets p h → is_actor_of (isle p i) line.actor ≡ true → nat_eq i j ≡ false
     → AreBound (is_own_link (isle p i).region) plan.links (world (part p i) (own_of p i h)).views.held → Step plan p i h line
     → WorldsAgree plan (isle p j) (world plan (line ∷ h)) (world (part p j) (own_of p j h))
 other_meets plan p i j h line meets home apart bound s =
@@ -137,15 +138,15 @@ other_meets plan p i j h line meets home apart bound s =
     let l = isle p j in
     let w = world (part p i) (own_of p i h) in
     let r = Some (writes line.event s.change s.next) in
-    let held = bound_alike (is_own_link k.region) plan.links (world plan h).views.held w.views.held (meets.agree i).views.held bound in
+    let held = bound_alike (is_own_link k.region) plan.links (world plan h).views.held w.views.held (meets i).0.views.held bound in
     let ours : world plan (line ∷ h) ≡ after_line plan (world plan h) line r = world_goes plan h line r s.here in
-    let still = other_line plan k l (world plan h) line line.event s.change s.next (are_apart p i j apart) home refl s.stays held in
-    subst (λ x. WorldsAgree plan l x (world (part p j) (own_of p j h))) (sym ours) (worlds_trans plan l _ (world plan h) _ (worlds_sym plan l _ _ still) (meets.agree j))
+    let still = other_line plan k l (world plan h) line s.change s.next (are_apart p i j apart) home s.stays held in
+    subst (λ x. WorldsAgree plan l x (world (part p j) (own_of p j h))) (sym ours) (worlds_trans (worlds_sym still) (meets j).0)
 
 -- lines whose times don't fall, no more than the plan allows, are lawful where each island's own are lawful for its part
 pub merges : (plan : Plan) (p : Labelled plan) (h : List Line) → IsInTime h → length h ≤ plan.lines → ((i : ℕ) → IsLawful (part p i) (own_of p i h))
-    → IsLawful plan h × Meets plan p h
-merges plan p [] timely room lawful = (tt, record { agree = start_agrees plan p; placed = start_placed plan p })
+    → IsLawful plan h × Meets p h
+merges plan p [] timely room lawful = (tt, λ i. (start_agrees plan p i, start_placed plan p i))
 merges plan p (line ∷ h) timely room lawful =
     let i = home p line.actor in
     let tails : (j : ℕ) → IsLawful (part p j) (own_of p j h) = λ j. tail_lawful (part p j) (nat_eq (home p line.actor) j) line (own_of p j h) (lawful j) in
@@ -154,27 +155,19 @@ merges plan p (line ∷ h) timely room lawful =
     subst (λ b. IsLawful (part p i) (cond b (line ∷ own_of p i h) (own_of p i h))) (same_self i) (lawful i) in
     let bound = bound_holds (part p i) (λ row. (isle p i).region.inside row.consumer.0) (own_of p i h) (tails i) in
     let s = step plan p i h line before.1 (at_home p line.actor) timely.0 bound mine.0 in
-    ((s.permits, omega (arith, room), before.0), record { agree = λ j. (each j before.1 bound s).0; placed = λ j. (each j before.1 bound s).1 })
+    ((s.permits, omega (arith, room), before.0), λ j. each j before.1 bound s)
   where
-    each : (j : ℕ) → Meets plan p h
+    each : (j : ℕ) → Meets p h
         → AreBound (λ row. (isle p (home p line.actor)).region.inside row.consumer.0) plan.links (world (part p (home p line.actor)) (own_of p (home p line.actor) h)).views.held
         → Step plan p (home p line.actor) h line
-        → WorldsAgree plan (isle p j) (world plan (line ∷ h)) (world (part p j) (own_of p j (line ∷ h))) × ArePlaced plan (isle p j) (world (part p j) (own_of p j (line ∷ h)))
+        → Fares p j (line ∷ h) (own_of p j (line ∷ h))
     each j meets bound s = go (nat_eq (home p line.actor) j) refl
       where
-        fit : (b : Bool) → nat_eq (home p line.actor) j ≡ b
-            → WorldsAgree plan (isle p j) (world plan (line ∷ h)) (world (part p j) (cond b (line ∷ own_of p j h) (own_of p j h)))
-            × ArePlaced plan (isle p j) (world (part p j) (cond b (line ∷ own_of p j h) (own_of p j h)))
-            → WorldsAgree plan (isle p j) (world plan (line ∷ h)) (world (part p j) (own_of p j (line ∷ h))) × ArePlaced plan (isle p j) (world (part p j) (own_of p j (line ∷ h)))
-        fit b e x =
-            subst (λ c. WorldsAgree plan (isle p j) (world plan (line ∷ h)) (world (part p j) (cond c (line ∷ own_of p j h) (own_of p j h)))
-            × ArePlaced plan (isle p j) (world (part p j) (cond c (line ∷ own_of p j h) (own_of p j h)))) (sym e) x
+        fit : (b : Bool) → nat_eq (home p line.actor) j ≡ b → Fares p j (line ∷ h) (cond b (line ∷ own_of p j h) (own_of p j h)) → Fares p j (line ∷ h) (own_of p j (line ∷ h))
+        fit b e x = subst (λ c. Fares p j (line ∷ h) (cond c (line ∷ own_of p j h) (own_of p j h))) (sym e) x
 
-        go : (b : Bool) → nat_eq (home p line.actor) j ≡ b
-            → WorldsAgree plan (isle p j) (world plan (line ∷ h)) (world (part p j) (own_of p j (line ∷ h))) × ArePlaced plan (isle p j) (world (part p j) (own_of p j (line ∷ h)))
+        go : (b : Bool) → nat_eq (home p line.actor) j ≡ b → Fares p j (line ∷ h) (own_of p j (line ∷ h))
         go true e =
             let same : home p line.actor ≡ j = eqb-true (home p line.actor) j e in
-            fit true e
-            (subst (λ n. WorldsAgree plan (isle p n) (world plan (line ∷ h)) (world (part p n) (line ∷ own_of p n h)) × ArePlaced plan (isle p n) (world (part p n) (line ∷ own_of p n h)))
-            same (own_meets plan p (home p line.actor) h line meets (at_home p line.actor) s))
-        go false e = fit false e (other_meets plan p (home p line.actor) j h line meets (at_home p line.actor) e bound s, meets.placed j)
+            fit true e (subst (λ n. Fares p n (line ∷ h) (line ∷ own_of p n h)) same (own_meets plan p (home p line.actor) h line meets (at_home p line.actor) s))
+        go false e = fit false e (other_meets plan p (home p line.actor) j h line meets (at_home p line.actor) e bound s, (meets j).1)

@@ -111,9 +111,6 @@ abbrev pub AreOf : (Line → ℕ) → ℕ → List (List Line) → Type 0
 AreOf home n [] = Unit {0}
 AreOf home n (lines ∷ lists) = (list_all (λ x. nat_eq (home x) n) lines ≡ true) × (is_rising lines ≡ true) × AreOf home (n + 1) lists
 
-eq_sym : (a b : ℕ) → nat_eq a b ≡ false → nat_eq b a ≡ false
-eq_sym a b e = grind arith
-
 not_home : (home : Line → ℕ) (n k : ℕ) (xs : List Line) → nat_eq n k ≡ false → list_all (λ x. nat_eq (home x) n) xs ≡ true → list_all (λ x. not (nat_eq (home x) k)) xs ≡ true
 not_home home n k [] apart all = refl
 not_home home n k (x ∷ xs) apart all =

@@ -23,12 +23,12 @@ use Rattle.pm_model.specs.Row.{writes}
 use Rattle.pm_model.specs.Spelling.{takes_device}
 use Rattle.pm_model.specs.Views.{Views, pending_of, timer}
 use Rattle.pm_model.specs.World.{World, place, with_place, called_by, ready, top, stage_at, counts_call, after_line}
-use Rattle.pm_apart.proofs.Region.{Alike, AreBound, DeviceIn, EventIn, Region, Agree, Island, WorldsAgree, AreApart, ArePlaced, is_actor_of, is_own_link, StageIn, StagesIn, StaysIn}
-use Rattle.pm_apart.proofs.Lists.{alike_at, alike_refl, alike_set, alike_aside, alike_trans, alike_sym, by_sym}
-use Rattle.pm_apart.proofs.Agreeing.{pending_agrees, timer_agrees}
-use Rattle.pm_apart.proofs.Keeping.{agree_refl, agree_trans, change_local}
-use Rattle.pm_apart.proofs.EventsKeep.{event_moves}
-use Rattle.pm_apart.proofs.Stages.{after_in}
+use Rattle.pm_apart.proofs.Region.{Alike, AreBound, DeviceIn, Region, Agree, Island, WorldsAgree, AreApart, ArePlaced, is_actor_of, is_own_link, StageIn, StagesIn, StaysIn}
+use Rattle.pm_apart.proofs.AlikeLists.{alike_at, alike_refl, alike_set, alike_aside, alike_trans, alike_sym, by_sym}
+use Rattle.pm_apart.proofs.ViewsAlike.{pending_agrees, timer_agrees}
+use Rattle.pm_apart.proofs.LocalChanges.{agree_refl, agree_trans, change_local}
+use Rattle.pm_apart.proofs.LocalEvents.{event_moves}
+use Rattle.pm_apart.proofs.StageSteps.{after_in}
 
 pub worlds_refl : (plan : Plan) (k : Island plan) (v : World) → WorldsAgree plan k v v
 worlds_refl plan k v = record {
@@ -39,27 +39,27 @@ worlds_refl plan k v = record {
   called = alike_refl k.callers v.called;
 }
 
-pub worlds_trans : (plan : Plan) (k : Island plan) (u v w : World) → WorldsAgree plan k u v → WorldsAgree plan k v w → WorldsAgree plan k u w
-worlds_trans plan k u v w a b = record {
-  views = agree_trans plan k.region u.views v.views w.views a.views b.views;
+pub worlds_trans : {plan : Plan} {k : Island plan} {u v w : World} → WorldsAgree plan k u v → WorldsAgree plan k v w → WorldsAgree plan k u w
+worlds_trans {plan} {k} {u} {v} {w} a b = record {
+  views = agree_trans a.views b.views;
   caller_places = alike_trans k.callers u.caller_places v.caller_places w.caller_places a.caller_places b.caller_places;
   work_places = alike_trans k.region.inside u.work_places v.work_places w.work_places a.work_places b.work_places;
   timer_places = alike_trans k.region.inside u.timer_places v.timer_places w.timer_places a.timer_places b.timer_places;
   called = alike_trans k.callers u.called v.called w.called a.called b.called;
 }
 
-pub place_alike : (plan : Plan) (k : Island plan) (v w : World) (a : ActorId) → WorldsAgree plan k v w → is_actor_of k a ≡ true → place v a ≡ place w a
-place_alike plan k v w (Caller c) a i = alike_at k.callers v.caller_places w.caller_places c [] a.caller_places i
-place_alike plan k v w (Work d) a i = alike_at k.region.inside v.work_places w.work_places d [] a.work_places i
-place_alike plan k v w (Timer d) a i = alike_at k.region.inside v.timer_places w.timer_places d [] a.timer_places i
+pub place_alike : {plan : Plan} {k : Island plan} {v w : World} (a : ActorId) → WorldsAgree plan k v w → is_actor_of k a ≡ true → place v a ≡ place w a
+place_alike {plan} {k} {v} {w} (Caller c) a i = alike_at k.callers v.caller_places w.caller_places c [] a.caller_places i
+place_alike {plan} {k} {v} {w} (Work d) a i = alike_at k.region.inside v.work_places w.work_places d [] a.work_places i
+place_alike {plan} {k} {v} {w} (Timer d) a i = alike_at k.region.inside v.timer_places w.timer_places d [] a.timer_places i
 
-ready_alike : (plan : Plan) (k : Island plan) (v w : World) (a : ActorId) → WorldsAgree plan k v w → is_actor_of k a ≡ true → ready plan v a ≡ ready plan w a
-ready_alike plan k v w (Caller c) a i = rw (alike_at k.callers v.called w.called c 0 a.called i) refl
-ready_alike plan k v w (Work d) a i = rw (pending_agrees plan k.region v.views w.views (record { 0 = d }) a.views i) refl
-ready_alike plan k v w (Timer d) a i = rw (timer_agrees plan k.region v.views w.views (record { 0 = d }) a.views i) refl
+ready_alike : {plan : Plan} {k : Island plan} {v w : World} (a : ActorId) → WorldsAgree plan k v w → is_actor_of k a ≡ true → ready plan v a ≡ ready plan w a
+ready_alike {plan} {k} {v} {w} (Caller c) a i = rw (alike_at k.callers v.called w.called c 0 a.called i) refl
+ready_alike (Work d) a i = rw (pending_agrees (record { 0 = d }) a.views i) refl
+ready_alike (Timer d) a i = rw (timer_agrees (record { 0 = d }) a.views i) refl
 
-pub stage_alike : (plan : Plan) (k : Island plan) (v w : World) (a : ActorId) → WorldsAgree plan k v w → is_actor_of k a ≡ true → stage_at plan v a ≡ stage_at plan w a
-stage_alike plan k v w x a i = rw (place_alike plan k v w x a i, ready_alike plan k v w x a i) refl
+pub stage_alike : {plan : Plan} {k : Island plan} {v w : World} (a : ActorId) → WorldsAgree plan k v w → is_actor_of k a ≡ true → stage_at plan v a ≡ stage_at plan w a
+stage_alike x a i = rw (place_alike x a i, ready_alike x a i) refl
 
 some_stage : (x y : Stage) → Some x ≡ Some y → x ≡ y
 some_stage x y e = cc
@@ -119,60 +119,37 @@ counts_aside : (plan : Plan) (k l : Island plan) (a : ActorId) (e : Event) (xs :
 counts_aside plan k l (Caller c) (event.Call command) xs apart i = alike_aside l.callers xs c _ (apart.callers c i)
 counts_aside plan k l _ _ xs apart i = alike_refl l.callers xs
 
+-- worlds that agree, with one list of places made anew
+caller_places_anew : {plan : Plan} {k : Island plan} {v w : World} (xs ys : List (List Stage)) → WorldsAgree plan k v w → Alike k.callers xs ys
+    → WorldsAgree plan k (record v { caller_places = xs }) (record w { caller_places = ys })
+caller_places_anew xs ys a b = record { views = a.views; caller_places = b; work_places = a.work_places; timer_places = a.timer_places; called = a.called }
+
+work_places_anew : {plan : Plan} {k : Island plan} {v w : World} (xs ys : List (List Stage)) → WorldsAgree plan k v w → Alike k.region.inside xs ys
+    → WorldsAgree plan k (record v { work_places = xs }) (record w { work_places = ys })
+work_places_anew xs ys a b = record { views = a.views; caller_places = a.caller_places; work_places = b; timer_places = a.timer_places; called = a.called }
+
+timer_places_anew : {plan : Plan} {k : Island plan} {v w : World} (xs ys : List (List Stage)) → WorldsAgree plan k v w → Alike k.region.inside xs ys
+    → WorldsAgree plan k (record v { timer_places = xs }) (record w { timer_places = ys })
+timer_places_anew xs ys a b = record { views = a.views; caller_places = a.caller_places; work_places = a.work_places; timer_places = b; called = a.called }
+
 -- a place is set
-put_alike : (plan : Plan) (k : Island plan) (v w : World) (a : ActorId) (stages : List Stage) → WorldsAgree plan k v w → WorldsAgree plan k (with_place v a stages) (with_place w a stages)
-put_alike plan k v w (Caller c) stages a = record {
-  views = a.views;
-  caller_places = alike_set k.callers v.caller_places w.caller_places c stages stages a.caller_places (λ _. refl);
-  work_places = a.work_places;
-  timer_places = a.timer_places;
-  called = a.called;
-}
-put_alike plan k v w (Work d) stages a = record {
-  views = a.views;
-  caller_places = a.caller_places;
-  work_places = alike_set k.region.inside v.work_places w.work_places d stages stages a.work_places (λ _. refl);
-  timer_places = a.timer_places;
-  called = a.called;
-}
-put_alike plan k v w (Timer d) stages a = record {
-  views = a.views;
-  caller_places = a.caller_places;
-  work_places = a.work_places;
-  timer_places = alike_set k.region.inside v.timer_places w.timer_places d stages stages a.timer_places (λ _. refl);
-  called = a.called;
-}
+put_alike : {plan : Plan} {k : Island plan} {v w : World} (a : ActorId) (stages : List Stage) → WorldsAgree plan k v w → WorldsAgree plan k (with_place v a stages) (with_place w a stages)
+put_alike {plan} {k} {v} {w} (Caller c) stages a = caller_places_anew _ _ a (alike_set k.callers v.caller_places w.caller_places c stages stages a.caller_places (λ _. refl))
+put_alike {plan} {k} {v} {w} (Work d) stages a = work_places_anew _ _ a (alike_set k.region.inside v.work_places w.work_places d stages stages a.work_places (λ _. refl))
+put_alike {plan} {k} {v} {w} (Timer d) stages a = timer_places_anew _ _ a (alike_set k.region.inside v.timer_places w.timer_places d stages stages a.timer_places (λ _. refl))
 
 put_aside : (plan : Plan) (k l : Island plan) (v : World) (a : ActorId) (stages : List Stage) → AreApart plan k l → is_actor_of k a ≡ true
     → WorldsAgree plan l v (with_place v a stages)
-put_aside plan k l v (Caller c) stages apart i = record {
-  views = agree_refl plan l.region v.views;
-  caller_places = alike_aside l.callers v.caller_places c stages (apart.callers c i);
-  work_places = alike_refl l.region.inside v.work_places;
-  timer_places = alike_refl l.region.inside v.timer_places;
-  called = alike_refl l.callers v.called;
-}
-put_aside plan k l v (Work d) stages apart i = record {
-  views = agree_refl plan l.region v.views;
-  caller_places = alike_refl l.callers v.caller_places;
-  work_places = alike_aside l.region.inside v.work_places d stages (apart.regions.devices d i);
-  timer_places = alike_refl l.region.inside v.timer_places;
-  called = alike_refl l.callers v.called;
-}
-put_aside plan k l v (Timer d) stages apart i = record {
-  views = agree_refl plan l.region v.views;
-  caller_places = alike_refl l.callers v.caller_places;
-  work_places = alike_refl l.region.inside v.work_places;
-  timer_places = alike_aside l.region.inside v.timer_places d stages (apart.regions.devices d i);
-  called = alike_refl l.callers v.called;
-}
+put_aside plan k l v (Caller c) stages apart i = caller_places_anew _ _ (worlds_refl plan l v) (alike_aside l.callers v.caller_places c stages (apart.callers c i))
+put_aside plan k l v (Work d) stages apart i = work_places_anew _ _ (worlds_refl plan l v) (alike_aside l.region.inside v.work_places d stages (apart.regions.devices d i))
+put_aside plan k l v (Timer d) stages apart i = timer_places_anew _ _ (worlds_refl plan l v) (alike_aside l.region.inside v.timer_places d stages (apart.regions.devices d i))
 
 -- a line of the island's own
-pub own_line : (plan : Plan) (k : Island plan) (v w : World) (line : Line) (e : Event) (change : Change) (next : Then)
-    → WorldsAgree plan k v w → is_actor_of k line.actor ≡ true → line.event ≡ e → StaysIn plan k.region (writes e change next)
-    → WorldsAgree plan k (after_line plan v line (Some (writes e change next))) (after_line plan w line (Some (writes e change next)))
-own_line plan k v w line e change next a i is stays =
-    let moved = event_moves {plan = plan} {k = k.region} line.time line.event (subst (λ x. EventIn k.region x) (sym is) stays.paid.0) in
+pub own_line : {plan : Plan} {k : Island plan} {v w : World} (line : Line) (change : Change) (next : Then)
+    → WorldsAgree plan k v w → is_actor_of k line.actor ≡ true → StaysIn plan k.region (writes line.event change next)
+    → WorldsAgree plan k (after_line plan v line (Some (writes line.event change next))) (after_line plan w line (Some (writes line.event change next)))
+own_line {plan} {k} {v} {w} line change next a i stays =
+    let moved = event_moves {plan = plan} {k = k.region} line.time line.event stays.paid.0 in
     let local = change_local {plan = plan} {k = k.region} line.time change stays.paid.1 in
     let views = moved.keeps (change_views plan line.time change v.views) (change_views plan line.time change w.views) (local.keeps v.views w.views a.views) in
     let here : WorldsAgree plan k (record v { views = by_event plan line.time line.event (change_views plan line.time change v.views); called = counts_call line.actor line.event v.called })
@@ -184,19 +161,19 @@ own_line plan k v w line e change next a i is stays =
       timer_places = a.timer_places;
       called = counts_alike plan k line.actor line.event v.called w.called i a.called;
     } in
-    rw (place_alike plan k v w line.actor a i) (put_alike plan k _ _ line.actor (after_then next (drop 1 (place w line.actor))) here)
+    rw (place_alike line.actor a i) (put_alike line.actor (after_then next (drop 1 (place w line.actor))) here)
 
 -- a line of another island's
-pub other_line : (plan : Plan) (k l : Island plan) (v : World) (line : Line) (e : Event) (change : Change) (next : Then)
-    → AreApart plan k l → is_actor_of k line.actor ≡ true → line.event ≡ e → StaysIn plan k.region (writes e change next) → AreBound (is_own_link k.region) plan.links v.views.held
-    → WorldsAgree plan l v (after_line plan v line (Some (writes e change next)))
-other_line plan k l v line e change next apart i is stays bound =
-    let moved = event_moves {plan = plan} {k = k.region} line.time line.event (subst (λ x. EventIn k.region x) (sym is) stays.paid.0) in
+pub other_line : (plan : Plan) (k l : Island plan) (v : World) (line : Line) (change : Change) (next : Then)
+    → AreApart plan k l → is_actor_of k line.actor ≡ true → StaysIn plan k.region (writes line.event change next) → AreBound (is_own_link k.region) plan.links v.views.held
+    → WorldsAgree plan l v (after_line plan v line (Some (writes line.event change next)))
+other_line plan k l v line change next apart i stays bound =
+    let moved = event_moves {plan = plan} {k = k.region} line.time line.event stays.paid.0 in
     let local = change_local {plan = plan} {k = k.region} line.time change stays.paid.1 in
     let first = local.spares l.region v.views apart.regions in
     let changed = change_views plan line.time change v.views in
     let still = subst (λ hs. AreBound (is_own_link k.region) plan.links hs) (sym (local.same_held v.views)) bound in
-    let views = agree_trans plan l.region v.views changed _ first (moved.spares l.region changed apart.regions still) in
+    let views = agree_trans first (moved.spares l.region changed apart.regions still) in
     let u : World = record v { views = by_event plan line.time line.event (change_views plan line.time change v.views); called = counts_call line.actor line.event v.called } in
     let here : WorldsAgree plan l v u =
     record {
@@ -206,7 +183,7 @@ other_line plan k l v line e change next apart i is stays bound =
       timer_places = alike_refl l.region.inside v.timer_places;
       called = counts_aside plan k l line.actor line.event v.called apart i;
     } in
-    worlds_trans plan l v u _ here (put_aside plan k l u line.actor (after_then next (drop 1 (place v line.actor))) apart i)
+    worlds_trans here (put_aside plan k l u line.actor (after_then next (drop 1 (place v line.actor))) apart i)
 
 -- places stay in the island: those of other actors are as they were, and the line's holds what takes the stage's place
 set_in : (plan : Plan) (k : Region plan) (xs : List (List Stage)) (i j : ℕ) (stages : List Stage) → StagesIn k stages → StagesIn k (slice_index_or xs j [])
@@ -228,10 +205,10 @@ put_placed plan k w (Work d) stages placed new (Timer x) i = placed (Timer x) i
 put_placed plan k w (Timer d) stages placed new (Caller x) i = placed (Caller x) i
 put_placed plan k w (Timer d) stages placed new (Work x) i = placed (Work x) i
 
-pub own_placed : (plan : Plan) (k : Island plan) (w : World) (line : Line) (e : Event) (change : Change) (next : Then)
-    → ArePlaced plan k w → is_actor_of k line.actor ≡ true → StaysIn plan k.region (writes e change next)
-    → ArePlaced plan k (after_line plan w line (Some (writes e change next)))
-own_placed plan k w line e change next placed i stays =
+pub own_placed : (plan : Plan) (k : Island plan) (w : World) (line : Line) (change : Change) (next : Then)
+    → ArePlaced plan k w → is_actor_of k line.actor ≡ true → StaysIn plan k.region (writes line.event change next)
+    → ArePlaced plan k (after_line plan w line (Some (writes line.event change next)))
+own_placed plan k w line change next placed i stays =
     let new = after_in plan k.region next (drop 1 (place w line.actor)) stays.paid.2 (drop_in plan k.region (place w line.actor) (placed line.actor i)) in
     let u : World = record w { views = by_event plan line.time line.event (change_views plan line.time change w.views); called = counts_call line.actor line.event w.called } in
     let before : ArePlaced plan k u = λ a own. placed_same a own in
@@ -243,8 +220,8 @@ own_placed plan k w line e change next placed i stays =
     placed_same (Work d) own = placed (Work d) own
     placed_same (Timer d) own = placed (Timer d) own
 
-agree_sym : (plan : Plan) (k : Region plan) (v w : Views) → Agree plan k v w → Agree plan k w v
-agree_sym plan k v w a = record {
+agree_sym : {plan : Plan} {k : Region plan} {v w : Views} → Agree plan k v w → Agree plan k w v
+agree_sym {plan} {k} {v} {w} a = record {
   devices = alike_sym k.inside v.devices w.devices a.devices;
   pending = alike_sym k.inside v.pending w.pending a.pending;
   timers = alike_sym k.inside v.timers w.timers a.timers;
@@ -253,9 +230,9 @@ agree_sym plan k v w a = record {
   present = by_sym (is_own_link k) plan.links v.present w.present a.present;
 }
 
-pub worlds_sym : (plan : Plan) (k : Island plan) (v w : World) → WorldsAgree plan k v w → WorldsAgree plan k w v
-worlds_sym plan k v w a = record {
-  views = agree_sym plan k.region v.views w.views a.views;
+pub worlds_sym : {plan : Plan} {k : Island plan} {v w : World} → WorldsAgree plan k v w → WorldsAgree plan k w v
+worlds_sym {plan} {k} {v} {w} a = record {
+  views = agree_sym a.views;
   caller_places = alike_sym k.callers v.caller_places w.caller_places a.caller_places;
   work_places = alike_sym k.region.inside v.work_places w.work_places a.work_places;
   timer_places = alike_sym k.region.inside v.timer_places w.timer_places a.timer_places;

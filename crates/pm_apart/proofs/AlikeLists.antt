@@ -107,3 +107,9 @@ alike_const inside b [] [] a = tt
 alike_const inside b [] (y ∷ ys) a = absurd a
 alike_const inside b (x ∷ xs) [] a = absurd a
 alike_const inside b (x ∷ xs) (y ∷ ys) a = (λ _. refl, alike_const (λ n. inside (suc n)) b xs ys a.1)
+
+-- one entry again and again
+pub const_at : {A B : Type 0} (rows : List A) (n : ℕ) (b : B) → slice_index_or (map (λ _. b) rows) n b ≡ b
+const_at [] n b = refl
+const_at (row ∷ rows) zero b = refl
+const_at (row ∷ rows) (suc n) b = const_at rows n b
