@@ -10,5 +10,7 @@ mod tests;
 
 pub use answers::{Bond, Inspect};
 pub use inspecting::inspect;
+pub use pm_kept::kept;
 pub use pm_running::{runs_are_exclusive, runs_are_safe};
 pub use pm_stuck::never_stuck;
+pub use pm_succeed::gets_succeed;
