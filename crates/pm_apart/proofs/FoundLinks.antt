@@ -95,10 +95,10 @@ unfolding first_free
 free_runtime plan v d x e = least_has (λ s. IsRuntimePair plan d s) _ 0 plan.links v.held v.present (λ l row h p at f. each l row h p at f) x e
   where
     each : (l : ℕ) (row : LinkRow) (h p : Bool) → slice_get plan.links l ≡ Some row → is_link_of d row p && not h ≡ true → IsRuntimePair plan d row.supplier
-    each l row h p at f = λ n other found pair.
+    each l row h p at f = λ n other found of_pair.
         let x = and_parts (nat_eq row.consumer.0 d.0 && row.pm_runtime) p (and_parts _ (not h) f).0 in
         let y = and_parts (nat_eq row.consumer.0 d.0) row.pm_runtime x.0 in
-        let z = and_parts (nat_eq other.consumer.0 d.0) (nat_eq other.supplier.0 row.supplier.0) pair in
+        let z = and_parts (nat_eq other.consumer.0 d.0) (nat_eq other.supplier.0 row.supplier.0) of_pair in
         let same : is_same_pair row other ≡ true =
         rw (eqb-true row.consumer.0 d.0 y.0, eqb-true other.consumer.0 d.0 z.0, eqb-true other.supplier.0 row.supplier.0 z.1, same_self d.0, same_self row.supplier.0) refl in
         let one = one_link plan.links l n row other (distinct_links plan plan.law) at found same in

@@ -33,8 +33,8 @@ put_no_later t x (y ∷ ys) e all =
   where
     go : (b : Bool) → nat_le t y.time ≡ true → no_later t ys ≡ true → no_later t (put_in x ys) ≡ true
         → no_later t (if b then x ∷ y ∷ ys else y ∷ put_in x ys) ≡ true
-    go true f g put = rw (e, f, g) refl
-    go false f g put = rw (f, put) refl
+    go true f g kept = rw (e, f, g) refl
+    go false f g kept = rw (f, kept) refl
 
 put_rises : (x : Line) (ys : List Line) → is_rising ys ≡ true → is_rising (put_in x ys) ≡ true
 put_rises x [] r = refl
@@ -42,8 +42,8 @@ put_rises x (y ∷ ys) r = let h = and_parts _ _ r in go (nat_le x.time y.time) 
   where
     go : (b : Bool) → nat_le x.time y.time ≡ b → no_later y.time ys ≡ true → is_rising ys ≡ true → is_rising (put_in x ys) ≡ true
         → is_rising (if b then x ∷ y ∷ ys else y ∷ put_in x ys) ≡ true
-    go true e f g put = rw (e, later_still x.time y.time ys e f, f, g) refl
-    go false e f g put = rw (put_no_later y.time x ys (le_total x.time y.time e) f, put) refl
+    go true e f g kept = rw (e, later_still x.time y.time ys e f, f, g) refl
+    go false e f g kept = rw (put_no_later y.time x ys (le_total x.time y.time e) f, kept) refl
 
 merge_rises : (xs rest : List Line) → is_rising rest ≡ true → is_rising (merge_in xs rest) ≡ true
 merge_rises [] rest r = r
