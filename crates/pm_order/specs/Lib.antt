@@ -1,0 +1,3 @@
+pub mod Glance
+pub mod Looks
+pub mod Told
