@@ -1,5 +1,5 @@
 -- Devices have their domains on, after every lawful list of lines.
-use Rattle.std.proofs.Common.{ℕ, zero, suc, ◌≡◌, ◌+◌, ◌<◌, ◌≤◌, ◌⊎◌, inl, inr, Bool, true, false, not, ◌&&◌, List, [], ◌∷◌, Option, Some, None, length, nat_eq, slice_get, if◌then◌else◌, ap, refl, sym, ◌∙◌, arith, subst}
+use Rattle.std.proofs.Common.{ℕ, zero, suc, ◌≡◌, ◌+◌, ◌<◌, ◌≤◌, ◌⊎◌, inl, inr, Bool, true, false, not, ◌&&◌, List, [], ◌∷◌, Option, Some, None, length, nat_eq, slice_get, ap, refl, sym, ◌∙◌, arith, subst}
 use Rattle.std.specs.Prelude.{◌||◌}
 use Rattle.std.specs.List.{list_all, enumerate_from}
 use Rattle.std.specs.Option.{unwrap_or, option_map_or}
@@ -8,14 +8,13 @@ use Rattle.std.proofs.lemmas.Grind.{common_steps}
 use Rattle.std.proofs.lemmas.Option.{slice_get_past}
 use Rattle.pm_base.specs.declared.DevId.{DevId}
 use Rattle.pm_base.specs.declared.DomId.{DomId}
-use Rattle.pm_base.specs.declared.Status.{Status}
 use Rattle.pm_model.specs.declared.event.Event.{Event}
 use Rattle.pm_model.specs.declared.event.Event.TheVariants as event
 use Rattle.pm_model.specs.declared.event.Line.{Line}
 use Rattle.pm_model.specs.declared.plan.Plan.{Plan}
 use Rattle.pm_model.specs.declared.rows.DeviceRow.{DeviceRow}
 use Rattle.pm_model.specs.Counted.{is_same, only_if, says_on}
-use Rattle.pm_model.specs.Derived.{is_active, is_suspended, is_active_status, is_suspended_status, are_quiet, down, up}
+use Rattle.pm_model.specs.Derived.{is_suspended, is_active_status, is_suspended_status, are_quiet, down, up}
 use Rattle.pm_model.specs.Excuse.{becomes_active, is_excused_from_domain}
 use Rattle.pm_model.specs.History.{History}
 use Rattle.pm_model.specs.Lawful.{IsLawful}
@@ -25,12 +24,12 @@ use Rattle.pm_model.specs.World.{World, world}
 use Rattle.pm_sums.specs.Sums.{one, tally}
 use Rattle.pm_laws.proofs.Links.{both, eq_sym}
 use Rattle.pm_laws.proofs.Runs.{Holds, lawful_holds}
-use Rattle.pm_kinds.specs.Parts.{Phase, lowering, giving, failed, falling, setting, unsetting, part_at, counts, at_part, any_phase, passes}
-use Rattle.pm_kinds.specs.Kinds.{Kind, lowers_domain, resumes_quiet, raises_domain, begins_at_once, forces_bare, forces_held, dev_of, from, to, old, new, turn, says, EventIs, Guard, lowers, lets_go}
+use Rattle.pm_kinds.specs.Parts.{Phase, lowering, giving, failed, falling, unsetting, at_part, passes}
+use Rattle.pm_kinds.specs.Kinds.{Kind, lowers_domain, resumes_quiet, raises_domain, begins_at_once, forces_bare, forces_held, dev_of, from, to, turn, says, EventIs, Guard, lowers, lets_go}
 use Rattle.pm_kinds.specs.LineKind.{HasKind}
 use Rattle.pm_kinds.proofs.Lines.{line_kind}
 use Rattle.pm_bonds.specs.Bonds.{DomainStays}
-use Rattle.pm_kinds.specs.Needs.{needs_domain, Needs}
+use Rattle.pm_kinds.specs.Needs.{needs_domain}
 use Rattle.pm_bonds.proofs.Chains.{among, quiet_domain, domain_within, head_in, in_up, down_went}
 use Rattle.pm_bonds.proofs.LinkRows.{some_row}
 use Rattle.pm_bonds.proofs.Nests.{NestDomains, domains_nest}

@@ -1,7 +1,6 @@
 -- Which lines let a device enter, and which let it leave Active or Suspended.
-use Rattle.std.proofs.Common.{ℕ, ◌≡◌, ◌+◌, ◌≤◌, ◌⊎◌, inl, inr, Bool, true, false, not, ◌&&◌, Option, Some, None, ap, refl, sym, ◌∙◌, arith, subst}
+use Rattle.std.proofs.Common.{ℕ, ◌≡◌, ◌⊎◌, inl, inr, Bool, true, false, not, ◌&&◌, Option, Some, None, ap, refl, arith, subst}
 use Rattle.std.specs.Option.{unwrap_or}
-use Rattle.std.specs.Prelude.{◌||◌}
 use Rattle.pm_base.specs.declared.DevId.{DevId}
 use Rattle.pm_base.specs.declared.Status.{Status}
 use Rattle.pm_base.specs.declared.Status.TheVariants as status

@@ -1,5 +1,5 @@
 -- What the links that a row finds, or doesn't find, say of each link.
-use Rattle.std.proofs.Common.{ℕ, zero, suc, ◌≡◌, ◌+◌, ◌<◌, Bool, true, false, not, ◌&&◌, List, [], ◌∷◌, Option, Some, None, length, map, nat_eq, nat_le, slice_get, slice_index_or, if◌then◌else◌, ap, refl, sym, ◌∙◌, arith}
+use Rattle.std.proofs.Common.{ℕ, zero, suc, ◌≡◌, ◌+◌, ◌<◌, Bool, true, false, not, ◌&&◌, List, [], ◌∷◌, Option, Some, None, length, nat_eq, nat_le, slice_get, slice_index_or, if◌then◌else◌, ap, refl, sym, ◌∙◌, arith}
 use Rattle.std.specs.Prelude.{is_some, ◌||◌}
 use Rattle.std.specs.List.{zip, list_any, list_all}
 use Rattle.std.proofs.lemmas.Bool.{eqb-true, false≢true}

@@ -1,5 +1,5 @@
 -- Devices hold their links, after every lawful list of lines.
-use Rattle.std.proofs.Common.{ℕ, zero, suc, ◌≡◌, ◌+◌, ◌<◌, ◌≤◌, Bool, true, false, ◌&&◌, List, [], ◌∷◌, Option, Some, None, length, slice_get, if◌then◌else◌, ap, refl, sym, ◌∙◌, arith, subst}
+use Rattle.std.proofs.Common.{ℕ, ◌≡◌, ◌+◌, ◌<◌, ◌≤◌, Bool, true, false, ◌&&◌, [], ◌∷◌, Option, Some, None, length, slice_get, ap, refl, sym, ◌∙◌, arith, subst}
 use Rattle.std.specs.Prelude.{◌||◌}
 use Rattle.std.specs.Option.{unwrap_or}
 use Rattle.std.proofs.lemmas.Bool.{ltb-true}
@@ -11,17 +11,17 @@ use Rattle.pm_model.specs.declared.event.Line.{Line}
 use Rattle.pm_model.specs.declared.plan.Plan.{Plan}
 use Rattle.pm_model.specs.declared.rows.LinkRow.{LinkRow}
 use Rattle.pm_model.specs.Counted.{is_same, only_if}
-use Rattle.pm_model.specs.Derived.{is_active, is_suspended, is_moving, is_active_status, is_suspended_status, is_suspending_status, is_resuming_status}
+use Rattle.pm_model.specs.Derived.{is_suspended, is_moving, is_active_status, is_suspended_status, is_suspending_status, is_resuming_status}
 use Rattle.pm_model.specs.History.{History}
 use Rattle.pm_model.specs.IsPlan.{is_link}
 use Rattle.pm_model.specs.Lawful.{IsLawful}
 use Rattle.pm_model.specs.Views.{Views, device, is_held, is_present}
-use Rattle.pm_model.specs.World.{World, start, world}
+use Rattle.pm_model.specs.World.{World, world}
 use Rattle.pm_sums.specs.Sums.{one, tally}
 use Rattle.pm_laws.proofs.Links.{both, lawful_links}
 use Rattle.pm_laws.proofs.Runs.{Holds, lawful_holds}
 use Rattle.pm_laws.proofs.Said.{start_held}
-use Rattle.pm_kinds.specs.Parts.{Phase, giving, preparing, falling, setting, unsetting, Part, counts, at_part, any_phase, Falls}
+use Rattle.pm_kinds.specs.Parts.{Phase, giving, falling, unsetting, counts, at_part, any_phase}
 use Rattle.pm_kinds.specs.Kinds.{Kind, gives_link, suspends, suspends_quiet, resumes_quiet, takes_link, raises_domain, begins_at_once, forces_bare, forces_held, forces_off, adds_link, drops_link, drops_held, dev_of, old, new, turn, turned, says, holds, shows, Guard, lets_go}
 use Rattle.pm_kinds.specs.LineKind.{HasKind}
 use Rattle.pm_kinds.proofs.Lines.{line_kind}
@@ -29,7 +29,7 @@ use Rattle.pm_kinds.proofs.Owners.{some_parts}
 use Rattle.pm_bonds.specs.Bonds.{is_taken}
 use Rattle.pm_kinds.specs.Needs.{needs_links, Needs}
 use Rattle.pm_bonds.proofs.LinkRows.{LinkAt, all_at, none_held, none_free, no_link, not_runtime, found_free, not_in}
-use Rattle.pm_bonds.proofs.Steps.{differ, same_is, need, Least, least_at, IsNeed, least_own, Owned, IsAlone, alone, nobody, owned_at, own_one, need_now, need_then, start_need, needs_some}
+use Rattle.pm_bonds.proofs.Steps.{differ, same_is, need, Least, least_at, IsNeed, least_own, Owned, alone, nobody, owned_at, own_one, need_now, need_then, start_need, needs_some}
 
 links_need : IsNeed needs_links
 links_need = record { suspending = refl; ready = refl; resuming = refl; resumed = refl; lets_go = apart; falls = record { refuses = omega arith; unsets = omega arith } }

@@ -19,7 +19,6 @@ use Rattle.pm_model.specs.PlanRows.{domain, domains_of, domain_parent, chain, is
 use Rattle.pm_model.specs.Views.{Views, is_on}
 use Rattle.pm_model.specs.World.{start_views, world}
 use Rattle.pm_laws.proofs.Said.{start_switched}
-use Rattle.pm_kinds.specs.LineKind.{HasKind}
 use Rattle.pm_kinds.proofs.Lines.{line_kind}
 use Rattle.pm_bonds.proofs.Chains.{among, domain_at, parent_less, closed, head_in, domain_within, in_up, of_up, down_went}
 use Rattle.pm_bonds.proofs.Steps.{differ}

@@ -1,5 +1,5 @@
 -- Devices have their parents Active, after every lawful list of lines.
-use Rattle.std.proofs.Common.{ℕ, ◌≡◌, ◌+◌, ◌<◌, ◌≤◌, ◌⊎◌, inl, inr, Bool, true, false, not, ◌&&◌, List, [], ◌∷◌, Option, Some, None, length, nat_eq, nat_lt, slice_get, if◌then◌else◌, ap, refl, sym, ◌∙◌, arith, subst}
+use Rattle.std.proofs.Common.{ℕ, ◌≡◌, ◌+◌, ◌<◌, ◌≤◌, ◌⊎◌, inl, inr, Bool, true, false, not, ◌&&◌, List, [], ◌∷◌, Option, Some, None, length, nat_eq, nat_lt, slice_get, if◌then◌else◌, ap, refl, sym, ◌∙◌, arith}
 use Rattle.std.specs.Prelude.{◌||◌}
 use Rattle.std.specs.List.{list_all}
 use Rattle.std.specs.Option.{unwrap_or, option_map_or}
@@ -35,20 +35,20 @@ use Rattle.pm_laws.specs.Owners.{places}
 use Rattle.pm_laws.proofs.Links.{both, neither}
 use Rattle.pm_laws.proofs.Runs.{Holds, lawful_holds, start_status}
 use Rattle.pm_laws.proofs.Said.{status_said, says_or}
-use Rattle.pm_stacks.specs.Shape.{AreNested, IsMarked, IsNested, Nested, Fits, Call, call_of}
+use Rattle.pm_stacks.specs.Shape.{IsMarked, IsNested, Nested, Fits, Call, call_of}
 use Rattle.pm_stacks.proofs.Stacks.{stacks_nest}
 use Rattle.pm_kinds.specs.Parts.{counts, at_part, any_phase}
-use Rattle.pm_kinds.specs.Kinds.{MayRest, dev_of, from, to, old, new, turn, says}
+use Rattle.pm_kinds.specs.Kinds.{MayRest, old}
 use Rattle.pm_kinds.specs.LineKind.{HasKind}
 use Rattle.pm_kinds.proofs.Lines.{line_kind}
 use Rattle.pm_bonds.specs.Bonds.{ParentStays, has_count, is_marked}
-use Rattle.pm_kinds.specs.Needs.{needs_parent, Needs}
+use Rattle.pm_kinds.specs.Needs.{needs_parent}
 use Rattle.pm_bonds.proofs.Chains.{at_each, lawful_devices}
 use Rattle.pm_bonds.proofs.Domains.{unexcused}
 use Rattle.pm_bonds.proofs.Entries.{parent_needs, parent_least, leaves, wakes, Setting, entry_kind}
 use Rattle.pm_bonds.proofs.Marked.{IsChild, child_of, all_marked, no_children}
 use Rattle.pm_bonds.proofs.Refusals.{Rests, rests_so}
-use Rattle.pm_bonds.proofs.Steps.{differ, need, least_at, sleeps, Owned, IsAlone, alone, nobody, owned_at, need_now, need_then, starter_rests, start_need, needs_some}
+use Rattle.pm_bonds.proofs.Steps.{differ, need, least_at, sleeps, Owned, owned_at, need_now, need_then, starter_rests, start_need, needs_some}
 
 -- a device that has a parent is one of the plan's, and the parent stands before it
 pub device_within : (plan : Plan) (d p : DevId) → parent plan d ≡ Some p → d.0 < length plan.devices

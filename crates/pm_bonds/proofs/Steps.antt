@@ -1,5 +1,5 @@
 -- What a device needs before a line and after it.
-use Rattle.std.proofs.Common.{ℕ, ◌≡◌, ◌+◌, ◌<◌, ◌≤◌, ◌⊎◌, inl, inr, Bool, true, false, not, ◌&&◌, List, [], ◌∷◌, Option, Some, None, length, nat_eq, if◌then◌else◌, ap, refl, sym, ◌∙◌, subst, arith}
+use Rattle.std.proofs.Common.{ℕ, ◌≡◌, ◌+◌, ◌<◌, ◌≤◌, inl, inr, Bool, true, false, not, ◌&&◌, [], ◌∷◌, Option, Some, None, length, ap, refl, sym, ◌∙◌, subst, arith}
 use Rattle.std.specs.Prelude.{◌||◌}
 use Rattle.std.specs.Option.{unwrap_or}
 use Rattle.std.proofs.lemmas.Bool.{eqb-true, false≢true}
@@ -8,17 +8,16 @@ use Rattle.pm_base.specs.declared.Status.{Status}
 use Rattle.pm_base.specs.declared.Status.TheVariants as status
 use Rattle.pm_model.specs.declared.event.Line.{Line}
 use Rattle.pm_model.specs.declared.plan.Plan.{Plan}
-use Rattle.pm_model.specs.Counted.{is_same, only_if}
-use Rattle.pm_model.specs.Derived.{is_active, is_suspended, is_suspending, is_resuming, is_moving, is_active_status, is_suspended_status, is_suspending_status, is_resuming_status}
+use Rattle.pm_model.specs.Counted.{is_same}
+use Rattle.pm_model.specs.Derived.{is_active, is_suspended, is_moving, is_active_status, is_suspended_status, is_suspending_status, is_resuming_status}
 use Rattle.pm_model.specs.History.{History}
-use Rattle.pm_model.specs.Lawful.{IsLawful}
 use Rattle.pm_model.specs.Views.{Views, device}
 use Rattle.pm_model.specs.World.{World, world}
 use Rattle.pm_sums.specs.Sums.{one, tally}
 use Rattle.pm_laws.specs.Owners.{places}
-use Rattle.pm_laws.proofs.Runs.{Holds, lawful_holds, start_status, start_tally}
-use Rattle.pm_kinds.specs.Parts.{Phase, suspending, lowering, giving, preparing, refused, ready, resuming, resumed, failed, falling, setting, unsetting, Part, no_part, part, part_of, part_at, counts, at_part, passes, any_phase, Falls}
-use Rattle.pm_kinds.specs.Kinds.{Kind, begins_suspend, ends_suspend, fails_suspend, lowers_domain, gives_link, suspends, suspends_quiet, resumes_quiet, enters, sets_active, raises_domain, begins_resume, begins_at_once, ends_resume, fails_resume, resumes, forces_again, forces_bare, forces_held, forces_off, dev_of, from, to, old, new, turn, turned, says, Guard, lowers, lets_go}
+use Rattle.pm_laws.proofs.Runs.{Holds, start_status, start_tally}
+use Rattle.pm_kinds.specs.Parts.{Phase, suspending, lowering, giving, preparing, ready, resuming, resumed, failed, falling, setting, part_at, counts, at_part, passes, any_phase, Falls}
+use Rattle.pm_kinds.specs.Kinds.{Kind, begins_suspend, ends_suspend, fails_suspend, lowers_domain, gives_link, resumes_quiet, enters, sets_active, raises_domain, begins_resume, begins_at_once, ends_resume, fails_resume, resumes, forces_again, forces_bare, forces_held, dev_of, from, to, old, new, turn, turned, says, Guard, lowers, lets_go}
 use Rattle.pm_kinds.specs.LineKind.{HasKind}
 use Rattle.pm_kinds.specs.Needs.{Needs}
 use Rattle.pm_kinds.proofs.Owners.{one_most, some_parts, owners_are}

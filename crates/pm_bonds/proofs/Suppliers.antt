@@ -1,7 +1,6 @@
 -- Devices that hold a link have its supplier Active, after every lawful list of lines.
-use Rattle.std.proofs.Common.{ℕ, zero, suc, ◌≡◌, ◌+◌, ◌<◌, ◌≤◌, ◌⊎◌, inl, inr, Bool, true, false, ◌&&◌, List, [], ◌∷◌, Option, Some, None, length, nat_eq, nat_lt, slice_get, slice_index_or, ap, refl, sym, ◌∙◌, arith, subst}
+use Rattle.std.proofs.Common.{ℕ, zero, suc, ◌≡◌, ◌<◌, ◌≤◌, ◌⊎◌, inl, inr, Bool, true, false, ◌&&◌, List, [], ◌∷◌, Some, length, nat_eq, nat_lt, slice_get, slice_index_or, ap, refl, sym, ◌∙◌, arith, subst}
 use Rattle.std.specs.Prelude.{◌||◌}
-use Rattle.std.specs.Option.{unwrap_or}
 use Rattle.std.proofs.lemmas.Bool.{ltb-true, ltb-false}
 use Rattle.std.proofs.lemmas.Option.{slice_get_within}
 use Rattle.pm_base.specs.declared.DevId.{DevId}
@@ -22,7 +21,6 @@ use Rattle.pm_sums.specs.Sums.{one, tally}
 use Rattle.pm_laws.proofs.Links.{both, lent_of, lent_cons, lawful_links}
 use Rattle.pm_laws.proofs.Runs.{Holds, lawful_holds, permitted}
 use Rattle.pm_laws.proofs.Said.{start_held}
-use Rattle.pm_stacks.specs.Shape.{IsLink}
 use Rattle.pm_stacks.proofs.Tests.{same_self}
 use Rattle.pm_kinds.specs.Kinds.{Kind, enters, sets_active, resumes_quiet, forces_bare, dev_of, Guard, lets_go}
 use Rattle.pm_kinds.specs.LineKind.{HasKind}

@@ -1,9 +1,8 @@
 -- What the bonds of a device ask: its links held, its domain on, its parent Active (runtime_pm.rst, sections 2 and 4;
 -- device_link.rst for links; the rule for domains is this project's own).
-use Rattle.std.specs.Prelude.{ℕ, ◌≡◌, ◌⊎◌, Bool, true, not, ◌&&◌, ◌||◌, List, Option, Some, slice_get}
+use Rattle.std.specs.Prelude.{ℕ, ◌≡◌, ◌⊎◌, Bool, true, not, ◌&&◌, ◌||◌}
 use Rattle.std.specs.List.{list_all}
 use Rattle.pm_base.specs.declared.DevId.{DevId}
-use Rattle.pm_base.specs.declared.DomId.{DomId}
 use Rattle.pm_model.specs.declared.plan.Plan.{Plan}
 use Rattle.pm_model.specs.declared.rows.LinkRow.{LinkRow}
 use Rattle.pm_model.specs.declared.stage.Await.TheVariants as await
@@ -14,8 +13,8 @@ use Rattle.pm_model.specs.declared.stage.Stage.TheVariants as stage
 use Rattle.pm_model.specs.Derived.{is_active}
 use Rattle.pm_model.specs.Excuse.{is_excused_from_domain, is_excused_from_parent}
 use Rattle.pm_model.specs.History.{History}
-use Rattle.pm_model.specs.PlanRows.{has_parent, domain_parent, domains_of}
-use Rattle.pm_model.specs.Views.{Views, is_held, is_on, is_present}
+use Rattle.pm_model.specs.PlanRows.{has_parent, domains_of}
+use Rattle.pm_model.specs.Views.{Views, is_on, is_present}
 use Rattle.pm_model.specs.World.{world}
 use Rattle.pm_kinds.specs.Needs.{needs_domain, needs_parent, Needs}
 

@@ -36,9 +36,9 @@ use Rattle.pm_bonds.proofs.Steps.{differ}
 use Rattle.pm_kept.specs.Answered.{answers, is_answered}
 use Rattle.pm_kept.proofs.OtherOwes.{row_owes}
 use Rattle.pm_kept.proofs.Owing.{is_callers_get, Owed}
-use Rattle.pm_kept.proofs.Passing.{then_below, start_alone}
+use Rattle.pm_kept.proofs.Handing.{start_alone, answers_pass, ends_well, tells_answer}
+use Rattle.pm_kept.proofs.Passing.{either_of, or_front, or_rear, stands_some, then_below}
 use Rattle.pm_kept.proofs.Staying.{share_within, status_next, stays}
-use Rattle.pm_kept.proofs.Tells.{tells, either_of, or_front, or_rear}
 
 -- what holds after every lawful list
 pub record Keeps (plan : Plan) (h : History) : Type 0 where
@@ -53,10 +53,7 @@ start_silent d (stage.Helper (at.Timer e)) is = refl
 start_silent d _ is = elim is [ ]
 
 stands_answered : (d : DevId) (s : Stage) (stack : List Stage) → Stands s stack → is_answered d (s ∷ drop 1 stack) ≡ is_answered d stack
-stands_answered d s stack st = elim st.either [
-  | inl p ↦ rw (p.0, start_silent d s p.1) refl
-  | inr is ↦ sym (ap (is_answered d) is)
-]
+stands_answered d s stack st = stands_some (answers d) (start_silent d) s stack st
 
 -- a count that is held after a line: the line lets go of nothing, and the count was taken by it or held before it
 count_held : (plan : Plan) (d : DevId) (a : ActorId) (line : Line) (h : History) → holds_count plan d a (line ∷ h) ≡ true
@@ -68,7 +65,7 @@ held_bound : (plan : Plan) (d : DevId) (line : Line) (h : History) → binds pla
     → (lets_go plan d h line ≡ false) × ((got_well d line.event && holds_count plan d line.actor h ≡ true) ⊎ (binds plan d h ≡ true))
 held_bound plan d line h e = (not_true _ (front _ _ e), either_of _ _ (rear _ _ e))
 
-same_actor : (a b : ActorId) → is_actor a b ≡ true → a ≡ b
+pub same_actor : (a b : ActorId) → is_actor a b ≡ true → a ≡ b
 same_actor (Caller a) (Caller b) e = ap Caller (eqb-true a b e)
 same_actor (Work a) (Work b) e = ap Work (eqb-true a b e)
 same_actor (Timer a) (Timer b) e = ap Timer (eqb-true a b e)
@@ -150,8 +147,8 @@ keeps_line plan h line lawful was = record { bound = bound; answered = answered 
         within : d.0 < length plan.devices
         within = share_within plan next d (lawful_holds plan (line ∷ h) lawful) (neither (nat_eq (device next.views d).share 0) (forces d line.event) keeps).0
 
-        below : (is_answered d rest ≡ true) ⊎ (tells d p.stage p.next ≡ true)
-        below = then_below plan d (call_of p.stage) p.next rest nested.2 e
+        below : (is_answered d rest ≡ true) ⊎ (tells_answer d p.stage p.next ≡ true)
+        below = then_below plan (answers d) (ends_well d) (answers_pass plan d) (call_of p.stage) p.next rest nested.2 e
 
         fresh : takes is_callers d line.event ≡ true → is_active next.views d ≡ true
         fresh t = elim below [
@@ -188,7 +185,7 @@ all_true : {A : Type 0} (test : A → Bool) → ((x : A) → test x ≡ true) �
 all_true test is [] = refl
 all_true test is (x ∷ l) = rw (is x, all_true test is l) refl
 
-implied : (a b : Bool) → (a ≡ true → b ≡ true) → implies a b ≡ true
+pub implied : (a b : Bool) → (a ≡ true → b ≡ true) → implies a b ≡ true
 implied true b f = f refl
 implied false b f = refl
 

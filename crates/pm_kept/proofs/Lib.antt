@@ -1,5 +1,5 @@
-pub mod Tells
 pub mod Passing
+pub mod Handing
 pub mod Owing
 pub mod ResumeOwes
 pub mod OtherOwes

@@ -33,7 +33,8 @@ use Rattle.pm_laws.proofs.HelperRows.{command}
 use Rattle.pm_stacks.specs.Shape.{Fits, returns_resume, is_put_suspend}
 use Rattle.pm_stacks.proofs.Obeying.{Obeys, waiting, both, both_next}
 use Rattle.pm_stacks.proofs.Stacks.{obeys_same}
-use Rattle.pm_kept.proofs.Owing.{Owing, is_get_sync, silent, starts, alike}
+use Rattle.pm_kept.specs.Answered.{is_get_sync}
+use Rattle.pm_kept.proofs.Owing.{Owing, silent, starts, alike}
 use Rattle.pm_kept.proofs.ResumeOwes.{resume_owes}
 
 abbrev Owes : Views → Stage → Row → Type 0

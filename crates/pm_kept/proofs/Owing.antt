@@ -17,18 +17,13 @@ use Rattle.pm_laws.proofs.Rows.{said}
 use Rattle.pm_stacks.specs.Shape.{call_of}
 use Rattle.pm_stacks.proofs.Obeying.{Duty, ObeysRow, Obeys}
 use Rattle.pm_bonds.proofs.Steps.{differ}
-use Rattle.pm_kept.specs.Answered.{answers}
-use Rattle.pm_kept.proofs.Passing.{is_start}
-use Rattle.pm_kept.proofs.Tells.{tells}
+use Rattle.pm_kept.specs.Answered.{is_get_sync, answers}
+use Rattle.pm_kept.proofs.Handing.{is_start, tells_answer}
 
 -- a caller takes a count
 abbrev pub is_callers_get : Event → Bool
 is_callers_get (event.Get d why.Caller) = true
 is_callers_get _ = false
-
-abbrev pub is_get_sync : Helper → Bool
-is_get_sync helper.GetSync = true
-is_get_sync _ = false
 
 -- a get_sync returns
 abbrev pub is_return : Event → Bool
@@ -38,8 +33,8 @@ is_return _ = false
 -- what its next stages answer was answered before, or the device is Active by its event; a caller's get stands at a call
 -- of its own; and a get_sync that returns well was answered
 pub record Owed (v : Views) (s : Stage) (e : Event) (next : Then) : Type 0 where
-  pub told : (d : DevId) → tells d s next ≡ true → (answers d s ≡ true) ⊎ (is_active_status (said e v d) ≡ true)
-  pub taken : is_callers_get e ≡ true → (is_start s ≡ true) × ((d : DevId) → tells d s next ≡ false)
+  pub told : (d : DevId) → tells_answer d s next ≡ true → (answers d s ≡ true) ⊎ (is_active_status (said e v d) ≡ true)
+  pub taken : is_callers_get e ≡ true → (is_start s ≡ true) × ((d : DevId) → tells_answer d s next ≡ false)
   pub returned : (d : DevId) → got_well d e ≡ true → answers d s ≡ true
 
 abbrev pub Owing : Views → Stage → Duty
@@ -55,22 +50,22 @@ returns_none d _ apart good = cc
 
 -- a line that takes no count and returns from no get_sync
 pub owes : {v : Views} {s : Stage} {e : Event} {change : Change} {next : Then} → is_callers_get e ≡ false → is_return e ≡ false
-    → ((d : DevId) → tells d s next ≡ true → (answers d s ≡ true) ⊎ (is_active_status (said e v d) ≡ true)) → Obeys (Owing v s) (writes e change next)
+    → ((d : DevId) → tells_answer d s next ≡ true → (answers d s ≡ true) ⊎ (is_active_status (said e v d) ≡ true)) → Obeys (Owing v s) (writes e change next)
 owes {e = e} takes returns told = record { paid = record { told = told; taken = λ t. differ t takes; returned = λ d good. returns_none d e returns good } }
 
 -- nothing is answered then
 pub silent : {v : Views} {s : Stage} {e : Event} {change : Change} {next : Then} → is_callers_get e ≡ false → is_return e ≡ false
-    → ((d : DevId) → tells d s next ≡ false) → Obeys (Owing v s) (writes e change next)
+    → ((d : DevId) → tells_answer d s next ≡ false) → Obeys (Owing v s) (writes e change next)
 silent takes returns none = owes takes returns (λ d t. differ t (none d))
 
 -- what was answered is
 pub carries : {v : Views} {s : Stage} {e : Event} {change : Change} {next : Then} → is_callers_get e ≡ false → is_return e ≡ false
-    → ((d : DevId) → tells d s next ≡ answers d s) → Obeys (Owing v s) (writes e change next)
+    → ((d : DevId) → tells_answer d s next ≡ answers d s) → Obeys (Owing v s) (writes e change next)
 carries takes returns same = owes takes returns (λ d t. inl (sym (same d) ∙ t))
 
 -- a caller takes a count
 pub starts : {v : Views} {s : Stage} {e : Event} {change : Change} {next : Then} → is_start s ≡ true → is_return e ≡ false
-    → ((d : DevId) → tells d s next ≡ false) → Obeys (Owing v s) (writes e change next)
+    → ((d : DevId) → tells_answer d s next ≡ false) → Obeys (Owing v s) (writes e change next)
 starts {e = e} alone returns none =
     record { paid = record { told = λ d t. differ t (none d); taken = λ t. (alone, none); returned = λ d good. returns_none d e returns good } }
 

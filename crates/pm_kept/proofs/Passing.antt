@@ -1,127 +1,112 @@
--- What a stack answers once its top has given way.
-use Rattle.std.proofs.Common.{◌≡◌, ◌⊎◌, inl, inr, Bool, true, false, ◌&&◌, List, [], ◌∷◌, Option, Some, None, ℤ, if◌then◌else◌, ap, refl, sym, ◌∙◌}
-use Rattle.pm_base.specs.declared.DevId.{DevId}
-use Rattle.pm_model.specs.declared.event.Event.TheVariants as event
-use Rattle.pm_model.specs.declared.event.Helper.{Helper}
-use Rattle.pm_model.specs.declared.event.Helper.TheVariants as helper
+-- A test of stages, over a stack whose top has given way.
+use Rattle.std.proofs.Common.{◌≡◌, ◌⊎◌, inl, inr, Bool, true, false, List, [], ◌∷◌, ◌++◌, Option, Some, None, ℤ, drop, if◌then◌else◌, ap, refl, sym, ◌∙◌}
+use Rattle.std.specs.Prelude.{◌||◌}
 use Rattle.pm_model.specs.declared.plan.Plan.{Plan}
 use Rattle.pm_model.specs.declared.stage.Await.{Await}
-use Rattle.pm_model.specs.declared.stage.Await.TheVariants as await
 use Rattle.pm_model.specs.declared.stage.Handed.{Handed}
 use Rattle.pm_model.specs.declared.stage.Handed.TheVariants as handed
-use Rattle.pm_model.specs.declared.stage.HelperStage.TheVariants as at
-use Rattle.pm_model.specs.declared.stage.Purpose.TheVariants as purpose
 use Rattle.pm_model.specs.declared.stage.Stage.{Stage}
 use Rattle.pm_model.specs.declared.stage.Stage.TheVariants as stage
 use Rattle.pm_model.specs.declared.stage.Then.{Then}
-use Rattle.pm_model.specs.Counted.{is_same}
 use Rattle.pm_model.specs.Handing.{take_code, after_code, after_back, after_then}
-use Rattle.pm_model.specs.Promises.{got_well}
-use Rattle.pm_model.specs.ResumeTable.{is_supplied}
 use Rattle.pm_model.proofs.Arrivals.{on_handed, after_await}
-use Rattle.pm_stacks.specs.Shape.{Call, own, raises, call_of, returns_resume, May, Fits, Nested}
-use Rattle.pm_stacks.proofs.Tests.{front}
-use Rattle.pm_stacks.proofs.Zeros.{raised, lowered, helper_calls, zero_raised, zero_lowered, parents, suppliers, zero_calls}
-use Rattle.pm_pends.specs.Pends.{is_up}
-use Rattle.pm_kept.specs.Answered.{is_sync_resume, answers, is_answered}
-use Rattle.pm_kept.proofs.Tells.{tells_of, few_is, either_of, or_front, or_rear, answered_append}
+use Rattle.pm_stacks.specs.Shape.{Call, call_of, May, Fits, Nested}
+use Rattle.pm_stacks.proofs.Standing.{IsStart, Stands}
+use Rattle.pm_kept.specs.Answered.{some_of}
 
-with_four : (a b : Bool) → a && b ≡ true → (a && true) && b ≡ true
-with_four true b e = e
-with_four false b e = cc
+pub either_of : (a b : Bool) → a || b ≡ true → (a ≡ true) ⊎ (b ≡ true)
+either_of true b e = inl refl
+either_of false b e = inr e
 
--- a stage that takes a code answers only where it did before, or where the call that ends does
-abbrev Passes : DevId → Await → ℤ → Call → Handed → Type 0
-Passes d a c k (handed.Goes s) = answers d s ≡ true → (answers d (stage.Await a) ≡ true) ⊎ (is_sync_resume d k && is_up c ≡ true)
-Passes d a c k (handed.Back kept) = is_sync_resume d (call_of (stage.Await a)) && is_up kept ≡ true → answers d (stage.Await a) ≡ true
+pub or_front : (a b : Bool) → a ≡ true → a || b ≡ true
+or_front true b e = refl
+or_front false b e = cc
 
-silent : (d : DevId) (a : Await) (c : ℤ) (k : Call) (b : Bool) (s t : Stage) → answers d s ≡ false → answers d t ≡ false
-    → Passes d a c k (if b then handed.Goes s else handed.Goes t)
-silent d a c k true s t p q = λ e. let z : true ≡ false = sym e ∙ p in cc
-silent d a c k false s t p q = λ e. let z : true ≡ false = sym e ∙ q in cc
+pub or_rear : (a b : Bool) → b ≡ true → a || b ≡ true
+or_rear true b e = refl
+or_rear false b e = e
 
--- a get_sync returns the code of its own resume
-returned : (plan : Plan) (d e : DevId) (c : ℤ) (k : Call) (h : Helper) → May plan (await.Return h e) k → got_well d (event.Ret h e c) ≡ true → is_sync_resume d k && is_up c ≡ true
-returned plan d e c k helper.GetSync may good = let is : k ≡ raises e 4 purpose.Plain = may in rw is (with_four (is_same d e) (is_up c) good)
-returned plan d e c k _ may good = cc
+-- of a few stages, so that it computes
+abbrev pub few : (Stage → Bool) → List Stage → Bool
+few test [] = false
+few test (x ∷ []) = test x
+few test (x ∷ y ∷ rest) = test x || few test (y ∷ rest)
 
--- no get_sync returns 0 whatever its code
-never_zero : {A : Type 0} (d e : DevId) (c : ℤ) (h : Helper) → returns_resume h ≡ false → got_well d (event.Ret h e c) ≡ true → A
-never_zero d e c helper.GetSync apart good = cc
-never_zero d e c _ apart good = cc
+-- the stages that take the place of a stage of this call pass the test, or the call ends with a code that passes another
+abbrev pub tells_of : (Stage → Bool) → (Call → ℤ → Bool) → Call → Option ℤ → List Stage → Bool
+tells_of test ends k None push = few test push
+tells_of test ends k (Some c) push = ends k c
 
-passes : (plan : Plan) (d : DevId) (a : Await) (c : ℤ) (k : Call) → Fits plan (stage.Await a) → May plan a k → Passes d a c k (take_code a c)
-unfolding take_code
-passes plan d (await.Return h e) c k fits may = λ good. inr (returned plan d e c k h may good)
-passes plan d (await.ReturnZero h e) c k fits may = λ good. never_zero d e _ h fits good
-passes plan d (await.ResumeIdle r) c k fits may = λ good. inl (front _ _ good)
-passes plan d (await.ResumePut r kept) c k fits may = λ good. good
-passes plan d (await.ActiveSupplier e link) c k fits may = silent d (await.ActiveSupplier e link) c k (is_supplied c) _ _ refl refl
-passes plan d _ c k fits may = λ good. cc
+abbrev pub tells : (Stage → Bool) → (Call → ℤ → Bool) → Stage → Then → Bool
+tells test ends s next = tells_of test ends (call_of s) next.back next.push
 
-abbrev pub Below : DevId → Call → ℤ → List Stage → List Stage → Type 0
-Below d k c rest new = is_answered d new ≡ true → (is_answered d rest ≡ true) ⊎ (is_sync_resume d k && is_up c ≡ true)
+or_false : (b : Bool) → b || false ≡ b
+or_false true = refl
+or_false false = refl
 
-handed_below : (d : DevId) (a : Await) (c : ℤ) (k : Call) (h : Handed) (rest : List Stage) → Passes d a c k h
-    → ((kept : ℤ) → Below d (call_of (stage.Await a)) kept rest (after_code rest kept)) → Below d k c (stage.Await a ∷ rest) (on_handed h rest (after_code rest))
-handed_below d a c k (handed.Goes s) rest pass below = λ e. elim (either_of (answers d s) (is_answered d rest) e) [
-  | inl good ↦ elim (pass good) [ inl was ↦ inl (or_front (answers d (stage.Await a)) (is_answered d rest) was) | inr ends ↦ inr ends ]
-  | inr rests ↦ inl (or_rear (answers d (stage.Await a)) (is_answered d rest) rests)
-]
-handed_below d a c k (handed.Back kept) rest pass below = λ e. elim (below kept e) [
-  | inl rests ↦ inl (or_rear (answers d (stage.Await a)) (is_answered d rest) rests)
-  | inr ends ↦ inl (or_front (answers d (stage.Await a)) (is_answered d rest) (pass ends))
+few_is : (test : Stage → Bool) (push : List Stage) → some_of test push ≡ few test push
+few_is test [] = refl
+few_is test (x ∷ []) = or_false (test x)
+few_is test (x ∷ y ∷ rest) = rw (few_is test (y ∷ rest)) refl
+
+some_append : (test : Stage → Bool) (push rest : List Stage) → some_of test (push ++ rest) ≡ true → (some_of test push ≡ true) ⊎ (some_of test rest ≡ true)
+some_append test [] rest e = inr e
+some_append test (x ∷ push) rest e = elim (either_of (test x) (some_of test (push ++ rest)) e) [
+  | inl a ↦ inl (or_front (test x) (some_of test push) a)
+  | inr b ↦ elim (some_append test push rest b) [
+    | inl c ↦ inl (or_rear (test x) (some_of test push) c)
+    | inr c ↦ inr c
+  ]
 ]
 
-pub code_below : (plan : Plan) (d : DevId) (k : Call) (rest : List Stage) (c : ℤ) → Nested plan k rest → Below d k c rest (after_code rest c)
-code_below plan d k [] c n = λ e. cc
-code_below plan d k (stage.Await a ∷ rest) c n =
-    let pass = passes plan d a c k n.1 n.0 in
-    λ e. handed_below d a c k (take_code a c) rest pass (λ kept. code_below plan d (call_of (stage.Await a)) rest kept n.2) (sym (ap (is_answered d) (after_await a c rest)) ∙ e)
-code_below plan d k (s ∷ rest) c n = elim n.0 [ ]
+-- a stage that takes a code passes only where it did before, or where the code does
+abbrev pub Passes : (Stage → Bool) → (Call → ℤ → Bool) → Await → ℤ → Call → Handed → Type 0
+Passes test ends a c k (handed.Goes s) = test s ≡ true → (test (stage.Await a) ≡ true) ⊎ (ends k c ≡ true)
+Passes test ends a c k (handed.Back kept) = ends (call_of (stage.Await a)) kept ≡ true → test (stage.Await a) ≡ true
 
-pub then_below : (plan : Plan) (d : DevId) (k : Call) (next : Then) (rest : List Stage) → Nested plan k rest → is_answered d (after_then next rest) ≡ true
-    → (is_answered d rest ≡ true) ⊎ (tells_of d k next.back next.push ≡ true)
-then_below plan d k next rest n e = go next.back next.push e
+pub silent : (test : Stage → Bool) (ends : Call → ℤ → Bool) (a : Await) (c : ℤ) (k : Call) (b : Bool) (s t : Stage) → test s ≡ false → test t ≡ false
+    → Passes test ends a c k (if b then handed.Goes s else handed.Goes t)
+silent test ends a c k true s t p q = λ e. let z : true ≡ false = sym e ∙ p in cc
+silent test ends a c k false s t p q = λ e. let z : true ≡ false = sym e ∙ q in cc
+
+abbrev pub AllPass : Plan → (Stage → Bool) → (Call → ℤ → Bool) → Type 0
+AllPass plan test ends = (a : Await) (c : ℤ) (k : Call) → Fits plan (stage.Await a) → May plan a k → Passes test ends a c k (take_code a c)
+
+abbrev Below : (Stage → Bool) → (Call → ℤ → Bool) → Call → ℤ → List Stage → List Stage → Type 0
+Below test ends k c rest new = some_of test new ≡ true → (some_of test rest ≡ true) ⊎ (ends k c ≡ true)
+
+handed_below : (test : Stage → Bool) (ends : Call → ℤ → Bool) (a : Await) (c : ℤ) (k : Call) (h : Handed) (rest : List Stage) → Passes test ends a c k h
+    → ((kept : ℤ) → Below test ends (call_of (stage.Await a)) kept rest (after_code rest kept)) → Below test ends k c (stage.Await a ∷ rest) (on_handed h rest (after_code rest))
+handed_below test ends a c k (handed.Goes s) rest pass below = λ e. elim (either_of (test s) (some_of test rest) e) [
+  | inl good ↦ elim (pass good) [ inl was ↦ inl (or_front (test (stage.Await a)) (some_of test rest) was) | inr it ↦ inr it ]
+  | inr rests ↦ inl (or_rear (test (stage.Await a)) (some_of test rest) rests)
+]
+handed_below test ends a c k (handed.Back kept) rest pass below = λ e. elim (below kept e) [
+  | inl rests ↦ inl (or_rear (test (stage.Await a)) (some_of test rest) rests)
+  | inr it ↦ inl (or_front (test (stage.Await a)) (some_of test rest) (pass it))
+]
+
+code_below : (plan : Plan) (test : Stage → Bool) (ends : Call → ℤ → Bool) → AllPass plan test ends → (k : Call) (rest : List Stage) (c : ℤ) → Nested plan k rest
+    → Below test ends k c rest (after_code rest c)
+code_below plan test ends pass k [] c n = λ e. cc
+code_below plan test ends pass k (stage.Await a ∷ rest) c n =
+    λ e. handed_below test ends a c k (take_code a c) rest (pass a c k n.1 n.0) (λ kept. code_below plan test ends pass (call_of (stage.Await a)) rest kept n.2) (sym (ap (some_of test) (after_await a c rest)) ∙ e)
+code_below plan test ends pass k (s ∷ rest) c n = elim n.0 [ ]
+
+pub then_below : (plan : Plan) (test : Stage → Bool) (ends : Call → ℤ → Bool) → AllPass plan test ends → (k : Call) (next : Then) (rest : List Stage) → Nested plan k rest
+    → some_of test (after_then next rest) ≡ true → (some_of test rest ≡ true) ⊎ (tells_of test ends k next.back next.push ≡ true)
+then_below plan test ends pass k next rest n e = go next.back next.push e
   where
-    go : (back : Option ℤ) (push : List Stage) → is_answered d (after_back back push rest) ≡ true → (is_answered d rest ≡ true) ⊎ (tells_of d k back push ≡ true)
-    go None push e = elim (answered_append d push rest e) [ inl new ↦ inr (sym (few_is d push) ∙ new) | inr old ↦ inl old ]
-    go (Some c) push e = code_below plan d k rest c n e
+    go : (back : Option ℤ) (push : List Stage) → some_of test (after_back back push rest) ≡ true → (some_of test rest ≡ true) ⊎ (tells_of test ends k back push ≡ true)
+    go None push e = elim (some_append test push rest e) [ inl new ↦ inr (sym (few_is test push) ∙ new) | inr old ↦ inl old ]
+    go (Some c) push e = code_below plan test ends pass k rest c n e
 
--- nothing awaits a helper's own work
-own_awaited : (plan : Plan) (o : Option DevId) (a : Await) → May plan a (own o) → ⊥
-own_awaited plan o (await.SuspendLinks d f) (l, s, is, e) = cc
-own_awaited plan o (await.SuspendDeferred d f) e = cc
-own_awaited plan o (await.SuspendParent d f) (is, e) = cc
-own_awaited plan o (await.ResumeParent r) (is, e) = cc
-own_awaited plan o (await.ResumeSupplier r l) (s, is, e) = cc
-own_awaited plan o (await.ResumeIdle r) e = cc
-own_awaited plan o (await.ResumeUnwind r c) (l, s, is, e) = cc
-own_awaited plan o (await.ResumePut r c) (is, e) = cc
-own_awaited plan o (await.Return h d) e = elim (helper_calls h d (own o) e) [ raised e ↦ cc | lowered is e ↦ cc ]
-own_awaited plan o (await.ReturnZero h d) m = elim (zero_calls plan h d (own o) m) [
-  | zero_raised e ↦ cc
-  | zero_lowered odd e ↦ cc
-  | parents p ↦ let e = p.1 in cc
-  | suppliers p ↦ let e = p.3 in cc
+-- a stage at which an actor stands passes a test where its stack does
+abbrev pub IsLight : (Stage → Bool) → Type 0
+IsLight test = (s : Stage) → IsStart s → test s ≡ false
+
+pub stands_some : (test : Stage → Bool) → IsLight test → (s : Stage) (stack : List Stage) → Stands s stack → some_of test (s ∷ drop 1 stack) ≡ some_of test stack
+stands_some test light s stack st = elim st.either [
+  | inl p ↦ rw (p.0, light s p.1) refl
+  | inr is ↦ sym (ap (some_of test) is)
 ]
-own_awaited plan o (await.DisableResume d) e = cc
-own_awaited plan o (await.BarrierResume d) e = cc
-own_awaited plan o (await.ActiveSupplier d l) (s, is, e) = cc
-own_awaited plan o (await.ActiveUnwind d c) (l, s, is, e) = cc
-own_awaited plan o (await.SuppliersIdle d s) (l, is, e) = cc
-
-own_alone : (plan : Plan) (d : DevId) (o : Option DevId) (rest : List Stage) → Nested plan (own o) rest → is_answered d rest ≡ false
-own_alone plan d o [] n = refl
-own_alone plan d o (stage.Await a ∷ rest) n = absurd (own_awaited plan o a n.0)
-own_alone plan d o (s ∷ rest) n = elim n.0 [ ]
-
--- the stage after a helper's call line
-abbrev pub is_start : Stage → Bool
-is_start (stage.Helper (at.Start c)) = true
-is_start _ = false
-
--- it stands alone, and answers nothing yet
-pub start_alone : (plan : Plan) (d : DevId) (s : Stage) (rest : List Stage) → is_start s ≡ true → Nested plan (call_of s) rest → is_answered d (s ∷ rest) ≡ false
-start_alone plan d (stage.Helper (at.Start c)) rest is n = own_alone plan d _ rest n
-start_alone plan d _ rest is n = cc

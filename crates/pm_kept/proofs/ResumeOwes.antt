@@ -30,17 +30,17 @@ use Rattle.pm_stacks.proofs.Tests.{front, rear, same_device}
 use Rattle.pm_pends.specs.Pends.{is_up}
 use Rattle.pm_bonds.proofs.Steps.{differ}
 use Rattle.pm_kept.specs.Answered.{is_sync_resume, answers}
+use Rattle.pm_kept.proofs.Handing.{tells_answer}
 use Rattle.pm_kept.proofs.Owing.{Owing, owes, silent, carries, alike}
-use Rattle.pm_kept.proofs.Tells.{tells}
 
 abbrev Owes : Views → Stage → Row → Type 0
 Owes v s row = Obeys (Owing v s) row
 
-leaves_tells : (plan : Plan) (r : ResumeCall) (c : ℤ) (d : DevId) (s : Stage) → call_of s ≡ raising r → tells d s (leaves plan r c) ≡ (is_sync_resume d (raising r) && is_up c)
+leaves_tells : (plan : Plan) (r : ResumeCall) (c : ℤ) (d : DevId) (s : Stage) → call_of s ≡ raising r → tells_answer d s (leaves plan r c) ≡ (is_sync_resume d (raising r) && is_up c)
 unfolding leaves
 leaves_tells plan r c d s is = go (r.held && has_parent plan r.dev)
   where
-    go : (b : Bool) → tells d s (if b then resume_goes (resume.Parent r c) else back c) ≡ (is_sync_resume d (raising r) && is_up c)
+    go : (b : Bool) → tells_answer d s (if b then resume_goes (resume.Parent r c) else back c) ≡ (is_sync_resume d (raising r) && is_up c)
     go true = refl
     go false = rw is refl
 
@@ -53,7 +53,7 @@ fails : {v : Views} {c : ℤ} {change : Change} {s : Stage} (plan : Plan) (r : R
     → Owes v s (resume_returns plan r c change)
 fails {v} {c} {change} {s} plan r is bad = returns_owe plan r c change s is (λ d t. differ (rear _ _ t) bad)
 
-same_active : (v : Views) (d e : DevId) → is_same d e ≡ true → is_active v e ≡ true → is_active v d ≡ true
+pub same_active : (v : Views) (d e : DevId) → is_same d e ≡ true → is_active v e ≡ true → is_active v d ≡ true
 same_active v d e same up = subst (λ x. is_active v x ≡ true) (same_device e d same) up
 
 -- the device was found Active
@@ -62,15 +62,15 @@ finds : {v : Views} {change : Change} {s : Stage} (plan : Plan) (r : ResumeCall)
 finds {v} {change} {s} plan r is up = returns_owe plan r (pos 1) change s is (λ d t. inr (same_active v d r.dev (front _ _ (front _ _ t)) up))
 
 -- it is made Active
+pub turned_up : (v : Views) (d : DevId) (b : Bool) → b ≡ true → is_active_status (unwrap_or (only_if b status.Active) (device v d).status) ≡ true
+turned_up v d true e = refl
+turned_up v d false e = cc
+
 turns : {v : Views} {r : ResumeCall} {change : Change} {s : Stage} → Owes v s (writes (event.State r.dev word.Active) change (resume_goes (resume.Idle r)))
-turns {v} {r} = owes refl refl (λ d t. inr (turned d (is_same d r.dev) (front _ _ t)))
-  where
-    turned : (d : DevId) (b : Bool) → b ≡ true → is_active_status (unwrap_or (only_if b status.Active) (device v d).status) ≡ true
-    turned d true e = refl
-    turned d false e = cc
+turns {v} {r} = owes refl refl (λ d t. inr (turned_up v d (is_same d r.dev) (front _ _ t)))
 
 -- a get_sync waits
-four_waits : (n : ℕ) → nat_eq n 4 ≡ true → may_not_wait n ≡ false
+pub four_waits : (n : ℕ) → nat_eq n 4 ≡ true → may_not_wait n ≡ false
 unfolding has
 four_waits n e = let k : n ≡ 4 = eqb-true n 4 e in rw k refl
 
@@ -78,7 +78,7 @@ four_sync : (n : ℕ) → nat_eq n 4 ≡ true → has n ASYNC ≡ false
 unfolding has
 four_sync n e = let k : n ≡ 4 = eqb-true n 4 e in rw k refl
 
-middle : (a b c : Bool) → a && b && c ≡ true → b ≡ true
+pub middle : (a b c : Bool) → a && b && c ≡ true → b ≡ true
 middle true true true e = refl
 middle true true false e = cc
 middle true false c e = cc

@@ -1,5 +1,5 @@
 -- A device stays Active while its callers don't let go of it.
-use Rattle.std.proofs.Common.{ℕ, ◌≡◌, ◌+◌, ◌<◌, ◌≤◌, Bool, true, false, ◌∷◌, None, length, nat_eq, nat_lt, ap, refl, sym, ◌∙◌, arith, inl, inr}
+use Rattle.std.proofs.Common.{ℕ, ◌≡◌, ◌+◌, ◌<◌, ◌≤◌, ◌⊎◌, Bool, true, false, ◌∷◌, None, length, nat_eq, nat_lt, ap, refl, sym, ◌∙◌, arith, inl, inr}
 use Rattle.std.specs.Option.{unwrap_or}
 use Rattle.std.proofs.lemmas.Bool.{cases_lt, ltb-false}
 use Rattle.std.proofs.lemmas.List.{get_or_past}
@@ -26,8 +26,7 @@ use Rattle.pm_laws.proofs.Runs.{Holds, Paid, permitted, lawful_holds, status_is}
 use Rattle.pm_laws.proofs.Said.{views_next}
 use Rattle.pm_laws.proofs.Seen.{Aside}
 use Rattle.pm_laws.proofs.Shares.{share_after}
-use Rattle.pm_kinds.specs.Kinds.{MayRest, says}
-use Rattle.pm_kinds.specs.LineKind.{HasKind}
+use Rattle.pm_kinds.specs.Kinds.{says}
 use Rattle.pm_kinds.specs.Parts.{at_part, any_phase}
 use Rattle.pm_kinds.proofs.Lines.{line_kind}
 use Rattle.pm_bonds.proofs.Entries.{leaves}
@@ -70,7 +69,20 @@ no_share n e = rw e refl
 unused : (n : ℕ) → nat_lt 0 n ≡ false → n ≡ 0
 unused n e = let le : n ≤ 0 = ltb-false 0 n e in omega arith
 
--- a device leaves Active only where its usage is 0, or by force; and its usage covers the callers' share
+-- a device leaves Active only where its usage is 0, or by force
+pub leaves_unused : (plan : Plan) (h : History) (line : Line) (d : DevId) → IsLawful plan (line ∷ h) → d.0 < length plan.devices → is_active (world plan h).views d ≡ true
+    → is_active (world plan (line ∷ h)).views d ≡ false → ((device (world plan h).views d).usage ≡ 0) ⊎ (forces d line.event ≡ true)
+leaves_unused plan h line d lawful within up down =
+    let v = (world plan h).views in
+    let kind = line_kind plan h line lawful in
+    let turned : is_active_status (unwrap_or (says kind.kind d) (device v d).status) ≡ false = ap is_active_status (sym (kind.status d within)) ∙ down in
+    let owned = owned_at plan h line kind d (lawful_holds plan h lawful.2) within in
+    elim (leaves plan v d kind.kind line.event (tally (at_part any_phase d) kind.others) kind.event kind.guard owned up turned) [
+      | inl rest ↦ inl (unused (device v d).usage (rests_so plan v d rest).unused)
+      | inr force ↦ inr force
+    ]
+
+-- and its usage covers the callers' share
 pub stays : (plan : Plan) (h : History) (line : Line) (d : DevId) → IsLawful plan (line ∷ h) → is_active (world plan h).views d ≡ true → lets_go plan d h line ≡ false
     → is_active (world plan (line ∷ h)).views d ≡ true
 stays plan h line d lawful up keeps = go (is_active next.views d) refl
@@ -93,9 +105,6 @@ stays plan h line d lawful up keeps = go (is_active next.views d) refl
     within : d.0 < length plan.devices
     within = share_within plan next d (lawful_holds plan (line ∷ h) lawful) has.0
 
-    kind : HasKind plan h line
-    kind = line_kind plan h line lawful
-
     -- where there was no share a caller takes one, and then no status changes
     shared : (b : Bool) → takes is_callers d line.event ≡ b → (device w.views d).share ≡ 0 → is_active next.views d ≡ true
     shared true t low =
@@ -106,17 +115,9 @@ stays plan h line d lawful up keeps = go (is_active next.views d) refl
         let none : one (takes is_callers d line.event) ≡ 0 = rw t refl in
         differ (no_share (device next.views d).share (omega arith)) has.0
 
-    rested : MayRest plan w.views d → is_active next.views d ≡ true
-    rested rest =
-        let idle = unused (device w.views d).usage (rests_so plan w.views d rest).unused in
-        let adds = before.counts d within in
-        shared (takes is_callers d line.event) refl (omega arith)
+    rested : (device w.views d).usage ≡ 0 → is_active next.views d ≡ true
+    rested idle = let adds = before.counts d within in shared (takes is_callers d line.event) refl (omega (arith, idle))
 
     go : (b : Bool) → is_active next.views d ≡ b → is_active next.views d ≡ true
     go true a = a
-    go false a =
-        let down : is_active_status (unwrap_or (says kind.kind d) (device w.views d).status) ≡ false = ap is_active_status (sym (kind.status d within)) ∙ a in
-        elim (leaves plan w.views d kind.kind line.event (tally (at_part any_phase d) kind.others) kind.event kind.guard (owned_at plan h line kind d before within) up down) [
-          | inl rest ↦ rested rest
-          | inr force ↦ differ force has.1
-        ]
+    go false a = elim (leaves_unused plan h line d lawful within up a) [ inl idle ↦ rested idle | inr force ↦ differ force has.1 ]

@@ -19,7 +19,7 @@ use Rattle.pm_sums.specs.Sums.{one, weigh}
 use Rattle.pm_sums.proofs.Tally.{weigh_is}
 use Rattle.pm_laws.proofs.Places.{shown, shown_of, IsHanded, IsWeight}
 use Rattle.pm_stacks.proofs.Standing.{IsStart}
-use Rattle.pm_kinds.specs.Parts.{Phase, preparing, refused, Part, part, counts, at_part, Falls, Stays}
+use Rattle.pm_kinds.specs.Parts.{Phase, preparing, refused, part, counts, at_part, Falls, Stays}
 
 -- a stage that starts has no part
 pub start_light : (test : Phase → Bool) (d : DevId) (s : Stage) → IsStart s → at_part test d s ≡ 0

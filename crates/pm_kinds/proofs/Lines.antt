@@ -32,9 +32,9 @@ use Rattle.pm_model.specs.Row.{Row}
 use Rattle.pm_model.specs.Views.{Views, device, is_held, is_on, is_present}
 use Rattle.pm_model.specs.WellFormed.{device_of, is_in}
 use Rattle.pm_model.specs.World.{World, row, place, with_place, counts_call, after_line, world}
-use Rattle.pm_sums.specs.Sums.{tally, weigh}
+use Rattle.pm_sums.specs.Sums.{tally}
 use Rattle.pm_laws.specs.Owners.{places}
-use Rattle.pm_laws.proofs.Places.{IsPlaced, shown, is_placed, tally_placed, then_keeps}
+use Rattle.pm_laws.proofs.Places.{IsPlaced, is_placed, tally_placed, then_keeps}
 use Rattle.pm_laws.proofs.Runs.{Holds, Paid, permitted, lawful_holds, places_moved, status_is}
 use Rattle.pm_laws.proofs.Said.{views_next, says_or, held_said, on_said}
 use Rattle.pm_stacks.specs.Fit.{IsFit}

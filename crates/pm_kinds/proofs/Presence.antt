@@ -20,7 +20,7 @@ use Rattle.pm_model.specs.declared.rows.LinkRow.{LinkRow}
 use Rattle.pm_model.specs.declared.stage.Change.{Change}
 use Rattle.pm_model.specs.declared.stage.Change.TheVariants as change
 use Rattle.pm_model.specs.ChangeViews.{change_views, suspend_ended}
-use Rattle.pm_model.specs.Changes.{set_request, cancel, rcancel, has_auto_timer, callback_marks, set_last_busy, set_deferred, set_held, set_present, enables, set_last, set_depth}
+use Rattle.pm_model.specs.Changes.{cancel, rcancel, has_auto_timer, callback_marks, set_last_busy, set_deferred, set_held, set_present, enables, set_last, set_depth}
 use Rattle.pm_model.specs.Counted.{is_same, only_if}
 use Rattle.pm_model.specs.Derived.{up, down}
 use Rattle.pm_model.specs.Events.{by_event, by_word, by_end, by_work, by_timer, got, gave, set_status, set_error, frees_links, is_try_again, switches}

@@ -1,6 +1,6 @@
 -- The kinds of lines, by what they do to the bonds of devices: with their links, their domains and their parents
 -- (runtime_pm.rst, sections 2 and 4; device_link.rst; the words are this project's own).
-use Rattle.std.specs.Prelude.{ℕ, ◌≡◌, Bool, true, false, ◌&&◌, Option, Some, None, ℤ, pos, if◌then◌else◌, int_lt, not}
+use Rattle.std.specs.Prelude.{ℕ, ◌≡◌, Bool, true, false, ◌&&◌, Option, Some, None, ℤ, pos, int_lt}
 use Rattle.std.specs.Ordering.{int_eq}
 use Rattle.pm_base.specs.declared.Cb.TheVariants as cb
 use Rattle.pm_base.specs.declared.DevId.{DevId}

@@ -1,6 +1,6 @@
 -- In which phases of its transition a device needs its links, its domain, its parent and its suppliers (device_link.rst
 -- for links; the rest is this project's own).
-use Rattle.std.specs.Prelude.{ℕ, ◌≡◌, ◌<◌, ◌⊎◌, Bool, true, false}
+use Rattle.std.specs.Prelude.{◌≡◌, ◌<◌, ◌⊎◌, Bool, true, false}
 use Rattle.pm_base.specs.declared.DevId.{DevId}
 use Rattle.pm_model.specs.Derived.{is_active}
 use Rattle.pm_model.specs.World.{World}

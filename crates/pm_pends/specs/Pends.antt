@@ -6,17 +6,13 @@ use Rattle.pm_base.specs.declared.DevId.{DevId}
 use Rattle.pm_model.specs.declared.plan.Plan.{Plan}
 use Rattle.pm_model.specs.declared.stage.Await.{Await}
 use Rattle.pm_model.specs.declared.stage.Await.TheVariants as await
-use Rattle.pm_model.specs.declared.stage.ControlStage.TheVariants as control
 use Rattle.pm_model.specs.declared.stage.Purpose.{Purpose}
 use Rattle.pm_model.specs.declared.stage.Purpose.TheVariants as purpose
 use Rattle.pm_model.specs.declared.stage.ResumeStage.TheVariants as resume
 use Rattle.pm_model.specs.declared.stage.Stage.{Stage}
 use Rattle.pm_model.specs.declared.stage.Stage.TheVariants as stage
-use Rattle.pm_model.specs.declared.stage.SuspendStage.TheVariants as suspend
-use Rattle.pm_model.specs.Counted.{is_same}
 use Rattle.pm_model.specs.Excuse.{awaits_supplier}
 use Rattle.pm_model.specs.Handing.{arrival}
-use Rattle.pm_model.specs.ResumeTable.{is_supplied}
 use Rattle.pm_model.specs.World.{top}
 use Rattle.pm_sums.specs.Sums.{one}
 use Rattle.pm_stacks.specs.Shape.{Call, raises, call_of}

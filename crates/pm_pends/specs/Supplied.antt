@@ -6,7 +6,7 @@ use Rattle.pm_model.specs.declared.plan.Plan.{Plan}
 use Rattle.pm_model.specs.Derived.{is_active}
 use Rattle.pm_model.specs.Excuse.{forces, is_excused_from_supplier}
 use Rattle.pm_model.specs.Views.{is_held}
-use Rattle.pm_model.specs.World.{World, world}
+use Rattle.pm_model.specs.World.{world}
 use Rattle.pm_sums.specs.Sums.{tally}
 use Rattle.pm_laws.specs.Owners.{places}
 use Rattle.pm_kinds.specs.Needs.{needs_supplier, Needs}

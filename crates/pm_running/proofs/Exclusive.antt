@@ -1,5 +1,5 @@
 -- Every run is exclusive.
-use Rattle.std.proofs.Common.{ℕ, ◌≡◌, ◌+◌, ◌<◌, ◌≤◌, inl, inr, Bool, true, false, not, ◌&&◌, List, [], ◌∷◌, Option, Some, None, pos, length, nat_eq, nat_lt, int_lt, if◌then◌else◌, ap, refl, sym, ◌∙◌, subst, arith}
+use Rattle.std.proofs.Common.{ℕ, ◌≡◌, ◌+◌, ◌<◌, ◌≤◌, inl, inr, Bool, true, false, not, ◌&&◌, [], ◌∷◌, Some, pos, length, nat_eq, nat_lt, int_lt, if◌then◌else◌, ap, refl, sym, ◌∙◌, subst, arith}
 use Rattle.std.specs.Prelude.{◌||◌}
 use Rattle.std.proofs.lemmas.Bool.{cases_lt, ltb-false}
 use Rattle.std.proofs.lemmas.List.{get_or_past}
@@ -17,8 +17,8 @@ use Rattle.pm_model.specs.declared.event.Line.{Line}
 use Rattle.pm_model.specs.declared.event.Word.{Word}
 use Rattle.pm_model.specs.declared.event.Word.TheVariants as word
 use Rattle.pm_model.specs.declared.plan.Plan.{Plan}
-use Rattle.pm_model.specs.Counted.{is_same, runs}
-use Rattle.pm_model.specs.Derived.{refusal, has_error, is_disabled, is_in_use, has_children, children, is_suspending, is_resuming, asks_resume, is_suspended, is_active, is_moving, is_active_status, is_suspended_status, is_suspending_status, is_resuming_status}
+use Rattle.pm_model.specs.Counted.{runs}
+use Rattle.pm_model.specs.Derived.{refusal, has_error, is_disabled, is_in_use, has_children, children, is_suspending, is_resuming, asks_resume, is_suspended, is_active, is_active_status, is_suspended_status, is_suspending_status, is_resuming_status}
 use Rattle.pm_model.specs.History.{History}
 use Rattle.pm_model.specs.IdleTable.{is_above_idle}
 use Rattle.pm_model.specs.Lawful.{IsLawful}
@@ -30,13 +30,13 @@ use Rattle.pm_laws.specs.Owners.{places, owns_resume}
 use Rattle.pm_laws.proofs.Runs.{Holds, lawful_holds}
 use Rattle.pm_laws.proofs.Said.{idle_said}
 use Rattle.pm_stacks.proofs.Tests.{same_self}
-use Rattle.pm_kinds.specs.Kinds.{Kind, keeps, begins_idle, begins_suspend, begins_resume, begins_at_once, enters, sets_active, suspends, adds_link, drops_link, dev_of, from, old, is_silent, is_owners_word, MayIdle, EventIs, Guard}
+use Rattle.pm_kinds.specs.Kinds.{Kind, keeps, begins_idle, begins_suspend, begins_resume, begins_at_once, enters, sets_active, suspends, adds_link, drops_link, dev_of, from, is_silent, is_owners_word, MayIdle, EventIs, Guard}
 use Rattle.pm_kinds.specs.LineKind.{HasKind}
-use Rattle.pm_kinds.specs.Parts.{Phase, suspending, resuming, preparing, ready, counts, at_part, any_phase, passes}
+use Rattle.pm_kinds.specs.Parts.{Phase, suspending, resuming, preparing, ready, at_part, passes}
 use Rattle.pm_kinds.proofs.Lines.{line_kind}
 use Rattle.pm_kinds.proofs.Owners.{raises, resume_parts, tally_same, some_parts, weaker_parts, apart_parts, owners_are}
 use Rattle.pm_bonds.proofs.Refusals.{Rests, rests_so}
-use Rattle.pm_bonds.proofs.Steps.{differ, own_counts}
+use Rattle.pm_bonds.proofs.Steps.{own_counts}
 use Rattle.pm_running.specs.Running.{is_owners, runs_in}
 use Rattle.pm_running.proofs.Running.{callbacks_run}
 

@@ -1,5 +1,5 @@
 -- A resume that is pending for a link has its consumer at a stage that takes links; so none is pending for a live device.
-use Rattle.std.proofs.Common.{ℕ, ◌≡◌, ◌+◌, ◌<◌, ◌≤◌, ◌⊎◌, inl, inr, Bool, true, false, not, ◌&&◌, List, [], ◌∷◌, Option, Some, None, length, nat_eq, ap, refl, sym, ◌∙◌, arith}
+use Rattle.std.proofs.Common.{ℕ, ◌≡◌, ◌+◌, ◌<◌, ◌≤◌, ◌⊎◌, inl, inr, Bool, true, false, not, ◌&&◌, List, [], ◌∷◌, Option, Some, length, nat_eq, ap, refl, sym, ◌∙◌, arith}
 use Rattle.std.specs.Prelude.{◌||◌}
 use Rattle.std.specs.List.{sum_by}
 use Rattle.std.proofs.lemmas.Bool.Decides.{eqb_tells}
@@ -21,9 +21,8 @@ use Rattle.pm_model.specs.Views.{device}
 use Rattle.pm_model.specs.World.{World, world}
 use Rattle.pm_sums.specs.Sums.{one, tally}
 use Rattle.pm_laws.specs.Owners.{places}
-use Rattle.pm_laws.proofs.Runs.{Holds, lawful_holds}
+use Rattle.pm_laws.proofs.Runs.{lawful_holds}
 use Rattle.pm_stacks.specs.Shape.{IsNested, AreNested, call_of}
-use Rattle.pm_stacks.proofs.Stacks.{stacks_nest}
 use Rattle.pm_stacks.proofs.Tests.{same_self}
 use Rattle.pm_kinds.specs.Kinds.{gathers}
 use Rattle.pm_kinds.specs.Needs.{Needs}
@@ -33,7 +32,6 @@ use Rattle.pm_pends.specs.Pends.{asks, awaits, is_for, is_done, pends, consumer}
 use Rattle.pm_pends.proofs.Askings.{nested_asked, nested_consumers}
 use Rattle.pm_pends.proofs.Pending.{Asked, Each, IsOfConsumer}
 use Rattle.pm_bonds.proofs.Marked.{all_within}
-use Rattle.pm_bonds.proofs.Steps.{differ}
 use Rattle.pm_running.specs.Running.{is_owners, runs_in}
 use Rattle.pm_running.proofs.Running.{callbacks_run}
 use Rattle.pm_running.proofs.Exclusive.{unowned, at_most_one}

@@ -1,5 +1,5 @@
 -- The callbacks of owners run where their stages are open, after every lawful list of lines.
-use Rattle.std.proofs.Common.{ℕ, ◌≡◌, ◌+◌, ◌<◌, ◌≤◌, Bool, true, false, ◌∷◌, [], Option, Some, None, length, ap, refl, sym, ◌∙◌, subst, arith}
+use Rattle.std.proofs.Common.{ℕ, ◌≡◌, ◌+◌, ◌<◌, Bool, true, false, ◌∷◌, [], Option, Some, None, length, ap, refl, sym, ◌∙◌, subst, arith}
 use Rattle.std.specs.Option.{unwrap_or}
 use Rattle.pm_base.specs.declared.Cb.{Cb}
 use Rattle.pm_base.specs.declared.Cb.TheVariants as cb

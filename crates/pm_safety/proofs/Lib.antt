@@ -1,0 +1,3 @@
+pub mod BondLemmas
+pub mod LinkLemmas
+pub mod SafeLemmas
