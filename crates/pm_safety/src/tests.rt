@@ -61,14 +61,14 @@ const FREE_CONSUMER: Inspect = Inspect {
 };
 
 /// Device k in a domain under another one, with a parent and a supplier.
-static BOUND: &[u8] = b"domain = [{name = 'top'}, {name = 'pd', parent = 'top'}]
+const BOUND: &[u8] = b"domain = [{name = 'top'}, {name = 'pd', parent = 'top'}]
 device = [{name = 'p'}, {name = 's'}, {name = 'k', domain = 'pd', parent = 'p'}]
 link = [{consumer = 'k', supplier = 's'}]
 caller = [{name = 'c', script = ['enable p', 'enable s', 'enable k', 'get_sync k', 'put_sync_suspend k']}]
 ";
 
 /// A parent that ignores its children once they are Active.
-static IGNORED: &[u8] = b"device = [{name = 'p'}, {name = 'k', parent = 'p'}]
+const IGNORED: &[u8] = b"device = [{name = 'p'}, {name = 'k', parent = 'p'}]
 caller = [{name = 'c', script = ['enable p', 'enable k', 'get_sync k', 'ignore_children p on', 'suspend p']}]
 ";
 
