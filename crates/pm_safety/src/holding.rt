@@ -15,7 +15,7 @@ use pm_device::{Parts, has_domain, parent};
 use pm_model::{LinkRow, Plan};
 
 /// How a device that is live or not stands with its domain and those above it.
-pub fn domains(parts: &Parts, plan: &Plan, dev: DevId, live: bool) -> Bond
+pub fn domain_bond(parts: &Parts, plan: &Plan, dev: DevId, live: bool) -> Bond
     requires made_for { IsFor plan.now parts.now.shape }
     requires in_range { dev.0 < length plan.now.devices }
     ensures { (h : History) → parts.now.views ≡ (world plan.now h).views → result ≡ bond_of live (domain_bonds plan.now h dev) }
@@ -101,7 +101,7 @@ fn suppliers_are_active(parts: &Parts, plan: &Plan, dev: DevId) -> bool
 }
 
 /// How it stands with its suppliers. It looks at all links of the plan.
-pub fn suppliers(parts: &Parts, plan: &Plan, dev: DevId, live: bool) -> Bond
+pub fn supplier_bond(parts: &Parts, plan: &Plan, dev: DevId, live: bool) -> Bond
     requires made_for { IsFor plan.now parts.now.shape }
     requires present_len { length parts.now.views.present ≡ length plan.now.links }
     ensures { (h : History) → parts.now.views ≡ (world plan.now h).views → result ≡ bond_of live (supplier_bonds plan.now h dev) }

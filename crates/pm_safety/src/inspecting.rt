@@ -6,7 +6,7 @@ ghost use Rattle.pm_model.specs.Promises.{domain_bonds, parent_bonds, supplier_b
 ghost use Rattle.pm_safety.specs.Inspected.{AreExcused, bond_of};
 
 use crate::answers::Inspect;
-use crate::holding::{domains, parent_bond, suppliers};
+use crate::holding::{domain_bond, parent_bond, supplier_bond};
 use crate::running::is_live;
 use pm_base::DevId;
 use pm_book::Book;
@@ -31,8 +31,8 @@ pub fn inspect(book: &Book, dev: DevId) -> Inspect
     let live = is_live(parts, lines, dev);
     Inspect {
         live,
-        domains: domains(parts, plan, dev, live),
+        domains: domain_bond(parts, plan, dev, live),
         parent: parent_bond(parts, plan, dev, live),
-        suppliers: suppliers(parts, plan, dev, live),
+        suppliers: supplier_bond(parts, plan, dev, live),
     }
 }

@@ -1,4 +1,4 @@
-use Rattle.std.proofs.Common.{◌≡◌, ◌∙◌, sym, true, ◌&&◌, Bool}
+use Rattle.std.proofs.Common.{◌≡◌, ◌∙◌, sym}
 use Rattle.pm_model.specs.Views.{is_present}
 use Rattle.pm_safety.proofs.LinkLemmas.{both, of_pair}
 use Rattle.pm_safety.proofs.holding.is_bond.Goals as goal

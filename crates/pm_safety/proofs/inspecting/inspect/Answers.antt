@@ -13,7 +13,7 @@ returns-clause-excused c =
     let plan : Plan = c.args.book.now.plan in
     let h : History = c.args.book.now.lines in
     let d : DevId = c.args.dev in
-    let domains : c.domains.result ≡ bond_of (is_live plan h d) (domain_bonds plan h d) = search rules in
+    let domains : c.domain_bond.result ≡ bond_of (is_live plan h d) (domain_bonds plan h d) = search rules in
     let parent : c.parent_bond.result ≡ bond_of (is_live plan h d) (parent_bonds plan h d) = search rules in
-    let suppliers : c.suppliers.result ≡ bond_of (is_live plan h d) (supplier_bonds plan h d) = search rules in
+    let suppliers : c.supplier_bond.result ≡ bond_of (is_live plan h d) (supplier_bonds plan h d) = search rules in
     all_excused plan h d _ (c.runs_are_safe.ensures plan h c.lines-lines.ensures.lawful) c.requires domains parent suppliers
