@@ -1,5 +1,5 @@
 -- Whose turn it is writes its line, at the moment of its turn.
-use Rattle.std.proofs.Common.{◌≡◌, ◌∙◌, ◌+◌, ◌*◌, ◌-◌, ◌<◌, ◌≤◌, ◌^◌, ◌⊎◌, ℕ, zero, suc, Bool, true, false, List, [], ◌∷◌, Option, Some, None, Result, Ok, Err, IfOk, find, is_some, length, max, min, nat_le, nat_lt, option_map, unwrap_or, if◌then◌else◌, ap, arith, inl, inr, refl, subst, sym}
+use Rattle.std.proofs.Common.{◌≡◌, ◌∙◌, ◌+◌, ◌*◌, ◌≤◌, ℕ, Bool, true, false, List, [], ◌∷◌, Option, Some, None, Result, Ok, Err, IfOk, is_some, length, min, nat_le, nat_lt, option_map, unwrap_or, if◌then◌else◌, ap, arith, inr, refl, sym}
 use Rattle.std.specs.List.{cons_option, filter_map}
 use Rattle.std.specs.Option.{option_and_then, option_map_or}
 use Rattle.std.proofs.lemmas.Bool.{false≢true}
@@ -9,7 +9,6 @@ use Rattle.pm_base.specs.declared.ActorId.{ActorId}
 use Rattle.pm_base.specs.declared.limits.TheConstants.{MAX_LINES}
 use Rattle.pm_model.specs.declared.event.Event.{Event}
 use Rattle.pm_model.specs.declared.event.Event.TheVariants as event
-use Rattle.pm_model.specs.declared.event.Line.{Line}
 use Rattle.pm_model.specs.declared.plan.Plan.{Plan}
 use Rattle.pm_model.specs.declared.stage.Change.{Change}
 use Rattle.pm_model.specs.declared.stage.IdleStage.TheVariants as idle
@@ -22,9 +21,9 @@ use Rattle.pm_model.specs.declared.stage.SuspendStage.TheVariants as suspend
 use Rattle.pm_model.specs.declared.stage.Then.{Then}
 use Rattle.pm_model.specs.History.{History}
 use Rattle.pm_model.specs.Lawful.{last_time}
-use Rattle.pm_model.specs.Serial.{goes_on, least, move_at, next_line, next_turn, round, writes_line, written}
+use Rattle.pm_model.specs.Serial.{least, move_at, next_line, next_turn, round, writes_line, written}
 use Rattle.pm_model.specs.Views.{Views}
-use Rattle.pm_model.specs.World.{World, due, move, stage_at, world}
+use Rattle.pm_model.specs.World.{due, move, stage_at, world}
 use Rattle.pm_idling.specs.Blocks.{blocks}
 use Rattle.pm_runs.proofs.SerialLemmas.{permits_next}
 use Rattle.pm_state.specs.declared.acting.Turn.TheVariants as turn
@@ -35,7 +34,7 @@ use Rattle.pm_waking.proofs.Waking.{actor_timed}
 use Rattle.pm_book.specs.declared.steps.EndStep.TheVariants as end
 use Rattle.pm_book.specs.declared.steps.Step.TheVariants as step
 use Rattle.pm_book.specs.Pages.{Adds, Pages, end_answer, end_by, has_written, is_full, moment_from, step_answer, step_by, world_of}
-use Rattle.pm_serial.specs.Ends.{IsOver, IsTimely, IsTurn, IsUnder, Stepped, Writes, whole}
+use Rattle.pm_serial.specs.Ends.{IsOver, IsTimely, IsTurn, Stepped, Writes}
 
 -- a turn comes no later than the last line or the latest moment that is awaited
 least_below : {A : Type 0} (wake : A → Option ℕ) (b : ℕ) → ((x : A) (m : ℕ) → wake x ≡ Some m → m ≤ b) → (xs : List A) (m : ℕ) → least (filter_map wake xs) ≡ Some m → m ≤ b
@@ -203,35 +202,7 @@ adds_next old new a t m is at soon adds =
       added = adds.added;
     }
 
--- a line more, towards the same whole
-less_by_one : (a b : ℕ) → b < a → a - b ≡ suc (a - suc b)
-less_by_one a b lt = omega (arith, lt)
-
-whole_on : (plan : Plan) (n : ℕ) (h : History) (line : Line) → next_line plan h ≡ Some line → goes_on plan (suc n) h ≡ goes_on plan n (line ∷ h)
-whole_on plan n h line is = ap (λ o. option_map_or (λ line. goes_on plan n (line ∷ h)) o h) is
-
-has_room : (p : Pages) → is_full p ≡ false → length p.lines < p.plan.lines
-has_room p free = grind (arith, nat_tests)
-
-nowhere : (plan : Plan) (n : ℕ) (h : History) → next_line plan h ≡ None → goes_on plan n h ≡ h
-nowhere plan zero h none = refl
-nowhere plan (suc n) h none = ap (λ o. option_map_or (λ line. goes_on plan n (line ∷ h)) o h) none
-
-full_none : (p : Pages) → is_full p ≡ true → p.plan.lines - length p.lines ≡ 0
-full_none p full = let le : p.plan.lines ≤ length p.lines = grind (arith, nat_tests) in omega (arith, le)
-
-pub whole_is : (p : Pages) → IsOver p → p.lines ≡ whole p
-whole_is p (inl full) = sym (ap (λ n. goes_on p.plan n p.lines) (full_none p full))
-whole_is p (inr none) = sym (nowhere p.plan (p.plan.lines - length p.lines) p.lines none)
-
-pub under_one : (old new : Pages) → is_full old ≡ false → IsTimely old → Writes old new → IsUnder old new
-under_one old new free timely wrote =
-    let line = wrote.line in
-    let room = has_room old free in
-    let after : Pages = record old { lines = line ∷ old.lines } in
-    let same : whole after ≡ whole old = sym (ap (λ n. goes_on old.plan n old.lines) (less_by_one old.plan.lines (length old.lines) room) ∙ whole_on old.plan (old.plan.lines - suc (length old.lines)) old.lines line wrote.next) in
-    subst (λ (p : Pages). IsUnder old p) (sym wrote.added) (record { timely = omega (arith, wrote.soon, timely); same = same })
-
+-- a test that is not false is true
 pub when_true : (b : Bool) → (b ≡ false → ⊥) → b ≡ true
 when_true true f = refl
 when_true false f = absurd (f refl)

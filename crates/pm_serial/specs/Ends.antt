@@ -1,10 +1,9 @@
 -- How a run on one thread goes on and ends (this project's own).
-use Rattle.std.specs.Prelude.{◌≡◌, ◌+◌, ◌++◌, ◌*◌, ◌-◌, ◌≤◌, ◌⊎◌, ℕ, Bool, true, false, List, ◌∷◌, Some, None, length}
+use Rattle.std.specs.Prelude.{◌≡◌, ◌+◌, ◌++◌, ◌*◌, ◌≤◌, ◌⊎◌, ℕ, Bool, true, false, List, ◌∷◌, Some, None, length}
 use Rattle.pm_base.specs.declared.ActorId.{ActorId}
 use Rattle.pm_model.specs.declared.event.Line.{Line}
-use Rattle.pm_model.specs.History.{History}
 use Rattle.pm_model.specs.Lawful.{is_finished, last_time}
-use Rattle.pm_model.specs.Serial.{goes_on, next_line, next_turn}
+use Rattle.pm_model.specs.Serial.{next_line, next_turn}
 use Rattle.pm_book.specs.Pages.{Pages, is_full, moment_from, world_of}
 use Rattle.pm_serial.specs.declared.running.End.{End}
 use Rattle.pm_serial.specs.declared.running.End.TheVariants as end
@@ -23,10 +22,6 @@ IsEnd p end.Stuck = (is_full p ≡ false) × (is_finished p.plan (world_of p) �
 -- no more time has passed than one thread takes: at most 1,000,000 milliseconds for each line
 abbrev pub IsTimely : Pages → Type 0
 IsTimely p = last_time p.lines ≤ 1000000 * length p.lines
-
--- the lines of the whole run to which one thread goes on from here, the newest first
-abbrev pub whole : Pages → History
-whole p = goes_on p.plan (p.plan.lines - length p.lines) p.lines
 
 -- the list is full, or no line comes next
 abbrev pub IsOver : Pages → Type 0
@@ -50,8 +45,3 @@ pub record Writes (old new : Pages) : Type 0 where
 abbrev pub Stepped : Pages → Pages → Bool → Type 0
 Stepped old new true = Writes old new
 Stepped old new false = (new ≡ old) × IsOver old
-
--- the run goes on towards the same whole
-pub record IsUnder (old new : Pages) : Type 0 where
-  pub timely : IsTimely new
-  pub same : whole new ≡ whole old

@@ -1,10 +1,10 @@
 //! Draining a book.
 
-ghost use Rattle.std.specs.Prelude.{◌≡◌, ◌≢◌, false, true, IfOk, OnOk};
+ghost use Rattle.std.specs.Prelude.{◌≡◌, ◌≢◌, false, true, IfOk};
 ghost use Rattle.pm_book.specs.Pages.{has_written, world_of};
 ghost use Rattle.pm_state.specs.Standing.{IsActor};
 ghost use Rattle.pm_state.specs.Turns.{is_running};
-ghost use Rattle.pm_serial.specs.Ends.{GoesOn, IsEnd, IsTimely, IsTurn, Stepped, Writes, whole};
+ghost use Rattle.pm_serial.specs.Ends.{GoesOn, IsEnd, IsTimely, IsTurn, Stepped, Writes};
 
 use pm_base::{ActorId, NoMemory};
 use pm_book::{Book, EndStep, Step};

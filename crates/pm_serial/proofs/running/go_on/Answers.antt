@@ -1,4 +1,4 @@
-use Rattle.std.proofs.Common.{◌≡◌, ◌∙◌, refl, sym}
+use Rattle.std.proofs.Common.{sym}
 use Rattle.pm_serial.proofs.TurnLemmas.{if_stepped, is_turn, stepped}
 use Rattle.pm_serial.proofs.running.go_on.Goals as goal
 

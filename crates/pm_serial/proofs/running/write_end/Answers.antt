@@ -1,4 +1,4 @@
-use Rattle.std.proofs.Common.{◌≡◌, ◌∙◌, refl, sym}
+use Rattle.std.proofs.Common.{◌∙◌}
 use Rattle.pm_book.specs.Pages.{moment_from}
 use Rattle.pm_serial.proofs.EndLemmas.{goes_by}
 use Rattle.pm_serial.proofs.TurnLemmas.{adds_next, end_wrote, when_true}
@@ -11,6 +11,7 @@ returns-clause-goes c =
 
 pub returns-clause-next : goal.returns-clause-next
 returns-clause-next c = λ is.
-    let wrote = c.end_callback-step.ensures.answer ∙ end_wrote c.args.book.now c.args.actor c.args.now is.turn is.room c.requires.running is.at in
-    (when_true c.has_ended.result (λ no. c.has_ended.ensures.no no wrote),
-    adds_next c.args.book.now c.end_callback-step.new.self c.args.actor c.args.now (moment_from c.args.book.now.lines c.args.now) is.turn is.at is.soon (c.end_callback-step.ensures.writes wrote))
+    let wrote = c.end_callback-step.ensures.answer ∙ end_wrote c.args.book.now c.args.actor c.args.now is.turn is.room c.requires.running is.at in (
+      when_true c.has_ended.result (λ no. c.has_ended.ensures.no no wrote),
+      adds_next c.args.book.now c.end_callback-step.new.self c.args.actor c.args.now (moment_from c.args.book.now.lines c.args.now) is.turn is.at is.soon (c.end_callback-step.ensures.writes wrote),
+    )
