@@ -1,13 +1,14 @@
 //! Draining a book.
 
-ghost use Rattle.std.specs.Prelude.{◌≡◌, true, IfOk};
+ghost use Rattle.std.specs.Prelude.{◌≡◌, ◌≢◌, false, true, IfOk};
 ghost use Rattle.pm_book.specs.Pages.{has_written, world_of};
 ghost use Rattle.pm_state.specs.Standing.{IsActor};
 ghost use Rattle.pm_state.specs.Turns.{is_running};
-ghost use Rattle.pm_serial.specs.Ends.{GoesOn, IsEnd};
+ghost use Rattle.pm_serial.specs.Ends.{GoesOn, IsEnd, IsTimely, IsTurn, Stepped, Writes};
 
 use pm_base::{ActorId, NoMemory};
 use pm_book::{Book, EndStep, Step};
+use pm_bounds::{due_moments, lines_are_bounded};
 
 /// How a run ended.
 #[derive(Clone, Copy, Debug, PartialEq, Eq)]
@@ -28,10 +29,19 @@ fn has_written(step: Step) -> bool
     matches!(step, Step::Wrote | Step::Begun(..))
 }
 
+// Whether an end was written.
+fn has_ended(step: EndStep) -> bool
+    ensures yes { result ≡ true → step ≡ EndStep.Wrote }
+    ensures no { result ≡ false → step ≢ EndStep.Wrote }
+{
+    matches!(step, EndStep::Wrote)
+}
+
 // Lets an actor write its line; false where it can't.
 fn write(book: &mut Book, actor: ActorId, now: u64) -> Result<bool, NoMemory>
     requires { IsActor book.old.plan actor }
-    ensures { GoesOn book.old book.new }
+    ensures goes { GoesOn book.old book.new }
+    ensures next { IsTurn book.old actor now → is_running book.old.plan (world_of book.old) actor ≡ false → IfOk result (λ wrote. (wrote ≡ true) × Writes book.old book.new) }
 {
     let step = book.step(actor, now)?;
     Ok(has_written(step))
@@ -41,19 +51,25 @@ fn write(book: &mut Book, actor: ActorId, now: u64) -> Result<bool, NoMemory>
 fn write_end(book: &mut Book, actor: ActorId, now: u64) -> bool
     requires in_range { IsActor book.old.plan actor }
     requires running { is_running book.old.plan (world_of book.old) actor ≡ true }
-    ensures { GoesOn book.old book.new }
+    ensures goes { GoesOn book.old book.new }
+    ensures next { IsTurn book.old actor now → (result ≡ true) × Writes book.old book.new }
 {
-    match book.end_callback(actor, now) {
-        EndStep::Wrote => true,
-        _ => false,
-    }
+    let step = book.end_callback(actor, now);
+    has_ended(step)
 }
 
 // Writes the next line by the order of turns; false where it can't be written.
 #[tactic(auto, using(crate::proofs::EndLemmas::goes_nowhere))]
 fn go_on(book: &mut Book) -> Result<bool, NoMemory>
-    ensures { GoesOn book.old book.new }
+    ensures goes { GoesOn book.old book.new }
+    ensures next { IsTimely book.old → IfOk result (Stepped book.old book.new) }
 {
+    if book.is_full() {
+        return Ok(false);
+    }
+    due_moments();
+    lines_are_bounded();
+    let _ = book.lines();
     let Some((actor, now)) = book.next_turn() else {
         return Ok(false);
     };

@@ -1,0 +1,208 @@
+-- Whose turn it is writes its line, at the moment of its turn.
+use Rattle.std.proofs.Common.{◌≡◌, ◌∙◌, ◌+◌, ◌*◌, ◌≤◌, ℕ, Bool, true, false, List, [], ◌∷◌, Option, Some, None, Result, Ok, Err, IfOk, is_some, length, min, nat_le, nat_lt, option_map, unwrap_or, if◌then◌else◌, ap, arith, inr, refl, sym}
+use Rattle.std.specs.List.{cons_option, filter_map}
+use Rattle.std.specs.Option.{option_and_then, option_map_or}
+use Rattle.std.proofs.lemmas.Bool.{false≢true}
+use Rattle.std.proofs.lemmas.Bool.Decides.{nat_tests}
+use Rattle.std.proofs.lemmas.Option.{same_Some}
+use Rattle.pm_base.specs.declared.ActorId.{ActorId}
+use Rattle.pm_base.specs.declared.limits.TheConstants.{MAX_LINES}
+use Rattle.pm_model.specs.declared.event.Event.{Event}
+use Rattle.pm_model.specs.declared.event.Event.TheVariants as event
+use Rattle.pm_model.specs.declared.plan.Plan.{Plan}
+use Rattle.pm_model.specs.declared.stage.Change.{Change}
+use Rattle.pm_model.specs.declared.stage.IdleStage.TheVariants as idle
+use Rattle.pm_model.specs.declared.stage.Move.{Move}
+use Rattle.pm_model.specs.declared.stage.Move.TheVariants.{Write, Late, Wait}
+use Rattle.pm_model.specs.declared.stage.ResumeStage.TheVariants as resume
+use Rattle.pm_model.specs.declared.stage.Stage.{Stage}
+use Rattle.pm_model.specs.declared.stage.Stage.TheVariants as stage
+use Rattle.pm_model.specs.declared.stage.SuspendStage.TheVariants as suspend
+use Rattle.pm_model.specs.declared.stage.Then.{Then}
+use Rattle.pm_model.specs.History.{History}
+use Rattle.pm_model.specs.Lawful.{last_time}
+use Rattle.pm_model.specs.Serial.{least, move_at, next_line, next_turn, round, writes_line, written}
+use Rattle.pm_model.specs.Views.{Views}
+use Rattle.pm_model.specs.World.{due, move, stage_at, world}
+use Rattle.pm_idling.specs.Blocks.{blocks}
+use Rattle.pm_runs.proofs.SerialLemmas.{permits_next}
+use Rattle.pm_state.specs.declared.acting.Turn.TheVariants as turn
+use Rattle.pm_state.specs.Turns.{by_move, by_running, by_stage, end_due, is_running, running_due, runs_at, turn_of}
+use Rattle.pm_waking.specs.Wakes.{first_awake, is_within, or_least, turn_by, wakes, wakes_at}
+use Rattle.pm_waking.proofs.Turning.{next_is, turn_awake}
+use Rattle.pm_waking.proofs.Waking.{actor_timed}
+use Rattle.pm_book.specs.declared.steps.EndStep.TheVariants as end
+use Rattle.pm_book.specs.declared.steps.Step.TheVariants as step
+use Rattle.pm_book.specs.Pages.{Adds, Pages, end_answer, end_by, has_written, is_full, moment_from, step_answer, step_by, world_of}
+use Rattle.pm_serial.specs.Ends.{IsOver, IsTimely, IsTurn, Stepped, Writes}
+
+-- a turn comes no later than the last line or the latest moment that is awaited
+least_below : {A : Type 0} (wake : A → Option ℕ) (b : ℕ) → ((x : A) (m : ℕ) → wake x ≡ Some m → m ≤ b) → (xs : List A) (m : ℕ) → least (filter_map wake xs) ≡ Some m → m ≤ b
+least_below wake b each [] m is = cc is
+least_below {A} wake b each (x ∷ xs) m is = go (wake x) refl is (least_below wake b each xs)
+  where
+    of_two : (k : ℕ) (o : Option ℕ) → k ≤ b → Some (option_map_or (min k) o k) ≡ Some m → m ≤ b
+    of_two k None le e = let same = same_Some k m e in omega (arith, le, same)
+    of_two k (Some q) le e = let same = same_Some (min k q) m e in omega (arith, le, same)
+
+    go : (o : Option ℕ) → wake x ≡ o → least (cons_option o (filter_map wake xs)) ≡ Some m → ((m : ℕ) → least (filter_map wake xs) ≡ Some m → m ≤ b) → m ≤ b
+    go None e is rest = rest m is
+    go (Some k) e is rest = of_two k (least (filter_map wake xs)) (each x k e) is
+
+turn_below : {A : Type 0} (wake : A → Option ℕ) (b : ℕ) → ((x : A) (m : ℕ) → wake x ≡ Some m → m ≤ b) → (xs : List A) (t : ℕ) (turn : A × ℕ) → t ≤ b → turn_by wake xs t ≡ Some turn → turn.1 ≤ b
+turn_below {A} wake b each xs t turn le is = now (first_awake wake xs t) is
+  where
+    at : (m : ℕ) → m ≤ b → (o : Option A) → option_map (λ a. (a, m)) o ≡ Some turn → turn.1 ≤ b
+    at m le None e = cc e
+    at m le (Some a) e = let same : m ≡ turn.1 = ap (λ (x : A × ℕ). x.1) (same_Some (a, m) turn e) in omega (arith, le, same)
+
+    later : (o : Option ℕ) → least (filter_map wake xs) ≡ o → option_and_then (λ m. option_map (λ a. (a, m)) (first_awake wake xs m)) o ≡ Some turn → turn.1 ≤ b
+    later None is e = cc e
+    later (Some m) is e = at m (least_below wake b each xs m is) (first_awake wake xs m) e
+
+    now : (o : Option A) → or_least wake xs t o ≡ Some turn → turn.1 ≤ b
+    now (Some a) e = at t le (Some a) e
+    now None e = later (least (filter_map wake xs)) refl e
+
+-- the moment that is awaited at a stage is when its line is due
+of_test : (b : Bool) (k m : ℕ) → (if b then None else Some k) ≡ Some m → k ≡ m
+of_test true k m is = cc is
+of_test false k m is = same_Some k m is
+
+wake_is_due : (plan : Plan) (v : Views) (s : Stage) (m : ℕ) → wakes_at plan v s ≡ Some m → due plan v s ≡ m
+wake_is_due plan v (stage.Idle s) m is = of_test (blocks v (stage.Idle s)) (due plan v (stage.Idle s)) m is
+wake_is_due plan v (stage.Suspend s) m is = of_test (blocks v (stage.Suspend s)) (due plan v (stage.Suspend s)) m is
+wake_is_due plan v (stage.Resume s) m is = of_test (blocks v (stage.Resume s)) (due plan v (stage.Resume s)) m is
+wake_is_due plan v (stage.Helper s) m is = of_test (blocks v (stage.Helper s)) (due plan v (stage.Helper s)) m is
+wake_is_due plan v (stage.Control s) m is = of_test (blocks v (stage.Control s)) (due plan v (stage.Control s)) m is
+wake_is_due plan v (stage.Await a) m is = cc is
+
+abbrev pub AreDue : Plan → History → Type 0
+AreDue plan h = (a : ActorId) (s : Stage) → stage_at plan (world plan h) a ≡ Some s → due plan (world plan h).views s ≤ last_time h + 1000000
+
+wake_early : (plan : Plan) (h : History) → AreDue plan h → (a : ActorId) (m : ℕ) → wakes plan (world plan h) a ≡ Some m → m ≤ last_time h + 1000000
+wake_early plan h are a m is = go (stage_at plan (world plan h) a) refl is
+  where
+    go : (o : Option Stage) → stage_at plan (world plan h) a ≡ o → option_and_then (wakes_at plan (world plan h).views) o ≡ Some m → m ≤ last_time h + 1000000
+    go None at e = cc e
+    go (Some s) at e = let same = wake_is_due plan (world plan h).views s m e in let early = are a s at in omega (arith, early, same)
+
+-- whose turn it is writes a line
+pub record IsNext (plan : Plan) (h : History) (turn : ActorId × ℕ) : Type 0 where
+  pub event : Event
+  pub change : Change
+  pub next : Then
+  pub gives : move_at plan (world plan h) turn.1 turn.0 ≡ Some (Write event change next)
+
+awake : (plan : Plan) (h : History) (turn : ActorId × ℕ) → next_turn plan h ≡ Some turn → is_within turn.1 (wakes plan (world plan h) turn.0) ≡ true
+awake plan h turn is = turn_awake (wakes plan (world plan h)) (round plan h) (last_time h) turn (sym (next_is plan h) ∙ is)
+
+turn_writes : (plan : Plan) (h : History) (turn : ActorId × ℕ) → next_turn plan h ≡ Some turn → IsNext plan h turn
+turn_writes plan h turn is = go (move_at plan (world plan h) turn.1 turn.0) refl ((actor_timed plan (world plan h) turn.1 turn.0).0 ∙ awake plan h turn is)
+  where
+    go : (o : Option Move) → move_at plan (world plan h) turn.1 turn.0 ≡ o → option_map_or writes_line o false ≡ true → IsNext plan h turn
+    go None e may = absurd (false≢true may)
+    go (Some (Late at)) e may = absurd (false≢true may)
+    go (Some (Wait d)) e may = absurd (false≢true may)
+    go (Some (Write event change next)) e may = record { event = event; change = change; next = next; gives = e }
+
+line_next : (plan : Plan) (h : History) (turn : ActorId × ℕ) → next_turn plan h ≡ Some turn → (n : IsNext plan h turn)
+    → next_line plan h ≡ Some (record { time = turn.1; actor = turn.0; event = n.event })
+line_next plan h turn is n =
+    ap (option_and_then (λ (x : ActorId × ℕ). option_and_then (written x.0 x.1) (move_at plan (world plan h) x.1 x.0))) is ∙ ap (option_and_then (written turn.0 turn.1)) n.gives
+
+-- no clock counts as less than the moment of a turn
+turn_soon : (plan : Plan) (h : History) (turn : ActorId × ℕ) → AreDue plan h → next_turn plan h ≡ Some turn → turn.1 ≤ last_time h + 1000000
+turn_soon plan h turn are is =
+    turn_below (wakes plan (world plan h)) (last_time h + 1000000) (wake_early plan h are) (round plan h) (last_time h) turn (omega arith) (sym (next_is plan h) ∙ is)
+
+turn_in_time : (plan : Plan) (h : History) (turn : ActorId × ℕ) → AreDue plan h → length h ≤ MAX_LINES → last_time h ≤ 1000000 * length h → next_turn plan h ≡ Some turn
+    → moment_from h turn.1 ≡ turn.1
+turn_in_time plan h turn are few timely is =
+    let below = turn_soon plan h turn are is in
+    let line = line_next plan h turn is (turn_writes plan h turn is) in
+    let above : last_time h ≤ turn.1 = (permits_next plan h _ line).in_time in
+    omega (arith, below, above, few, timely)
+
+pub is_turn : (p : Pages) (a : ActorId) (now : ℕ) → AreDue p.plan p.lines → length p.lines ≤ MAX_LINES → next_turn p.plan p.lines ≡ Some (a, now) → is_full p ≡ false → IsTimely p → IsTurn p a now
+is_turn p a now are few is free timely = record {
+  turn = is;
+  room = free;
+  at = turn_in_time p.plan p.lines (a, now) are few timely is;
+  soon = turn_soon p.plan p.lines (a, now) are is;
+}
+
+pub stepped : (old new : Pages) (b : Bool) → (b ≡ true) × Writes old new → Stepped old new b
+stepped old new true is = is.1
+stepped old new false is = absurd (false≢true is.0)
+
+pub if_stepped : {E : Type 0} (old new : Pages) (r : Result Bool E) → IfOk r (λ b. (b ≡ true) × Writes old new) → IfOk r (Stepped old new)
+if_stepped old new (Ok b) is = stepped old new b is
+if_stepped old new (Err e) is = tt
+
+pub over_none : (p : Pages) → next_turn p.plan p.lines ≡ None → IsOver p
+over_none p is = inr (ap (option_and_then (λ (x : ActorId × ℕ). option_and_then (written x.0 x.1) (move_at p.plan (world p.plan p.lines) x.1 x.0))) is)
+
+-- a step of whose turn it is writes its line
+writes_at : (plan : Plan) (v : Views) (t : ℕ) (o : Option Stage) (e : Event) (c : Change) (next : Then) → option_and_then (λ s. move plan v s t) o ≡ Some (Write e c next) → runs_at plan o ≡ false
+    → has_written (step_by v (by_stage plan v t o)) ≡ true
+writes_at plan v t None e c next gives rests = cc gives
+writes_at plan v t (Some s) e c next gives rests = go (running_due plan s) rests
+  where
+    wrote : (e : Event) → has_written (step_by v (turn.Writes s e c next)) ≡ true
+    wrote (event.Begin d k) = refl
+    wrote _ = refl
+
+    go : (o : Option ℕ) → is_some o ≡ false → has_written (step_by v (by_running o (by_move s (move plan v s t)))) ≡ true
+    go (Some at) rests = absurd (false≢true (sym rests))
+    go None rests = ap (λ m. has_written (step_by v (by_move s m))) gives ∙ wrote e
+
+pub step_wrote : (p : Pages) (a : ActorId) (now : ℕ) → next_turn p.plan p.lines ≡ Some (a, now) → is_full p ≡ false → is_running p.plan (world_of p) a ≡ false → moment_from p.lines now ≡ now
+    → has_written (step_answer p a now) ≡ true
+step_wrote p a now is free rests at =
+    let n = turn_writes p.plan p.lines (a, now) is in
+    ap (λ b. has_written (if b then step.AtLimit else step_by (world_of p).views (turn_of p.plan (world_of p) a (moment_from p.lines now)))) free
+    ∙ ap (λ t. has_written (step_by (world_of p).views (turn_of p.plan (world_of p) a t))) at
+    ∙ writes_at p.plan (world_of p).views now (stage_at p.plan (world_of p) a) n.event n.change n.next n.gives rests
+
+-- and so does the end of its callback
+not_early : (a b : ℕ) → nat_le a b ≡ true → nat_lt b a ≡ false
+not_early a b le = grind (arith, nat_tests)
+
+ends_at : (plan : Plan) (v : Views) (t : ℕ) (s : Stage) → is_some (running_due plan s) ≡ true → is_within t (wakes_at plan v s) ≡ true → nat_lt t (unwrap_or (running_due plan s) 0) ≡ false
+ends_at plan v t (stage.Idle (idle.Running d f since)) runs within = not_early _ t within
+ends_at plan v t (stage.Suspend (suspend.Running d f since)) runs within = not_early _ t within
+ends_at plan v t (stage.Resume (resume.Running r since)) runs within = not_early _ t within
+ends_at plan v t _ runs within = absurd (false≢true runs)
+
+ends_where : (plan : Plan) (v : Views) (t : ℕ) (o : Option Stage) → runs_at plan o ≡ true → is_within t (option_and_then (wakes_at plan v) o) ≡ true
+    → nat_lt t (unwrap_or (option_and_then (running_due plan) o) 0) ≡ false
+ends_where plan v t None runs within = absurd (false≢true runs)
+ends_where plan v t (Some s) runs within = ends_at plan v t s runs within
+
+pub end_wrote : (p : Pages) (a : ActorId) (now : ℕ) → next_turn p.plan p.lines ≡ Some (a, now) → is_full p ≡ false → is_running p.plan (world_of p) a ≡ true → moment_from p.lines now ≡ now
+    → end_answer p a now ≡ end.Wrote
+end_wrote p a now is free runs at =
+    let late = ends_where p.plan (world_of p).views now (stage_at p.plan (world_of p) a) runs (awake p.plan p.lines (a, now) is) in
+    let ending = unwrap_or (end_due p.plan (world_of p) a) 0 in
+    ap (λ b. if b then end.AtLimit else end_by (moment_from p.lines now) ending) free ∙ ap (λ t. end_by t ending) at ∙ ap (λ b. if b then end.Early ending else end.Wrote) late
+
+-- the line that was added is the next
+pub adds_next : (old new : Pages) (a : ActorId) (t m : ℕ) → next_turn old.plan old.lines ≡ Some (a, t) → m ≡ t → t ≤ last_time old.lines + 1000000 → Adds old new a m → Writes old new
+adds_next old new a t m is at soon adds =
+    let line = adds.line in
+    let w = world old.plan old.lines in
+    let p = adds.permits in
+    let gives : move_at old.plan w line.time line.actor ≡ Some (Write line.event p.change p.next) = ap (option_and_then (λ s. move old.plan w.views s line.time)) p.stands ∙ p.gives in
+    let its : next_turn old.plan old.lines ≡ Some (line.actor, line.time) = is ∙ ap (λ x. Some (a, x)) (sym (adds.time_is ∙ at)) ∙ ap (λ y. Some (y, line.time)) (sym adds.actor_is) in
+    record {
+      line = line;
+      next = line_next old.plan old.lines (line.actor, line.time) its (record { event = line.event; change = p.change; next = p.next; gives = gives });
+      soon = omega (arith, soon, at, adds.time_is);
+      added = adds.added;
+    }
+
+-- a test that is not false is true
+pub when_true : (b : Bool) → (b ≡ false → ⊥) → b ≡ true
+when_true true f = refl
+when_true false f = absurd (f refl)
