@@ -18,14 +18,14 @@ use Rattle.pm_model.specs.Views.{Views, device, pending_of, timer, fresh_device,
 use Rattle.pm_apart.proofs.Region.{Alike, AlikeBy, Region, Agree, is_own_link}
 use Rattle.pm_apart.proofs.Lists.{alike_at}
 
-pub device_agrees : (plan : Plan) (k : Region plan) (v w : Views) (d : DevId) → Agree plan k v w → k.inside d.0 ≡ true → device v d ≡ device w d
-device_agrees plan k v w d a i = alike_at k.inside v.devices w.devices d.0 fresh_device a.devices i
+pub device_agrees : {plan : Plan} {k : Region plan} {v w : Views} (d : DevId) → Agree plan k v w → k.inside d.0 ≡ true → device v d ≡ device w d
+device_agrees {plan} {k} {v} {w} d a i = alike_at k.inside v.devices w.devices d.0 fresh_device a.devices i
 
-pub pending_agrees : (plan : Plan) (k : Region plan) (v w : Views) (d : DevId) → Agree plan k v w → k.inside d.0 ≡ true → pending_of v d ≡ pending_of w d
-pending_agrees plan k v w d a i = alike_at k.inside v.pending w.pending d.0 fresh_pending a.pending i
+pub pending_agrees : {plan : Plan} {k : Region plan} {v w : Views} (d : DevId) → Agree plan k v w → k.inside d.0 ≡ true → pending_of v d ≡ pending_of w d
+pending_agrees {plan} {k} {v} {w} d a i = alike_at k.inside v.pending w.pending d.0 fresh_pending a.pending i
 
-pub timer_agrees : (plan : Plan) (k : Region plan) (v w : Views) (d : DevId) → Agree plan k v w → k.inside d.0 ≡ true → timer v d ≡ timer w d
-timer_agrees plan k v w d a i = alike_at k.inside v.timers w.timers d.0 None a.timers i
+pub timer_agrees : {plan : Plan} {k : Region plan} {v w : Views} (d : DevId) → Agree plan k v w → k.inside d.0 ≡ true → timer v d ≡ timer w d
+timer_agrees {plan} {k} {v} {w} d a i = alike_at k.inside v.timers w.timers d.0 None a.timers i
 
 -- children
 abbrev names_parent : DevId → DeviceRow → Bool
@@ -59,9 +59,9 @@ names_is d row e = go row.parent refl e
     go None is e = absurd (cc)
     go (Some p) is e = (p, is, eqb-true p.0 d.0 e)
 
-pub children_agree : (plan : Plan) (k : Region plan) (v w : Views) (d : DevId) → Agree plan k v w → k.inside d.0 ≡ true → children plan v d ≡ children plan w d
+pub children_agree : {plan : Plan} {k : Region plan} {v w : Views} (d : DevId) → Agree plan k v w → k.inside d.0 ≡ true → children plan v d ≡ children plan w d
 unfolding children
-children_agree plan k v w d a inside =
+children_agree {plan} {k} {v} {w} d a inside =
     children_alike d k.inside plan.devices v.devices w.devices
     (λ i row at names. let p = names_is d row names in k.parents i row p.0 at p.1 ∙ ap k.inside p.2 ∙ inside) a.devices
 
@@ -79,35 +79,35 @@ parent_inside plan k d inside = go (slice_get plan.devices d.0) refl
     go (Some row) at = by_row row row.parent at refl
 
 -- readers of a device and its children
-pub refusal_agrees : (plan : Plan) (k : Region plan) (v w : Views) (d : DevId) → Agree plan k v w → k.inside d.0 ≡ true → refusal plan v d ≡ refusal plan w d
+pub refusal_agrees : {plan : Plan} {k : Region plan} {v w : Views} (d : DevId) → Agree plan k v w → k.inside d.0 ≡ true → refusal plan v d ≡ refusal plan w d
 unfolding refusal
-refusal_agrees plan k v w d a i = rw (device_agrees plan k v w d a i, pending_agrees plan k v w d a i, children_agree plan k v w d a i) refl
+refusal_agrees d a i = rw (device_agrees d a i, pending_agrees d a i, children_agree d a i) refl
 
-pub expiry_agrees : (plan : Plan) (k : Region plan) (v w : Views) (d : DevId) → Agree plan k v w → k.inside d.0 ≡ true → expiry v d ≡ expiry w d
+pub expiry_agrees : {plan : Plan} {k : Region plan} {v w : Views} (d : DevId) → Agree plan k v w → k.inside d.0 ≡ true → expiry v d ≡ expiry w d
 unfolding expiry
-expiry_agrees plan k v w d a i = rw (device_agrees plan k v w d a i) refl
+expiry_agrees d a i = rw (device_agrees d a i) refl
 
-pub busy_agrees : (plan : Plan) (k : Region plan) (v w : Views) (d : DevId) → Agree plan k v w → k.inside d.0 ≡ true → busy v d ≡ busy w d
+pub busy_agrees : {plan : Plan} {k : Region plan} {v w : Views} (d : DevId) → Agree plan k v w → k.inside d.0 ≡ true → busy v d ≡ busy w d
 unfolding busy
-busy_agrees plan k v w d a i = rw (device_agrees plan k v w d a i) refl
+busy_agrees d a i = rw (device_agrees d a i) refl
 
-pub fields_agree : (plan : Plan) (k : Region plan) (v w : Views) (d : DevId) (f : ℕ) → Agree plan k v w → k.inside d.0 ≡ true → fields plan v d f ≡ fields plan w d f
+pub fields_agree : {plan : Plan} {k : Region plan} {v w : Views} (d : DevId) (f : ℕ) → Agree plan k v w → k.inside d.0 ≡ true → fields plan v d f ≡ fields plan w d f
 unfolding fields
-fields_agree plan k v w d f a i = rw (device_agrees plan k v w d a i, pending_agrees plan k v w d a i, children_agree plan k v w d a i) refl
+fields_agree d f a i = rw (device_agrees d a i, pending_agrees d a i, children_agree d a i) refl
 
-pub minds_agrees : (plan : Plan) (k : Region plan) (v w : Views) (d : DevId) → Agree plan k v w → k.inside d.0 ≡ true → minds_parent plan v d ≡ minds_parent plan w d
+pub minds_agrees : {plan : Plan} {k : Region plan} {v w : Views} (d : DevId) → Agree plan k v w → k.inside d.0 ≡ true → minds_parent plan v d ≡ minds_parent plan w d
 unfolding minds_parent
-minds_agrees plan k v w d a i = rw (device_agrees plan k v w (parent_of plan d) a (parent_inside plan k d i)) refl
+minds_agrees {plan} {k} {v} {w} d a i = rw (device_agrees (parent_of plan d) a (parent_inside plan k d i)) refl
 
 begun_agrees : (v w : Views) (k : Cb) (d : DevId) → device v d ≡ device w d → begun v k d ≡ begun w k d
 begun_agrees v w cb.Idle d e = ap (λ x. x.begun_idle) e
 begun_agrees v w cb.Suspend d e = ap (λ x. x.begun_suspend) e
 begun_agrees v w cb.Resume d e = ap (λ x. x.begun_resume) e
 
-pub code_agrees : (plan : Plan) (k : Region plan) (v w : Views) (c : Cb) (d : DevId) → Agree plan k v w → k.inside d.0 ≡ true
+pub code_agrees : {plan : Plan} {k : Region plan} {v w : Views} (c : Cb) (d : DevId) → Agree plan k v w → k.inside d.0 ≡ true
     → callback_code plan v c d ≡ callback_code plan w c d
 unfolding callback_code
-code_agrees plan k v w c d a i = rw (begun_agrees v w c d (device_agrees plan k v w d a i)) refl
+code_agrees {plan} {k} {v} {w} c d a i = rw (begun_agrees v w c d (device_agrees d a i)) refl
 
 -- links
 least_alike : (test : LinkRow → Bool → Bool → Bool) (own : LinkRow → Bool) → ((row : LinkRow) (h p : Bool) → own row ≡ false → test row h p ≡ false)
@@ -139,26 +139,26 @@ foreign : (plan : Plan) (k : Region plan) (d : DevId) → k.inside d.0 ≡ true 
 foreign plan k d i row p o = rw (not_of k.inside row.consumer.0 d.0 i o) refl
 
 -- a test that only links of d pass
-link_alike : (plan : Plan) (k : Region plan) (v w : Views) (d : DevId) (test : LinkRow → Bool → Bool) → Agree plan k v w → k.inside d.0 ≡ true
+link_alike : {plan : Plan} {k : Region plan} {v w : Views} (d : DevId) (test : LinkRow → Bool → Bool) → Agree plan k v w → k.inside d.0 ≡ true
     → least_link (λ row h p. is_link_of d row p && test row h) 0 plan.links v.held v.present
     ≡ least_link (λ row h p. is_link_of d row p && test row h) 0 plan.links w.held w.present
-link_alike plan k v w d test a i =
+link_alike {plan} {k} {v} {w} d test a i =
     least_alike (λ row h p. is_link_of d row p && test row h) (is_own_link k) (λ row h p o. rw (foreign plan k d i row p o) refl) 0 plan.links
     v.held w.held v.present w.present a.held a.present
 
-pub held_agrees : (plan : Plan) (k : Region plan) (v w : Views) (d : DevId) → Agree plan k v w → k.inside d.0 ≡ true → first_held plan v d ≡ first_held plan w d
+pub held_agrees : {plan : Plan} {k : Region plan} {v w : Views} (d : DevId) → Agree plan k v w → k.inside d.0 ≡ true → first_held plan v d ≡ first_held plan w d
 unfolding first_held
-held_agrees plan k v w d a i = link_alike plan k v w d (λ row h. h) a i
+held_agrees d a i = link_alike d (λ row h. h) a i
 
-pub free_agrees : (plan : Plan) (k : Region plan) (v w : Views) (d : DevId) → Agree plan k v w → k.inside d.0 ≡ true → first_free plan v d ≡ first_free plan w d
+pub free_agrees : {plan : Plan} {k : Region plan} {v w : Views} (d : DevId) → Agree plan k v w → k.inside d.0 ≡ true → first_free plan v d ≡ first_free plan w d
 unfolding first_free
-free_agrees plan k v w d a i = link_alike plan k v w d (λ row h. not h) a i
+free_agrees d a i = link_alike d (λ row h. not h) a i
 
-pub next_agrees : (plan : Plan) (k : Region plan) (v w : Views) (d : DevId) (last : Option DevId) → Agree plan k v w → k.inside d.0 ≡ true
+pub next_agrees : {plan : Plan} {k : Region plan} {v w : Views} (d : DevId) (last : Option DevId) → Agree plan k v w → k.inside d.0 ≡ true
     → next_supplier plan v d last ≡ next_supplier plan w d last
 unfolding next_supplier
-next_agrees plan k v w d last a i = link_alike plan k v w d (λ row h. is_above last row.supplier) a i
+next_agrees d last a i = link_alike d (λ row h. is_above last row.supplier) a i
 
-pub has_link_agrees : (plan : Plan) (k : Region plan) (v w : Views) (d : DevId) → Agree plan k v w → k.inside d.0 ≡ true → has_link plan v d ≡ has_link plan w d
+pub has_link_agrees : {plan : Plan} {k : Region plan} {v w : Views} (d : DevId) → Agree plan k v w → k.inside d.0 ≡ true → has_link plan v d ≡ has_link plan w d
 unfolding has_link
-has_link_agrees plan k v w d a i = rw (next_agrees plan k v w d None a i) refl
+has_link_agrees d a i = rw (next_agrees d None a i) refl

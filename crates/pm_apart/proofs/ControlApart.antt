@@ -62,112 +62,112 @@ pair_bound k c s (row ∷ rows) (h ∷ hs) i linked bound e =
     go true false h x y own e rest = rest e
     go false b h x y own e rest = rest e
 
-disabling_alike : (plan : Plan) (k : Region plan) (v w : Views) (d : DevId) → Agree plan k v w → k.inside d.0 ≡ true → Same (disabling v d) (disabling w d)
+disabling_alike : {plan : Plan} {k : Region plan} {v w : Views} (d : DevId) → Agree plan k v w → k.inside d.0 ≡ true → Same (disabling v d) (disabling w d)
 unfolding disabling
-disabling_alike plan k v w d a i = rw (device_agrees plan k v w d a i, busy_agrees plan k v w d a i) refl
+disabling_alike d a i = rw (device_agrees d a i, busy_agrees d a i) refl
 
-disable_starts_alike : (plan : Plan) (k : Region plan) (v w : Views) (d : DevId) → Agree plan k v w → k.inside d.0 ≡ true → Same (disable_starts v d) (disable_starts w d)
+disable_starts_alike : {plan : Plan} {k : Region plan} {v w : Views} (d : DevId) → Agree plan k v w → k.inside d.0 ≡ true → Same (disable_starts v d) (disable_starts w d)
 unfolding disable_starts
-disable_starts_alike plan k v w d a i = rw (device_agrees plan k v w d a i, pending_agrees plan k v w d a i, disabling_alike plan k v w d a i) refl
+disable_starts_alike d a i = rw (device_agrees d a i, pending_agrees d a i, disabling_alike d a i) refl
 
-disable_ends_alike : (plan : Plan) (k : Region plan) (v w : Views) (d : DevId) → Agree plan k v w → k.inside d.0 ≡ true → Same (disable_ends v d) (disable_ends w d)
+disable_ends_alike : {plan : Plan} {k : Region plan} {v w : Views} (d : DevId) → Agree plan k v w → k.inside d.0 ≡ true → Same (disable_ends v d) (disable_ends w d)
 unfolding disable_ends
-disable_ends_alike plan k v w d a i = rw (device_agrees plan k v w d a i, busy_agrees plan k v w d a i) refl
+disable_ends_alike d a i = rw (device_agrees d a i, busy_agrees d a i) refl
 
-barrier_idles_alike : (plan : Plan) (k : Region plan) (v w : Views) (d : DevId) (c : ℤ) → Agree plan k v w → k.inside d.0 ≡ true → Same (barrier_idles v d c) (barrier_idles w d c)
+barrier_idles_alike : {plan : Plan} {k : Region plan} {v w : Views} (d : DevId) (c : ℤ) → Agree plan k v w → k.inside d.0 ≡ true → Same (barrier_idles v d c) (barrier_idles w d c)
 unfolding barrier_idles
-barrier_idles_alike plan k v w d c a i = rw (busy_agrees plan k v w d a i) refl
+barrier_idles_alike d c a i = rw (busy_agrees d a i) refl
 
-barrier_resumes_alike : (plan : Plan) (k : Region plan) (v w : Views) (d : DevId) → Agree plan k v w → k.inside d.0 ≡ true → Same (barrier_resumes plan v d) (barrier_resumes plan w d)
+barrier_resumes_alike : {plan : Plan} {k : Region plan} {v w : Views} (d : DevId) → Agree plan k v w → k.inside d.0 ≡ true → Same (barrier_resumes plan v d) (barrier_resumes plan w d)
 unfolding barrier_resumes
-barrier_resumes_alike plan k v w d a i = rw (pending_agrees plan k v w d a i, fields_agree plan k v w d 0 a i, barrier_idles_alike plan k v w d (pos 0) a i) refl
+barrier_resumes_alike d a i = rw (pending_agrees d a i, fields_agree d 0 a i, barrier_idles_alike d (pos 0) a i) refl
 
-barrier_ends_alike : (plan : Plan) (k : Region plan) (v w : Views) (d : DevId) (c : ℤ) → Agree plan k v w → k.inside d.0 ≡ true → Same (barrier_ends v d c) (barrier_ends w d c)
+barrier_ends_alike : {plan : Plan} {k : Region plan} {v w : Views} (d : DevId) (c : ℤ) → Agree plan k v w → k.inside d.0 ≡ true → Same (barrier_ends v d c) (barrier_ends w d c)
 unfolding barrier_ends
-barrier_ends_alike plan k v w d c a i = rw (busy_agrees plan k v w d a i) refl
+barrier_ends_alike d c a i = rw (busy_agrees d a i) refl
 
-active_starts_alike : (plan : Plan) (k : Region plan) (v w : Views) (d : DevId) → Agree plan k v w → k.inside d.0 ≡ true → Same (active_starts plan v d) (active_starts plan w d)
+active_starts_alike : {plan : Plan} {k : Region plan} {v w : Views} (d : DevId) → Agree plan k v w → k.inside d.0 ≡ true → Same (active_starts plan v d) (active_starts plan w d)
 unfolding active_starts
-active_starts_alike plan k v w d a i =
+active_starts_alike {plan} {k} {v} {w} d a i =
     let p = parent_inside plan k d i in
-    rw (has_link_agrees plan k v w d a i, busy_agrees plan k v w d a i, minds_agrees plan k v w d a i, device_agrees plan k v w d a i, device_agrees plan k v w (parent_of plan d) a p) refl
+    rw (has_link_agrees d a i, busy_agrees d a i, minds_agrees d a i, device_agrees d a i, device_agrees (parent_of plan d) a p) refl
 
-active_unwinds_alike : (plan : Plan) (k : Region plan) (v w : Views) (d : DevId) (c : ℤ) → Agree plan k v w → k.inside d.0 ≡ true → Same (active_unwinds plan v d c) (active_unwinds plan w d c)
+active_unwinds_alike : {plan : Plan} {k : Region plan} {v w : Views} (d : DevId) (c : ℤ) → Agree plan k v w → k.inside d.0 ≡ true → Same (active_unwinds plan v d c) (active_unwinds plan w d c)
 unfolding active_unwinds
-active_unwinds_alike plan k v w d c a i = rw (held_agrees plan k v w d a i) refl
+active_unwinds_alike d c a i = rw (held_agrees d a i) refl
 
-active_takes_alike : (plan : Plan) (k : Region plan) (v w : Views) (d : DevId) (x : Option (ℕ × DevId)) → Agree plan k v w → k.inside d.0 ≡ true
+active_takes_alike : {plan : Plan} {k : Region plan} {v w : Views} (d : DevId) (x : Option (ℕ × DevId)) → Agree plan k v w → k.inside d.0 ≡ true
     → Same (active_takes plan v d x) (active_takes plan w d x)
-active_takes_alike plan k v w d (Some link) a i = refl
-active_takes_alike plan k v w d None a i =
+active_takes_alike d (Some link) a i = refl
+active_takes_alike {plan} {k} {v} {w} d None a i =
     let p = parent_inside plan k d i in
-    rw (minds_agrees plan k v w d a i, device_agrees plan k v w (parent_of plan d) a p, active_unwinds_alike plan k v w d EBUSY a i) refl
+    rw (minds_agrees d a i, device_agrees (parent_of plan d) a p, active_unwinds_alike d EBUSY a i) refl
 
-active_links_alike : (plan : Plan) (k : Region plan) (v w : Views) (d : DevId) → Agree plan k v w → k.inside d.0 ≡ true → Same (active_links plan v d) (active_links plan w d)
+active_links_alike : {plan : Plan} {k : Region plan} {v w : Views} (d : DevId) → Agree plan k v w → k.inside d.0 ≡ true → Same (active_links plan v d) (active_links plan w d)
 unfolding active_links
-active_links_alike plan k v w d a i = rw (free_agrees plan k v w d a i) (active_takes_alike plan k v w d (first_free plan w d) a i)
+active_links_alike {plan} {k} {v} {w} d a i = rw (free_agrees d a i) (active_takes_alike d (first_free plan w d) a i)
 
-suspended_starts_alike : (plan : Plan) (k : Region plan) (v w : Views) (d : DevId) → Agree plan k v w → k.inside d.0 ≡ true → Same (suspended_starts v d) (suspended_starts w d)
+suspended_starts_alike : {plan : Plan} {k : Region plan} {v w : Views} (d : DevId) → Agree plan k v w → k.inside d.0 ≡ true → Same (suspended_starts v d) (suspended_starts w d)
 unfolding suspended_starts
-suspended_starts_alike plan k v w d a i = rw (busy_agrees plan k v w d a i, device_agrees plan k v w d a i) refl
+suspended_starts_alike d a i = rw (busy_agrees d a i, device_agrees d a i) refl
 
-tells_alike : (plan : Plan) (k : Region plan) (v w : Views) (d : DevId) (last : Option DevId) (x : Option (ℕ × DevId)) → Agree plan k v w → k.inside d.0 ≡ true
+tells_alike : {plan : Plan} {k : Region plan} {v w : Views} (d : DevId) (last : Option DevId) (x : Option (ℕ × DevId)) → Agree plan k v w → k.inside d.0 ≡ true
     → next_supplier plan w d last ≡ x → Same (tells_supplier plan v d x) (tells_supplier plan w d x)
-tells_alike plan k v w d last (Some link) a i e = rw (fields_agree plan k v w link.1 1 a (next_in plan k w d last link i e)) refl
-tells_alike plan k v w d last None a i e =
+tells_alike {plan} {k} {v} {w} d last (Some link) a i e = rw (fields_agree link.1 1 a (next_in plan k w d last link i e)) refl
+tells_alike {plan} {k} {v} {w} d last None a i e =
     let p = parent_inside plan k d i in
-    rw (device_agrees plan k v w (parent_of plan d) a p, fields_agree plan k v w (parent_of plan d) 1 a p) refl
+    rw (device_agrees (parent_of plan d) a p, fields_agree (parent_of plan d) 1 a p) refl
 
-suppliers_alike : (plan : Plan) (k : Region plan) (v w : Views) (d : DevId) (last : Option DevId) → Agree plan k v w → k.inside d.0 ≡ true
+suppliers_alike : {plan : Plan} {k : Region plan} {v w : Views} (d : DevId) (last : Option DevId) → Agree plan k v w → k.inside d.0 ≡ true
     → Same (suppliers_idle plan v d last) (suppliers_idle plan w d last)
 unfolding suppliers_idle
-suppliers_alike plan k v w d last a i = rw (next_agrees plan k v w d last a i) (tells_alike plan k v w d last (next_supplier plan w d last) a i refl)
+suppliers_alike {plan} {k} {v} {w} d last a i = rw (next_agrees d last a i) (tells_alike d last (next_supplier plan w d last) a i refl)
 
-sets_alike : (plan : Plan) (k : Region plan) (v w : Views) (h : Helper) (d : DevId) (b : Bool) (n : ℤ) → Agree plan k v w → k.inside d.0 ≡ true
+sets_alike : {plan : Plan} {k : Region plan} {v w : Views} (h : Helper) (d : DevId) (b : Bool) (n : ℤ) → Agree plan k v w → k.inside d.0 ≡ true
     → Same (sets plan v h d b n) (sets plan w h d b n)
 unfolding sets
-sets_alike plan k v w h d b n a i = rw (device_agrees plan k v w d a i, fields_agree plan k v w d 8 a i) refl
+sets_alike h d b n a i = rw (device_agrees d a i, fields_agree d 8 a i) refl
 
-starts_alike : (plan : Plan) (k : Region plan) (v w : Views) (c : Command) (t : ℕ) → Agree plan k v w → k.inside c.dev.0 ≡ true
+starts_alike : {plan : Plan} {k : Region plan} {v w : Views} (c : Command) (t : ℕ) → Agree plan k v w → k.inside c.dev.0 ≡ true
     → Same (control_starts plan v c t) (control_starts plan w c t)
 unfolding control_starts enabling forbidding allowing schedules link_adds link_dels
-starts_alike plan k v w c t a i = go c.helper
+starts_alike {plan} {k} {v} {w} c t a i = go c.helper
   where
     same : device v c.dev ≡ device w c.dev
-    same = device_agrees plan k v w c.dev a i
+    same = device_agrees c.dev a i
 
     go : (h : Helper) → Same (control_starts plan v (record c { helper = h }) t) (control_starts plan w (record c { helper = h }) t)
-    go helper.ScheduleSuspend = rw (refusal_agrees plan k v w c.dev a i, fields_agree plan k v w c.dev 1 a i) refl
+    go helper.ScheduleSuspend = rw (refusal_agrees c.dev a i, fields_agree c.dev 1 a i) refl
     go helper.Enable = rw same refl
-    go helper.Disable = disable_starts_alike plan k v w c.dev a i
-    go helper.SetActive = active_starts_alike plan k v w c.dev a i
-    go helper.SetSuspended = suspended_starts_alike plan k v w c.dev a i
+    go helper.Disable = disable_starts_alike c.dev a i
+    go helper.SetActive = active_starts_alike c.dev a i
+    go helper.SetSuspended = suspended_starts_alike c.dev a i
     go helper.Allow = rw same refl
     go helper.Forbid = rw same refl
-    go helper.UseAutosuspend = rw same (sets_alike plan k v w _ c.dev _ _ a i)
-    go helper.DontUseAutosuspend = rw same (sets_alike plan k v w _ c.dev _ _ a i)
-    go helper.SetAutosuspendDelay = rw same (sets_alike plan k v w _ c.dev _ _ a i)
-    go helper.LinkAdd = rw (same, busy_agrees plan k v w c.dev a i, pair_agrees plan k c.dev (record { 0 = nat_abs c.number }) v.present w.present i a.present) refl
+    go helper.UseAutosuspend = rw same (sets_alike _ c.dev _ _ a i)
+    go helper.DontUseAutosuspend = rw same (sets_alike _ c.dev _ _ a i)
+    go helper.SetAutosuspendDelay = rw same (sets_alike _ c.dev _ _ a i)
+    go helper.LinkAdd = rw (same, busy_agrees c.dev a i, pair_agrees plan k c.dev (record { 0 = nat_abs c.number }) v.present w.present i a.present) refl
     go helper.LinkDel =
         rw (
-          busy_agrees plan k v w c.dev a i,
+          busy_agrees c.dev a i,
           pair_agrees plan k c.dev (record { 0 = nat_abs c.number }) v.present w.present i a.present,
           pair_agrees plan k c.dev (record { 0 = nat_abs c.number }) v.held w.held i a.held,
         ) refl
     go _ = refl
 
-pub control_alike : (plan : Plan) (k : Region plan) (v w : Views) (t : ℕ) (s : ControlStage) → Agree plan k v w → k.inside (control_device s).0 ≡ true
+pub control_alike : {plan : Plan} {k : Region plan} {v w : Views} (t : ℕ) (s : ControlStage) → Agree plan k v w → k.inside (control_device s).0 ≡ true
     → control_row plan v s t ≡ control_row plan w s t
-control_alike plan k v w t (control.Start c) a i = starts_alike plan k v w c t a i
-control_alike plan k v w t (control.DisablePut d) a i = refl
-control_alike plan k v w t (control.Disable d) a i = disabling_alike plan k v w d a i
-control_alike plan k v w t (control.Disabled d) a i = disable_ends_alike plan k v w d a i
-control_alike plan k v w t (control.BarrierResume d) a i = barrier_resumes_alike plan k v w d a i
-control_alike plan k v w t (control.BarrierIdle d c) a i = barrier_idles_alike plan k v w d c a i
-control_alike plan k v w t (control.BarrierWait d c) a i = barrier_ends_alike plan k v w d c a i
-control_alike plan k v w t (control.ActiveLinks d) a i = active_links_alike plan k v w d a i
-control_alike plan k v w t (control.ActiveUnwind d c) a i = active_unwinds_alike plan k v w d c a i
-control_alike plan k v w t (control.SuppliersIdle d last) a i = suppliers_alike plan k v w d last a i
+control_alike t (control.Start c) a i = starts_alike c t a i
+control_alike t (control.DisablePut d) a i = refl
+control_alike t (control.Disable d) a i = disabling_alike d a i
+control_alike t (control.Disabled d) a i = disable_ends_alike d a i
+control_alike t (control.BarrierResume d) a i = barrier_resumes_alike d a i
+control_alike t (control.BarrierIdle d c) a i = barrier_idles_alike d c a i
+control_alike t (control.BarrierWait d c) a i = barrier_ends_alike d c a i
+control_alike t (control.ActiveLinks d) a i = active_links_alike d a i
+control_alike t (control.ActiveUnwind d c) a i = active_unwinds_alike d c a i
+control_alike t (control.SuppliersIdle d last) a i = suppliers_alike d last a i
 
 -- and in the region
 disabling_stays : (plan : Plan) (k : Region plan) (v : Views) (d : DevId) → k.inside d.0 ≡ true → StaysIn plan k (disabling v d)

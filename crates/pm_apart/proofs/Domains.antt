@@ -58,9 +58,9 @@ off_alike inside xs ys a [] i = refl
 off_alike inside xs ys a (o ∷ ds) i =
     let h = and_parts _ _ i in rw (alike_at inside xs ys o false a h.0, off_alike inside xs ys a ds h.1) refl
 
-pub up_agrees : (plan : Plan) (k : Region plan) (v w : Views) (d : DevId) → Agree plan k v w → k.inside d.0 ≡ true → up plan v d ≡ up plan w d
+pub up_agrees : {plan : Plan} {k : Region plan} {v w : Views} (d : DevId) → Agree plan k v w → k.inside d.0 ≡ true → up plan v d ≡ up plan w d
 unfolding up
-up_agrees plan k v w d a i = off_alike k.domains v.on w.on a.on (domains_of plan d) (domains_own plan k d i)
+up_agrees {plan} {k} {v} {w} d a i = off_alike k.domains v.on w.on a.on (domains_of plan d) (domains_own plan k d i)
 
 -- two tests that agree at each row
 all_at : {A : Type 0} (p q : ℕ × A → Bool) (n : ℕ) (rows : List A) → ((i m : ℕ) (row : A) → m ≡ n + i → slice_get rows i ≡ Some row → p (m, row) ≡ q (m, row))
@@ -82,8 +82,8 @@ behind true b x y same = refl
 behind false false x y same = refl
 behind false true x y same = same refl
 
-quiet_alike : (plan : Plan) (k : Region plan) (v w : Views) (d : DevId) (o : ℕ) → Agree plan k v w → k.domains o ≡ true → are_quiet plan v d o ≡ are_quiet plan w d o
-quiet_alike plan k v w d o a i = all_at _ _ 0 plan.devices (λ j m row is at. one j m row is at)
+quiet_alike : {plan : Plan} {k : Region plan} {v w : Views} (d : DevId) (o : ℕ) → Agree plan k v w → k.domains o ≡ true → are_quiet plan v d o ≡ are_quiet plan w d o
+quiet_alike {plan} {k} {v} {w} d o a i = all_at _ _ 0 plan.devices (λ j m row is at. one j m row is at)
   where
     calm : Views → ℕ → Bool
     calm v m = is_suspended v (record { 0 = m }) && nat_eq (device v (record { 0 = m })).depth 0
@@ -96,7 +96,7 @@ quiet_alike plan k v w d o a i = all_at _ _ 0 plan.devices (λ j m row is at. on
         behind (nat_eq m d.0) (is_in o row.domain) _ _ (λ h.
         let x = in_is o row.domain h in
         let own : k.inside m ≡ true = ap k.inside is ∙ k.attached j row x.0 at x.1 ∙ ap k.domains x.2 ∙ i in
-        rw (device_agrees plan k v w (record { 0 = m }) a own) refl)
+        rw (device_agrees (record { 0 = m }) a own) refl)
 
 shut : (b x y : Bool) → (b ≡ true → x ≡ y) → (not b || not x) ≡ (not b || not y)
 shut false x y same = refl
@@ -117,21 +117,21 @@ off_agrees : (plan : Plan) (k : Region plan) (xs ys : List Bool) (o : ℕ) → A
 off_agrees plan k xs ys o a i =
     under_alike o k.domains plan.domains xs ys (λ j row at h. let x = in_is o row.parent h in k.above j row x.0 at x.1 ∙ ap k.domains x.2 ∙ i) a
 
-goes_agrees : (plan : Plan) (k : Region plan) (v w : Views) (d : DevId) (xs ys : List Bool) (o : ℕ) → Agree plan k v w → Alike k.domains xs ys → k.domains o ≡ true
+goes_agrees : {plan : Plan} {k : Region plan} {v w : Views} (d : DevId) (xs ys : List Bool) (o : ℕ) → Agree plan k v w → Alike k.domains xs ys → k.domains o ≡ true
     → goes_off plan v d xs o ≡ goes_off plan w d ys o
-goes_agrees plan k v w d xs ys o a b i = rw (alike_get k.domains xs ys o b i, quiet_alike plan k v w d o a i, off_agrees plan k xs ys o b i) refl
+goes_agrees {plan} {k} {v} {w} d xs ys o a b i = rw (alike_get k.domains xs ys o b i, quiet_alike d o a i, off_agrees plan k xs ys o b i) refl
 
-going_agrees : (plan : Plan) (k : Region plan) (v w : Views) (d : DevId) (xs ys : List Bool) (os : List ℕ) → Agree plan k v w → Alike k.domains xs ys
+going_agrees : {plan : Plan} {k : Region plan} {v w : Views} (d : DevId) (xs ys : List Bool) (os : List ℕ) → Agree plan k v w → Alike k.domains xs ys
     → list_all k.domains os ≡ true → going_off plan v d xs os ≡ going_off plan w d ys os
-going_agrees plan k v w d xs ys [] a b i = refl
-going_agrees plan k v w d xs ys (o ∷ os) a b i =
+going_agrees d xs ys [] a b i = refl
+going_agrees {plan} {k} {v} {w} d xs ys (o ∷ os) a b i =
     let h = and_parts _ _ i in
-    let rest = going_agrees plan k v w d (slice_set xs o false) (slice_set ys o false) os a (alike_set k.domains xs ys o false false b (λ _. refl)) h.1 in
-    rw (goes_agrees plan k v w d xs ys o a b h.0, rest) refl
+    let rest = going_agrees d (slice_set xs o false) (slice_set ys o false) os a (alike_set k.domains xs ys o false false b (λ _. refl)) h.1 in
+    rw (goes_agrees d xs ys o a b h.0, rest) refl
 
-pub down_agrees : (plan : Plan) (k : Region plan) (v w : Views) (d : DevId) → Agree plan k v w → k.inside d.0 ≡ true → down plan v d ≡ down plan w d
+pub down_agrees : {plan : Plan} {k : Region plan} {v w : Views} (d : DevId) → Agree plan k v w → k.inside d.0 ≡ true → down plan v d ≡ down plan w d
 unfolding down
-down_agrees plan k v w d a i = going_agrees plan k v w d v.on w.on (domains_of plan d) a a.on (domains_own plan k d i)
+down_agrees {plan} {k} {v} {w} d a i = going_agrees d v.on w.on (domains_of plan d) a a.on (domains_own plan k d i)
 
 -- those that go off are of the chain
 going_own : (inside : ℕ → Bool) (plan : Plan) (v : Views) (d : DevId) (on : List Bool) (os : List ℕ) → list_all inside os ≡ true

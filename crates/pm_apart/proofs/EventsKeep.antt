@@ -29,7 +29,7 @@ use Rattle.pm_model.specs.Views.{Views, device}
 use Rattle.pm_apart.proofs.Region.{Alike, AlikeBy, Region, Agree, Apart, AreBound, IsLocal, Moves, EventIn, GetIn, WhyIn, is_own_link}
 use Rattle.pm_apart.proofs.Lists.{alike_refl, alike_set, alike_aside, alike_trans, by_refl, by_map, by_aside}
 use Rattle.pm_apart.proofs.Domains.{up_agrees, down_agrees, up_own, down_own}
-use Rattle.pm_apart.proofs.Keeping.{agree_trans, local_same, local_then, local_device, local_request, local_queued, local_deferred, local_disarm, local_timer, local_busy, local_if, not_pair}
+use Rattle.pm_apart.proofs.Keeping.{agree_refl, agree_trans, devices_anew, held_anew, on_anew, local_same, local_then, local_device, local_request, local_queued, local_deferred, local_disarm, local_timer, local_busy, local_if, not_pair}
 
 pub moves : {plan : Plan} {k : Region plan} {c : Views → Views} → IsLocal plan k c → Moves plan k c
 moves x = record { keeps = λ v w a. x.keeps v w a; spares = λ l v apart _. x.spares l v apart }
@@ -45,22 +45,8 @@ moves_then {plan} {k} b c x y = record {
 moves_held : {plan : Plan} {k : Region plan} (c s : DevId) (b : Bool) → k.inside c.0 ≡ true → Moves plan k (set_held plan c s b)
 unfolding set_held
 moves_held {plan} {k} c s b i = record {
-  keeps = λ v w a. record {
-    devices = a.devices;
-    pending = a.pending;
-    timers = a.timers;
-    on = a.on;
-    held = by_map (is_own_link k) (λ p. if is_of_pair c s p.0 then b else p.1) plan.links v.held w.held a.held;
-    present = a.present;
-  };
-  spares = λ l v apart _. record {
-    devices = alike_refl l.inside v.devices;
-    pending = alike_refl l.inside v.pending;
-    timers = alike_refl l.inside v.timers;
-    on = alike_refl l.domains v.on;
-    held = by_aside (is_own_link l) (λ p. if is_of_pair c s p.0 then b else p.1) plan.links v.held (λ row x own. rw (not_pair k l c s row apart i own) refl);
-    present = by_refl (is_own_link l) plan.links v.present;
-  };
+  keeps = λ v w a. held_anew _ _ a (by_map (is_own_link k) (λ p. if is_of_pair c s p.0 then b else p.1) plan.links v.held w.held a.held);
+  spares = λ l v apart _. held_anew _ _ (agree_refl plan l v) (by_aside (is_own_link l) (λ p. if is_of_pair c s p.0 then b else p.1) plan.links v.held (λ row x own. rw (not_pair k l c s row apart i own) refl));
 }
 
 got_moves : {plan : Plan} {k : Region plan} (d : DevId) (w : Why) → k.inside d.0 ≡ true → GetIn k d w → Moves plan k (got plan d w)
@@ -144,25 +130,8 @@ minus n = omega arith
 frees_moves : {plan : Plan} {k : Region plan} (d : DevId) → k.inside d.0 ≡ true → Moves plan k (frees_links plan d)
 unfolding frees_links
 frees_moves {plan} {k} d i = record {
-  keeps = λ v w a. record {
-    devices =
-        numbered_alike (λ m x. record x { usage = x.usage - held_from plan v.held d m }) (λ m x. record x { usage = x.usage - held_from plan w.held d m }) k.inside 0
-        v.devices w.devices (λ m x. ap (λ n. record x { usage = x.usage - n }) (held_from_alike k.inside plan.links d m v.held w.held i a.held)) a.devices;
-    pending = a.pending;
-    timers = a.timers;
-    on = a.on;
-    held = by_map (is_own_link k) (λ p. if nat_eq p.0.consumer.0 d.0 then false else p.1) plan.links v.held w.held a.held;
-    present = a.present;
-  };
-  spares = λ l v apart bound. record {
-    devices =
-        numbered_aside (λ m x. record x { usage = x.usage - held_from plan v.held d m }) l.inside 0 v.devices (λ j m x at own. spared l v apart bound j m x at own);
-    pending = alike_refl l.inside v.pending;
-    timers = alike_refl l.inside v.timers;
-    on = alike_refl l.domains v.on;
-    held = by_aside (is_own_link l) (λ p. if nat_eq p.0.consumer.0 d.0 then false else p.1) plan.links v.held (λ row x own. other l apart row x own);
-    present = by_refl (is_own_link l) plan.links v.present;
-  };
+  keeps = λ v w a. held_anew _ _ (devices_anew _ _ a (numbered_alike (λ m x. record x { usage = x.usage - held_from plan v.held d m }) (λ m x. record x { usage = x.usage - held_from plan w.held d m }) k.inside 0 v.devices w.devices (λ m x. ap (λ n. record x { usage = x.usage - n }) (held_from_alike k.inside plan.links d m v.held w.held i a.held)) a.devices)) (by_map (is_own_link k) (λ p. if nat_eq p.0.consumer.0 d.0 then false else p.1) plan.links v.held w.held a.held);
+  spares = λ l v apart bound. held_anew _ _ (devices_anew _ _ (agree_refl plan l v) (numbered_aside (λ m x. record x { usage = x.usage - held_from plan v.held d m }) l.inside 0 v.devices (λ j m x at own. spared l v apart bound j m x at own))) (by_aside (is_own_link l) (λ p. if nat_eq p.0.consumer.0 d.0 then false else p.1) plan.links v.held (λ row x own. other l apart row x own));
 }
   where
     outside : (l : Region plan) → Apart plan k l → (m : ℕ) → l.inside m ≡ true → k.inside m ≡ false
@@ -217,22 +186,8 @@ switched_aside b k l apart (o ∷ os) xs i =
 switches_move : {plan : Plan} {k : Region plan} (b : Bool) (f : Views → List ℕ) → ((v w : Views) → Agree plan k v w → f v ≡ f w) → ((v : Views) → list_all k.domains (f v) ≡ true)
     → Moves plan k (λ v. switches b (f v) v)
 switches_move {plan} {k} b f same own = record {
-  keeps = λ v w a. record {
-    devices = a.devices;
-    pending = a.pending;
-    timers = a.timers;
-    on = rw (same v w a) (switched_alike b k.domains (f w) v.on w.on a.on);
-    held = a.held;
-    present = a.present;
-  };
-  spares = λ l v apart _. record {
-    devices = alike_refl l.inside v.devices;
-    pending = alike_refl l.inside v.pending;
-    timers = alike_refl l.inside v.timers;
-    on = switched_aside b k.domains l.domains apart.domains (f v) v.on (own v);
-    held = by_refl (is_own_link l) plan.links v.held;
-    present = by_refl (is_own_link l) plan.links v.present;
-  };
+  keeps = λ v w a. on_anew _ _ a (rw (same v w a) (switched_alike b k.domains (f w) v.on w.on a.on));
+  spares = λ l v apart _. on_anew _ _ (agree_refl plan l v) (switched_aside b k.domains l.domains apart.domains (f v) v.on (own v));
 }
 
 pub event_moves : {plan : Plan} {k : Region plan} (t : ℕ) (e : Event) → EventIn k e → Moves plan k (by_event plan t e)
@@ -251,8 +206,8 @@ event_moves t (event.End d cb.Suspend c) i =
     (local_if (λ v. is_try_again c) (set_status status.Active d) (λ v. set_error c d (set_status status.Active d v)) (λ v w a. refl) (status_local status.Active d i)
     (local_then (set_status status.Active d) (set_error c d) (status_local status.Active d i) (error_local c d i))))
 event_moves t (event.End d cb.Resume c) i = moves (local_if (λ v. int_eq c (pos 0)) (λ v. v) (set_error c d) (λ v w a. refl) local_same (error_local c d i))
-event_moves {plan} {k} t (event.Domain d true n) i = switches_move true (λ v. up plan v d) (λ v w a. up_agrees plan k v w d a i) (λ v. up_own plan k v d i)
-event_moves {plan} {k} t (event.Domain d false n) i = switches_move false (λ v. down plan v d) (λ v w a. down_agrees plan k v w d a i) (λ v. down_own plan k v d i)
+event_moves {plan} {k} t (event.Domain d true n) i = switches_move true (λ v. up plan v d) (λ v w a. up_agrees d a i) (λ v. up_own plan k v d i)
+event_moves {plan} {k} t (event.Domain d false n) i = switches_move false (λ v. down plan v d) (λ v w a. down_agrees d a i) (λ v. down_own plan k v d i)
 event_moves t (event.Work d (Queue r)) i = moves (local_then (set_request r d) (set_queued true d) (local_request r d i) (local_queued true d i))
 event_moves t (event.Work d Defer) i = moves (local_deferred true d i)
 event_moves t (event.Work d (Run r)) i = moves (local_then (set_request Nothing d) (set_queued false d) (local_request Nothing d i) (local_queued false d i))

@@ -2,7 +2,7 @@
 use Rattle.std.proofs.Common.{ℕ, zero, suc, ◌≡◌, ◌+◌, Bool, true, false, not, ◌&&◌, List, [], ◌∷◌, Option, Some, None, map, drop, length, nat_le, is_none, refl, sym, ◌∙◌, arith}
 use Rattle.std.specs.Prelude.{slice_get}
 use Rattle.std.specs.List.{list_all, enumerate_from}
-use Rattle.std.proofs.lemmas.Bool.{and_parts, false≢true}
+use Rattle.std.proofs.lemmas.Bool.{and_from, and_parts, false≢true}
 use Rattle.pm_base.specs.declared.ActorId.TheVariants.{Caller, Work, Timer}
 use Rattle.pm_base.specs.declared.Armed.{Armed}
 use Rattle.pm_model.specs.declared.event.Command.{Command}
@@ -17,17 +17,12 @@ use Rattle.pm_apart.proofs.Isles.{Labelled, at_home, callers_in, home, isle, own
 use Rattle.pm_apart.proofs.Merging.{Meets}
 use Rattle.pm_apart.proofs.Lists.{alike_at, alike_get}
 
-join : (a b : Bool) → a ≡ true → b ≡ true → a && b ≡ true
-join true true x y = refl
-join true false x y = y
-join false b x y = x
-
 -- each entry is one of a list whose entries all pass
 all_of : {A : Type 0} (test : A → Bool) (xs : List A) (home : ℕ → ℕ) (inside : ℕ → ℕ → Bool) (ys : ℕ → List A) → ((n : ℕ) → inside (home n) n ≡ true)
     → ((i : ℕ) → Alike (inside i) xs (ys i)) → ((i : ℕ) → list_all test (ys i) ≡ true) → list_all test xs ≡ true
 all_of test [] home inside ys homes alike all = refl
 all_of {A} test (x ∷ xs) home inside ys homes alike all =
-    join (test x) (list_all test xs) (head (ys (home 0)) (alike (home 0)) (all (home 0)))
+    and_from (test x) (list_all test xs) (head (ys (home 0)) (alike (home 0)) (all (home 0)))
     (all_of test xs (λ n. home (suc n)) (λ i n. inside i (suc n)) (λ i. drop 1 (ys i)) (λ n. homes (suc n)) (λ i. tail i (ys i) (alike i)) (λ i. rest (ys i) (all i)))
   where
     head : (zs : List A) → Alike (inside (home 0)) (x ∷ xs) zs → list_all test zs ≡ true → test x ≡ true
@@ -46,7 +41,7 @@ numbered_all : {A : Type 0} (test : ℕ × A → Bool) (n : ℕ) (rows : List A)
     → list_all test (enumerate_from n rows) ≡ true
 numbered_all test n [] each = refl
 numbered_all test n (row ∷ rows) each =
-    join (test (n, row)) _ (each 0 n row (omega arith) refl) (numbered_all test (n + 1) rows (λ i m r at. each (suc i) m r (omega (arith, at))))
+    and_from (test (n, row)) _ (each 0 n row (omega arith) refl) (numbered_all test (n + 1) rows (λ i m r at. each (suc i) m r (omega (arith, at))))
 
 all_numbered : {A : Type 0} (test : ℕ × A → Bool) (n i m : ℕ) (rows : List A) (row : A) → m ≡ n + i → list_all test (enumerate_from n rows) ≡ true
     → slice_get rows i ≡ Some row → test (m, row) ≡ true
@@ -82,7 +77,7 @@ finishes plan p h meets done =
     let w : ℕ → World = λ i. world (part p i) (own_of p i h) in
     let scripts = numbered_all (λ q. nat_le (length q.1.script) (called_by (world plan h) q.0)) 0 plan.callers
     (λ c m row at is. script c m row at is) in
-    join _ _ (join _ _ (join _ _ (join _ _ (join _ _ scripts
+    and_from _ _ (and_from _ _ (and_from _ _ (and_from _ _ (and_from _ _ scripts
     (all_of is_empty_place (world plan h).caller_places (λ c. home p (Caller c)) (λ i. (isle p i).callers) (λ i. (w i).caller_places) (λ c. at_home p (Caller c)) (λ i. (meets.agree i).caller_places) (λ i. (is_done (part p i) (world (part p i) (own_of p i h)) (done i)).caller_places)))
     (all_of is_empty_place (world plan h).work_places (λ d. home p (Work d)) (λ i. (isle p i).region.inside) (λ i. (w i).work_places) (λ d. at_home p (Work d)) (λ i. (meets.agree i).work_places) (λ i. (is_done (part p i) (world (part p i) (own_of p i h)) (done i)).work_places)))
     (all_of is_empty_place (world plan h).timer_places (λ d. home p (Timer d)) (λ i. (isle p i).region.inside) (λ i. (w i).timer_places) (λ d. at_home p (Timer d)) (λ i. (meets.agree i).timer_places) (λ i. (is_done (part p i) (world (part p i) (own_of p i h)) (done i)).timer_places)))
@@ -101,7 +96,7 @@ finishes plan p h meets done =
 -- a plan of which no caller has a script is finished before any line
 all_map : {A B : Type 0} (test : B → Bool) (x : B) (rows : List A) → test x ≡ true → list_all test (map (λ _. x) rows) ≡ true
 all_map test x [] e = refl
-all_map test x (row ∷ rows) e = join (test x) _ e (all_map test x rows e)
+all_map test x (row ∷ rows) e = and_from (test x) _ e (all_map test x rows e)
 
 no_armed : Option Armed
 no_armed = None
@@ -115,7 +110,7 @@ no_length script n e = rw e (zero_le n)
 pub starts_finished : (plan : Plan) → ((c : ℕ) (row : CallerRow) → slice_get plan.callers c ≡ Some row → row.script ≡ []) → IsFinished plan []
 unfolding no_armed
 starts_finished plan none =
-    join _ _ (join _ _ (join _ _ (join _ _ (join _ _
+    and_from _ _ (and_from _ _ (and_from _ _ (and_from _ _ (and_from _ _
     (numbered_all (λ q. nat_le (length q.1.script) (called_by (start plan) q.0)) 0 plan.callers (λ c m row at is. no_length row.script (called_by (start plan) m) (none c row is)))
     (all_map is_empty_place [] plan.callers refl))
     (all_map is_empty_place [] plan.devices refl))

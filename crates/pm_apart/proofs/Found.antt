@@ -2,7 +2,7 @@
 use Rattle.std.proofs.Common.{ℕ, zero, suc, ◌≡◌, ◌+◌, Bool, true, false, not, ◌&&◌, ◌||◌, List, [], ◌∷◌, Option, Some, None, if◌then◌else◌, ap, refl, sym, subst, ◌∙◌, nat_eq, nat_le}
 use Rattle.std.specs.Prelude.{slice_get}
 use Rattle.std.specs.List.{list_any}
-use Rattle.std.proofs.lemmas.Bool.{and_parts, eqb-true, false≢true}
+use Rattle.std.proofs.lemmas.Bool.{or_parts, and_parts, eqb-true, false≢true}
 use Rattle.pm_base.specs.declared.DevId.{DevId}
 use Rattle.pm_model.specs.declared.plan.Plan.{Plan}
 use Rattle.pm_model.specs.declared.rows.LinkRow.{LinkRow}
@@ -61,16 +61,11 @@ unfolding next_supplier
 next_in plan k v d last x i e =
     least_has (λ s. k.inside s.0 ≡ true) _ 0 plan.links v.held v.present (own_supplier plan k d (λ row h. is_above last row.supplier) i) x e
 
-neither : (a b : Bool) → a || b ≡ false → (a ≡ false) × (b ≡ false)
-neither false false e = (refl, refl)
-neither false true e = absurd (false≢true (sym e))
-neither true b e = absurd (false≢true (sym e))
-
 -- two links of one pair are one
 any_not : {A : Type 0} (p : A → Bool) (xs : List A) (n : ℕ) (x : A) → list_any p xs ≡ false → slice_get xs n ≡ Some x → p x ≡ false
 any_not p [] n x none is = absurd (cc)
-any_not p (y ∷ xs) zero x none is = let same : y ≡ x = cc in subst (λ z. p z ≡ false) same (neither (p y) (list_any p xs) none).0
-any_not p (y ∷ xs) (suc n) x none is = any_not p xs n x (neither (p y) (list_any p xs) none).1 is
+any_not p (y ∷ xs) zero x none is = let same : y ≡ x = cc in subst (λ z. p z ≡ false) same (or_parts (p y) (list_any p xs) none).0
+any_not p (y ∷ xs) (suc n) x none is = any_not p xs n x (or_parts (p y) (list_any p xs) none).1 is
 
 same_sym : (a b : LinkRow) → is_same_pair a b ≡ true → is_same_pair b a ≡ true
 same_sym a b e =

@@ -17,12 +17,12 @@ use Rattle.pm_apart.proofs.Region.{Region, Agree, DeviceIn, StagesIn, StaysIn}
 use Rattle.pm_apart.proofs.Agreeing.{device_agrees, pending_agrees, timer_agrees, fields_agree}
 use Rattle.pm_apart.proofs.Staying.{ok, both, called_in}
 
-starts_alike : (plan : Plan) (k : Region plan) (v w : Views) (c : Command) → Agree plan k v w → k.inside c.dev.0 ≡ true → helper_starts v c ≡ helper_starts w c
+starts_alike : {plan : Plan} {k : Region plan} {v w : Views} (c : Command) → Agree plan k v w → k.inside c.dev.0 ≡ true → helper_starts v c ≡ helper_starts w c
 unfolding helper_starts
-starts_alike plan k v w c a i = go c.helper
+starts_alike {plan} {k} {v} {w} c a i = go c.helper
   where
     same : device v c.dev ≡ device w c.dev
-    same = device_agrees plan k v w c.dev a i
+    same = device_agrees c.dev a i
 
     go : (h : Helper) → helper_starts v (record c { helper = h }) ≡ helper_starts w (record c { helper = h })
     go helper.GetIfInUse = rw same refl
@@ -35,22 +35,22 @@ starts_alike plan k v w c a i = go c.helper
     go helper.PutNoidle = rw same refl
     go _ = refl
 
-put_suspends_alike : (plan : Plan) (k : Region plan) (v w : Views) (c : Command) → Agree plan k v w → k.inside c.dev.0 ≡ true → put_suspends plan v c ≡ put_suspends plan w c
+put_suspends_alike : {plan : Plan} {k : Region plan} {v w : Views} (c : Command) → Agree plan k v w → k.inside c.dev.0 ≡ true → put_suspends plan v c ≡ put_suspends plan w c
 unfolding put_suspends
-put_suspends_alike plan k v w c a i = rw (device_agrees plan k v w c.dev a i, fields_agree plan k v w c.dev _ a i) refl
+put_suspends_alike c a i = rw (device_agrees c.dev a i, fields_agree c.dev _ a i) refl
 
-fires_alike : (plan : Plan) (k : Region plan) (v w : Views) (d : DevId) → Agree plan k v w → k.inside d.0 ≡ true → timer_fires v d ≡ timer_fires w d
+fires_alike : {plan : Plan} {k : Region plan} {v w : Views} (d : DevId) → Agree plan k v w → k.inside d.0 ≡ true → timer_fires v d ≡ timer_fires w d
 unfolding timer_fires has_auto_timer
-fires_alike plan k v w d a i = rw (timer_agrees plan k v w d a i) refl
+fires_alike d a i = rw (timer_agrees d a i) refl
 
-pub helper_alike : (plan : Plan) (k : Region plan) (v w : Views) (t : ℕ) (s : HelperStage) → Agree plan k v w → DeviceIn k (helper_device s) → helper_row plan v s t ≡ helper_row plan w s t
-helper_alike plan k v w t (at.Call c) a i = refl
-helper_alike plan k v w t (at.Work d) a i = rw (pending_agrees plan k v w d a i) refl
-helper_alike plan k v w t (at.Timer d) a i = fires_alike plan k v w d a i
-helper_alike plan k v w t (at.Start c) a i = starts_alike plan k v w c a i
-helper_alike plan k v w t (at.PutSuspends c) a i = put_suspends_alike plan k v w c a i
-helper_alike plan k v w t (at.Delay ms since) a i = refl
-helper_alike plan k v w t (at.Ret h d c) a i = refl
+pub helper_alike : {plan : Plan} {k : Region plan} {v w : Views} (t : ℕ) (s : HelperStage) → Agree plan k v w → DeviceIn k (helper_device s) → helper_row plan v s t ≡ helper_row plan w s t
+helper_alike t (at.Call c) a i = refl
+helper_alike t (at.Work d) a i = rw (pending_agrees d a i) refl
+helper_alike t (at.Timer d) a i = fires_alike d a i
+helper_alike t (at.Start c) a i = starts_alike c a i
+helper_alike t (at.PutSuspends c) a i = put_suspends_alike c a i
+helper_alike t (at.Delay ms since) a i = refl
+helper_alike t (at.Ret h d c) a i = refl
 
 -- and in the region
 begins_stay : (plan : Plan) (k : Region plan) (c : Command) (t : ℕ) → DeviceIn k (called_for c.helper c.dev) → StagesIn k (begins c t).push

@@ -12,26 +12,26 @@ use Rattle.pm_apart.proofs.Region.{Region, Agree, StaysIn}
 use Rattle.pm_apart.proofs.Agreeing.{device_agrees, pending_agrees, refusal_agrees, fields_agree, code_agrees}
 use Rattle.pm_apart.proofs.Staying.{ok, both, both_next}
 
-verdict_alike : (plan : Plan) (k : Region plan) (v w : Views) (d : DevId) (f t : ℕ) → Agree plan k v w → k.inside d.0 ≡ true
+verdict_alike : {plan : Plan} {k : Region plan} {v w : Views} (d : DevId) (f t : ℕ) → Agree plan k v w → k.inside d.0 ≡ true
     → idle_verdict plan v d f t ≡ idle_verdict plan w d f t
 unfolding idle_verdict
-verdict_alike plan k v w d f t a i = rw (device_agrees plan k v w d a i, pending_agrees plan k v w d a i, refusal_agrees plan k v w d a i) refl
+verdict_alike d f t a i = rw (device_agrees d a i, pending_agrees d a i, refusal_agrees d a i) refl
 
-ends_alike : (plan : Plan) (k : Region plan) (v w : Views) (d : DevId) (f t : ℕ) → Agree plan k v w → k.inside d.0 ≡ true → idle_ends plan v d f t ≡ idle_ends plan w d f t
+ends_alike : {plan : Plan} {k : Region plan} {v w : Views} (d : DevId) (f t : ℕ) → Agree plan k v w → k.inside d.0 ≡ true → idle_ends plan v d f t ≡ idle_ends plan w d f t
 unfolding idle_ends
-ends_alike plan k v w d f t a i = rw (code_agrees plan k v w cb.Idle d a i) refl
+ends_alike d f t a i = rw (code_agrees cb.Idle d a i) refl
 
-after_put_alike : (plan : Plan) (k : Region plan) (v w : Views) (d : DevId) (f : ℕ) → Agree plan k v w → k.inside d.0 ≡ true → after_put plan v d f ≡ after_put plan w d f
+after_put_alike : {plan : Plan} {k : Region plan} {v w : Views} (d : DevId) (f : ℕ) → Agree plan k v w → k.inside d.0 ≡ true → after_put plan v d f ≡ after_put plan w d f
 unfolding after_put
-after_put_alike plan k v w d f a i = rw (device_agrees plan k v w d a i, fields_agree plan k v w d f a i) refl
+after_put_alike d f a i = rw (device_agrees d a i, fields_agree d f a i) refl
 
-pub idle_alike : (plan : Plan) (k : Region plan) (v w : Views) (t : ℕ) (s : IdleStage) → Agree plan k v w → k.inside (idle_device s).0 ≡ true → idle_row plan v s t ≡ idle_row plan w s t
-idle_alike plan k v w t (idle.Enter d f) a i = rw (fields_agree plan k v w d f a i) refl
-idle_alike plan k v w t (idle.Verdict d f) a i = verdict_alike plan k v w d f t a i
-idle_alike plan k v w t (idle.Running d f since) a i = ends_alike plan k v w d f t a i
-idle_alike plan k v w t (idle.Done d f c) a i = refl
-idle_alike plan k v w t (idle.Queued d f) a i = refl
-idle_alike plan k v w t (idle.AfterPut d f) a i = after_put_alike plan k v w d f a i
+pub idle_alike : {plan : Plan} {k : Region plan} {v w : Views} (t : ℕ) (s : IdleStage) → Agree plan k v w → k.inside (idle_device s).0 ≡ true → idle_row plan v s t ≡ idle_row plan w s t
+idle_alike t (idle.Enter d f) a i = rw (fields_agree d f a i) refl
+idle_alike t (idle.Verdict d f) a i = verdict_alike d f t a i
+idle_alike t (idle.Running d f since) a i = ends_alike d f t a i
+idle_alike t (idle.Done d f c) a i = refl
+idle_alike t (idle.Queued d f) a i = refl
+idle_alike t (idle.AfterPut d f) a i = after_put_alike d f a i
 
 verdict_stays : (plan : Plan) (k : Region plan) (v : Views) (d : DevId) (f t : ℕ) → k.inside d.0 ≡ true → StaysIn plan k (idle_verdict plan v d f t)
 unfolding idle_verdict

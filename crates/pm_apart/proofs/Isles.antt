@@ -3,7 +3,7 @@ use Rattle.std.proofs.Common.{ℕ, zero, suc, ◌≡◌, Bool, true, false, ◌&
 use Rattle.std.specs.Prelude.{slice_get}
 use Rattle.std.specs.List.{list_all, list_any}
 use Rattle.std.proofs.Math.Bool.{Bool-set}
-use Rattle.std.proofs.lemmas.Bool.{and_parts, eqb-true, false≢true}
+use Rattle.std.proofs.lemmas.Bool.{or_left, or_right, and_parts, eqb-true, false≢true}
 use mathlib.Core.HLevel.{is_prop→PathP}
 use Rattle.pm_base.specs.declared.ActorId.{ActorId}
 use Rattle.pm_base.specs.declared.ActorId.TheVariants.{Caller, Work, Timer}
@@ -13,7 +13,7 @@ use Rattle.pm_model.specs.declared.rows.CallerRow.{CallerRow}
 use Rattle.pm_model.specs.Islands.{IsLabelling, IsPart, Node, names_device, node_of, own, the_caller, the_device, the_domain, with_scripts}
 use Rattle.pm_model.specs.IsPlan.{is_plan, is_caller, is_caller_name, is_script}
 use Rattle.pm_model.specs.PlanRows.{parent, domain}
-use Rattle.pm_stacks.proofs.Tests.{front, or_rear, rear, same_self}
+use Rattle.pm_stacks.proofs.Tests.{front, rear, same_self}
 use Rattle.pm_apart.proofs.Region.{Alike, AreApart, Island, is_actor_of}
 
 -- a plan's labelling
@@ -22,14 +22,10 @@ pub record Labelled (plan : Plan) : Type 0 where
   pub shared : IsLabelling plan island
 
 -- numbers that touching nodes share
-pub or_front : (a b : Bool) → a ≡ true → a || b ≡ true
-or_front true b e = refl
-or_front false b e = absurd (false≢true e)
-
 pub any_at : {A : Type 0} (p : A → Bool) (xs : List A) (n : ℕ) (x : A) → slice_get xs n ≡ Some x → p x ≡ true → list_any p xs ≡ true
 any_at p [] n x is e = absurd (cc)
-any_at p (y ∷ xs) zero x is e = let same : y ≡ x = cc in or_front (p y) (list_any p xs) (ap p same ∙ e)
-any_at p (y ∷ xs) (suc n) x is e = or_rear (p y) (list_any p xs) (any_at p xs n x is e)
+any_at p (y ∷ xs) zero x is e = let same : y ≡ x = cc in or_left (p y) (list_any p xs) (ap p same ∙ e)
+any_at p (y ∷ xs) (suc n) x is e = or_right (p y) (list_any p xs) (any_at p xs n x is e)
 
 -- an island of the labelling
 unfoldable pub isle : {plan : Plan} → Labelled plan → ℕ → Island plan
@@ -43,7 +39,7 @@ isle {plan} p n = record {
     above = λ i row o at is. ap (λ m. nat_eq m n) (p.shared (the_domain i) (the_domain o.0) (rw (at, is, same_self o.0) refl));
     linked = λ l row at runtime.
         ap (λ m. nat_eq m n) (p.shared (the_device row.consumer.0) (the_device row.supplier.0)
-        (or_rear _ _ (any_at (λ r. r.pm_runtime && nat_eq r.consumer.0 row.consumer.0 && nat_eq r.supplier.0 row.supplier.0) plan.links l row at
+        (or_right _ _ (any_at (λ r. r.pm_runtime && nat_eq r.consumer.0 row.consumer.0 && nat_eq r.supplier.0 row.supplier.0) plan.links l row at
         (rw (runtime, same_self row.consumer.0, same_self row.supplier.0) refl))));
   };
   callers = λ c. nat_eq (p.island (the_caller c)) n;

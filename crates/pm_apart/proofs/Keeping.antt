@@ -1,5 +1,5 @@
 -- Changes of a device of a region stay in it.
-use Rattle.std.proofs.Common.{ℕ, ◌≡◌, ◌+◌, ◌-◌, Bool, true, false, ◌&&◌, Option, None, ℤ, pos, nat_eq, if◌then◌else◌, ap, refl, sym, subst, ◌∙◌}
+use Rattle.std.proofs.Common.{ℕ, ◌≡◌, ◌+◌, ◌-◌, Bool, true, false, ◌&&◌, List, Option, None, ℤ, pos, nat_eq, if◌then◌else◌, ap, refl, sym, subst, ◌∙◌}
 use Rattle.std.specs.Ordering.{int_eq}
 use Rattle.std.proofs.lemmas.Bool.{eqb-true, false≢true}
 use Rattle.pm_base.specs.declared.Armed.{Armed}
@@ -18,7 +18,7 @@ use Rattle.pm_model.specs.Events.{is_try_again}
 use Rattle.pm_model.specs.PlanRows.{is_of_pair, marks_busy}
 use Rattle.pm_model.specs.ChangeViews.{change_views, suspend_ended}
 use Rattle.pm_model.specs.Views.{Views, device, pending_of, with_device, with_pending, with_timer}
-use Rattle.pm_apart.proofs.Region.{Region, Agree, Apart, ChangeIn, IsLocal, is_own_link}
+use Rattle.pm_apart.proofs.Region.{Alike, AlikeBy, Region, Agree, Apart, ChangeIn, IsLocal, is_own_link}
 use Rattle.pm_apart.proofs.Lists.{alike_refl, alike_set, alike_aside, alike_trans, by_refl, by_trans, by_map, by_aside}
 use Rattle.pm_apart.proofs.Agreeing.{device_agrees, pending_agrees, timer_agrees}
 
@@ -42,6 +42,31 @@ agree_trans plan k u v w a b = record {
   present = by_trans (is_own_link k) plan.links u.present v.present w.present a.present b.present;
 }
 
+-- views that agree, with one list of entries made anew
+pub devices_anew : {plan : Plan} {k : Region plan} {v w : Views} (xs ys : List Device) → Agree plan k v w → Alike k.inside xs ys
+    → Agree plan k (record v { devices = xs }) (record w { devices = ys })
+devices_anew xs ys a b = record { devices = b; pending = a.pending; timers = a.timers; on = a.on; held = a.held; present = a.present; }
+
+pub pending_anew : {plan : Plan} {k : Region plan} {v w : Views} (xs ys : List Pending) → Agree plan k v w → Alike k.inside xs ys
+    → Agree plan k (record v { pending = xs }) (record w { pending = ys })
+pending_anew xs ys a b = record { devices = a.devices; pending = b; timers = a.timers; on = a.on; held = a.held; present = a.present; }
+
+pub timers_anew : {plan : Plan} {k : Region plan} {v w : Views} (xs ys : List (Option Armed)) → Agree plan k v w → Alike k.inside xs ys
+    → Agree plan k (record v { timers = xs }) (record w { timers = ys })
+timers_anew xs ys a b = record { devices = a.devices; pending = a.pending; timers = b; on = a.on; held = a.held; present = a.present; }
+
+pub on_anew : {plan : Plan} {k : Region plan} {v w : Views} (xs ys : List Bool) → Agree plan k v w → Alike k.domains xs ys
+    → Agree plan k (record v { on = xs }) (record w { on = ys })
+on_anew xs ys a b = record { devices = a.devices; pending = a.pending; timers = a.timers; on = b; held = a.held; present = a.present; }
+
+pub held_anew : {plan : Plan} {k : Region plan} {v w : Views} (xs ys : List Bool) → Agree plan k v w → AlikeBy (is_own_link k) plan.links xs ys
+    → Agree plan k (record v { held = xs }) (record w { held = ys })
+held_anew xs ys a b = record { devices = a.devices; pending = a.pending; timers = a.timers; on = a.on; held = b; present = a.present; }
+
+pub present_anew : {plan : Plan} {k : Region plan} {v w : Views} (xs ys : List Bool) → Agree plan k v w → AlikeBy (is_own_link k) plan.links xs ys
+    → Agree plan k (record v { present = xs }) (record w { present = ys })
+present_anew xs ys a b = record { devices = a.devices; pending = a.pending; timers = a.timers; on = a.on; held = a.held; present = b; }
+
 pub local_same : {plan : Plan} {k : Region plan} → IsLocal plan k (λ v. v)
 local_same {plan} {k} = record { keeps = λ v w a. a; spares = λ l v apart. agree_refl plan l v; same_held = λ v. refl }
 
@@ -55,64 +80,22 @@ local_then {plan} {k} b c x y = record {
 -- one entry is made anew from itself
 pub local_device : {plan : Plan} {k : Region plan} (d : DevId) (f : Device → Device) → k.inside d.0 ≡ true → IsLocal plan k (λ v. with_device v d (f (device v d)))
 local_device {plan} {k} d f i = record {
-  keeps = λ v w a. record {
-    devices = alike_set k.inside v.devices w.devices d.0 (f (device v d)) (f (device w d)) a.devices (λ _. ap f (device_agrees plan k v w d a i));
-    pending = a.pending;
-    timers = a.timers;
-    on = a.on;
-    held = a.held;
-    present = a.present;
-  };
-  spares = λ l v apart. record {
-    devices = alike_aside l.inside v.devices d.0 (f (device v d)) (apart.devices d.0 i);
-    pending = alike_refl l.inside v.pending;
-    timers = alike_refl l.inside v.timers;
-    on = alike_refl l.domains v.on;
-    held = by_refl (is_own_link l) plan.links v.held;
-    present = by_refl (is_own_link l) plan.links v.present;
-  };
+  keeps = λ v w a. devices_anew _ _ a (alike_set k.inside v.devices w.devices d.0 (f (device v d)) (f (device w d)) a.devices (λ _. ap f (device_agrees d a i)));
+  spares = λ l v apart. devices_anew _ _ (agree_refl plan l v) (alike_aside l.inside v.devices d.0 (f (device v d)) (apart.devices d.0 i));
   same_held = λ v. refl;
 }
 
 pub local_pending : {plan : Plan} {k : Region plan} (d : DevId) (f : Pending → Pending) → k.inside d.0 ≡ true → IsLocal plan k (λ v. with_pending v d (f (pending_of v d)))
 local_pending {plan} {k} d f i = record {
-  keeps = λ v w a. record {
-    devices = a.devices;
-    pending = alike_set k.inside v.pending w.pending d.0 (f (pending_of v d)) (f (pending_of w d)) a.pending (λ _. ap f (pending_agrees plan k v w d a i));
-    timers = a.timers;
-    on = a.on;
-    held = a.held;
-    present = a.present;
-  };
-  spares = λ l v apart. record {
-    devices = alike_refl l.inside v.devices;
-    pending = alike_aside l.inside v.pending d.0 (f (pending_of v d)) (apart.devices d.0 i);
-    timers = alike_refl l.inside v.timers;
-    on = alike_refl l.domains v.on;
-    held = by_refl (is_own_link l) plan.links v.held;
-    present = by_refl (is_own_link l) plan.links v.present;
-  };
+  keeps = λ v w a. pending_anew _ _ a (alike_set k.inside v.pending w.pending d.0 (f (pending_of v d)) (f (pending_of w d)) a.pending (λ _. ap f (pending_agrees d a i)));
+  spares = λ l v apart. pending_anew _ _ (agree_refl plan l v) (alike_aside l.inside v.pending d.0 (f (pending_of v d)) (apart.devices d.0 i));
   same_held = λ v. refl;
 }
 
 pub local_timer : {plan : Plan} {k : Region plan} (d : DevId) (x : Option Armed) → k.inside d.0 ≡ true → IsLocal plan k (λ v. with_timer v d x)
 local_timer {plan} {k} d x i = record {
-  keeps = λ v w a. record {
-    devices = a.devices;
-    pending = a.pending;
-    timers = alike_set k.inside v.timers w.timers d.0 x x a.timers (λ _. refl);
-    on = a.on;
-    held = a.held;
-    present = a.present;
-  };
-  spares = λ l v apart. record {
-    devices = alike_refl l.inside v.devices;
-    pending = alike_refl l.inside v.pending;
-    timers = alike_aside l.inside v.timers d.0 x (apart.devices d.0 i);
-    on = alike_refl l.domains v.on;
-    held = by_refl (is_own_link l) plan.links v.held;
-    present = by_refl (is_own_link l) plan.links v.present;
-  };
+  keeps = λ v w a. timers_anew _ _ a (alike_set k.inside v.timers w.timers d.0 x x a.timers (λ _. refl));
+  spares = λ l v apart. timers_anew _ _ (agree_refl plan l v) (alike_aside l.inside v.timers d.0 x (apart.devices d.0 i));
   same_held = λ v. refl;
 }
 
@@ -163,7 +146,7 @@ local_if {plan} {k} test b c same x y = record {
 local_rcancel : {plan : Plan} {k : Region plan} (d : DevId) → k.inside d.0 ≡ true → IsLocal plan k (rcancel d)
 unfolding rcancel has_auto_timer
 local_rcancel {plan} {k} d i =
-    local_if (λ v. has_auto_timer v d) (set_request Nothing d) (cancel d) (λ v w a. rw (timer_agrees plan k v w d a i) refl)
+    local_if (λ v. has_auto_timer v d) (set_request Nothing d) (cancel d) (λ v w a. rw (timer_agrees {plan = plan} {k = k} d a i) refl)
     (local_request Nothing d i) (local_cancel d i)
 
 local_marks : {plan : Plan} {k : Region plan} (d : DevId) (t : ℕ) → k.inside d.0 ≡ true → IsLocal plan k (callback_marks plan d t)
@@ -189,7 +172,7 @@ local_enables : {plan : Plan} {k : Region plan} (d : DevId) → k.inside d.0 ≡
 unfolding enables
 local_enables {plan} {k} d i =
     local_if (λ v. nat_eq (device v d).depth 1) (λ v. set_last false d (set_depth 0 d v)) (λ v. set_depth ((device v d).depth - 1) d v)
-    (λ v w a. rw (device_agrees plan k v w d a i) refl)
+    (λ v w a. rw (device_agrees {plan = plan} {k = k} d a i) refl)
     (local_then (set_depth 0 d) (set_last false d) (local_depth 0 d i) (local_last false d i)) (local_device d (λ x. record x { depth = x.depth - 1 }) i)
 
 -- a link of a pair whose consumer lies in another region
@@ -204,22 +187,8 @@ not_pair k l c s row apart i own = go (nat_eq row.consumer.0 c.0) refl
 local_present : {plan : Plan} {k : Region plan} (c s : DevId) (b : Bool) → k.inside c.0 ≡ true → IsLocal plan k (set_present plan c s b)
 unfolding set_present
 local_present {plan} {k} c s b i = record {
-  keeps = λ v w a. record {
-    devices = a.devices;
-    pending = a.pending;
-    timers = a.timers;
-    on = a.on;
-    held = a.held;
-    present = by_map (is_own_link k) (λ p. if is_of_pair c s p.0 then b else p.1) plan.links v.present w.present a.present;
-  };
-  spares = λ l v apart. record {
-    devices = alike_refl l.inside v.devices;
-    pending = alike_refl l.inside v.pending;
-    timers = alike_refl l.inside v.timers;
-    on = alike_refl l.domains v.on;
-    held = by_refl (is_own_link l) plan.links v.held;
-    present = by_aside (is_own_link l) (λ p. if is_of_pair c s p.0 then b else p.1) plan.links v.present (λ row x own. rw (not_pair k l c s row apart i own) refl);
-  };
+  keeps = λ v w a. present_anew _ _ a (by_map (is_own_link k) (λ p. if is_of_pair c s p.0 then b else p.1) plan.links v.present w.present a.present);
+  spares = λ l v apart. present_anew _ _ (agree_refl plan l v) (by_aside (is_own_link l) (λ p. if is_of_pair c s p.0 then b else p.1) plan.links v.present (λ row x own. rw (not_pair k l c s row apart i own) refl));
   same_held = λ v. refl;
 }
 
@@ -246,11 +215,11 @@ local_disables_busy d i = local_then (disables d) (cancel_all d) (local_disables
 
 local_keeps_status : {plan : Plan} {k : Region plan} (d : DevId) → k.inside d.0 ≡ true → IsLocal plan k (keeps_status d)
 local_keeps_status {plan} {k} d i =
-    local_read (λ v. is_active v d) (λ b v. set_last b d v) (λ v w a. rw (device_agrees plan k v w d a i) refl) (λ b. local_last b d i)
+    local_read (λ v. is_active v d) (λ b v. set_last b d v) (λ v w a. rw (device_agrees {plan = plan} {k = k} d a i) refl) (λ b. local_last b d i)
 
 local_at_once : {plan : Plan} {k : Region plan} (d : DevId) → k.inside d.0 ≡ true → IsLocal plan k (disabled_at_once d)
 local_at_once {plan} {k} d i =
-    local_read (λ v. is_active v d) (λ b v. set_last b d (disables_busy d v)) (λ v w a. rw (device_agrees plan k v w d a i) refl)
+    local_read (λ v. is_active v d) (λ b v. set_last b d (disables_busy d v)) (λ v w a. rw (device_agrees {plan = plan} {k = k} d a i) refl)
     (λ b. local_then (disables_busy d) (set_last b d) (local_disables_busy d i) (local_last b d i))
 
 -- each change that a row names is local to its device

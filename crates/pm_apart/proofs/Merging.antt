@@ -90,9 +90,9 @@ step plan p i h line meets home ordered bound permits =
     let r : Row = writes line.event permits.change permits.next in
     let wrote : row (part p i) w.views s line.time ≡ Some r = written (due (part p i) w.views s) line.time (row (part p i) w.views s line.time) line.event permits.change permits.next permits.gives in
     let its : row plan w.views s line.time ≡ Some r = sym (same_row plan (callers_in p i) (law_in p i) w.views s line.time) ∙ wrote in
-    let ours : row plan (world plan h).views s line.time ≡ Some r = row_alike plan k.region (world plan h).views w.views line.time s agree.views inside ∙ its in
+    let ours : row plan (world plan h).views s line.time ≡ Some r = row_alike line.time s agree.views inside ∙ its in
     let dues : due plan (world plan h).views s ≡ due (part p i) w.views s =
-    due_alike plan k.region (world plan h).views w.views s agree.views inside ∙ sym (part_due plan p i w.views s) in
+    due_alike s agree.views inside ∙ sym (part_due plan p i w.views s) in
     let moves : move plan (world plan h).views s line.time ≡ Some (Write line.event permits.change permits.next) =
     rw (dues, ours) (sym (ap (λ x. option_map (timed (due (part p i) w.views s) line.time) x) wrote) ∙ permits.gives) in
     record {

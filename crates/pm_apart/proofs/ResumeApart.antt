@@ -18,55 +18,55 @@ use Rattle.pm_apart.proofs.Domains.{up_agrees, down_agrees}
 use Rattle.pm_apart.proofs.Found.{held_in, free_runtime, free_in}
 use Rattle.pm_apart.proofs.Staying.{ok, waiting, both, both_next}
 
-verdict_alike : (plan : Plan) (k : Region plan) (v w : Views) (r : ResumeCall) (tried : Bool) → Agree plan k v w → k.inside r.dev.0 ≡ true
+verdict_alike : {plan : Plan} {k : Region plan} {v w : Views} (r : ResumeCall) (tried : Bool) → Agree plan k v w → k.inside r.dev.0 ≡ true
     → resume_verdict plan v r tried ≡ resume_verdict plan w r tried
 unfolding resume_verdict
-verdict_alike plan k v w r tried a i =
+verdict_alike {plan} {k} {v} {w} r tried a i =
     let p = parent_inside plan k r.dev i in
-    rw (minds_agrees plan k v w r.dev a i, device_agrees plan k v w r.dev a i, device_agrees plan k v w (parent_of plan r.dev) a p, fields_agree plan k v w (parent_of plan r.dev) 0 a p) refl
+    rw (minds_agrees r.dev a i, device_agrees r.dev a i, device_agrees (parent_of plan r.dev) a p, fields_agree (parent_of plan r.dev) 0 a p) refl
 
-takes_alike : (plan : Plan) (k : Region plan) (v w : Views) (r : ResumeCall) (t : ℕ) (x : Option (ℕ × DevId)) → Agree plan k v w → k.inside r.dev.0 ≡ true
+takes_alike : {plan : Plan} {k : Region plan} {v w : Views} (r : ResumeCall) (t : ℕ) (x : Option (ℕ × DevId)) → Agree plan k v w → k.inside r.dev.0 ≡ true
     → resume_takes plan v r t x ≡ resume_takes plan w r t x
-takes_alike plan k v w r t (Some link) a i = refl
-takes_alike plan k v w r t None a i = rw (up_agrees plan k v w r.dev a i) refl
+takes_alike r t (Some link) a i = refl
+takes_alike r t None a i = rw (up_agrees r.dev a i) refl
 
-links_alike : (plan : Plan) (k : Region plan) (v w : Views) (r : ResumeCall) (t : ℕ) → Agree plan k v w → k.inside r.dev.0 ≡ true
+links_alike : {plan : Plan} {k : Region plan} {v w : Views} (r : ResumeCall) (t : ℕ) → Agree plan k v w → k.inside r.dev.0 ≡ true
     → resume_links plan v r t ≡ resume_links plan w r t
 unfolding resume_links
-links_alike plan k v w r t a i = rw (free_agrees plan k v w r.dev a i) (takes_alike plan k v w r t (first_free plan w r.dev) a i)
+links_alike {plan} {k} {v} {w} r t a i = rw (free_agrees r.dev a i) (takes_alike r t (first_free plan w r.dev) a i)
 
 gives_alike : (v w : Views) (r : ResumeCall) (c : ℤ) (x : Option (ℕ × DevId)) → resume_gives v r c x ≡ resume_gives w r c x
 gives_alike v w r c (Some link) = refl
 gives_alike v w r c None = refl
 
-unwinds_alike : (plan : Plan) (k : Region plan) (v w : Views) (r : ResumeCall) (c : ℤ) → Agree plan k v w → k.inside r.dev.0 ≡ true
+unwinds_alike : {plan : Plan} {k : Region plan} {v w : Views} (r : ResumeCall) (c : ℤ) → Agree plan k v w → k.inside r.dev.0 ≡ true
     → resume_unwinds plan v r c ≡ resume_unwinds plan w r c
 unfolding resume_unwinds
-unwinds_alike plan k v w r c a i = rw (held_agrees plan k v w r.dev a i) (gives_alike v w r c (first_held plan w r.dev))
+unwinds_alike {plan} {k} {v} {w} r c a i = rw (held_agrees r.dev a i) (gives_alike v w r c (first_held plan w r.dev))
 
-ends_alike : (plan : Plan) (k : Region plan) (v w : Views) (r : ResumeCall) → Agree plan k v w → k.inside r.dev.0 ≡ true → resume_ends plan v r ≡ resume_ends plan w r
+ends_alike : {plan : Plan} {k : Region plan} {v w : Views} (r : ResumeCall) → Agree plan k v w → k.inside r.dev.0 ≡ true → resume_ends plan v r ≡ resume_ends plan w r
 unfolding resume_ends
-ends_alike plan k v w r a i = rw (code_agrees plan k v w cb.Resume r.dev a i) refl
+ends_alike r a i = rw (code_agrees cb.Resume r.dev a i) refl
 
-domain_alike : (plan : Plan) (k : Region plan) (v w : Views) (r : ResumeCall) (c : ℤ) → Agree plan k v w → k.inside r.dev.0 ≡ true
+domain_alike : {plan : Plan} {k : Region plan} {v w : Views} (r : ResumeCall) (c : ℤ) → Agree plan k v w → k.inside r.dev.0 ≡ true
     → resume_domain plan v r c ≡ resume_domain plan w r c
 unfolding resume_domain
-domain_alike plan k v w r c a i = rw (down_agrees plan k v w r.dev a i, unwinds_alike plan k v w r c a i) refl
+domain_alike r c a i = rw (down_agrees r.dev a i, unwinds_alike r c a i) refl
 
-pub resume_alike : (plan : Plan) (k : Region plan) (v w : Views) (t : ℕ) (s : ResumeStage) → Agree plan k v w → k.inside (resume_device s).0 ≡ true → resume_row plan v s t ≡ resume_row plan w s t
-resume_alike plan k v w t (resume.Enter r) a i = rw (fields_agree plan k v w r.dev r.flags a i) refl
-resume_alike plan k v w t (resume.Verdict r tried) a i = verdict_alike plan k v w r tried a i
-resume_alike plan k v w t (resume.Waiting r tried) a i = rw (device_agrees plan k v w r.dev a i, verdict_alike plan k v w r tried a i) refl
-resume_alike plan k v w t (resume.Links r) a i = links_alike plan k v w r t a i
-resume_alike plan k v w t (resume.Supplied r c) a i = rw (links_alike plan k v w r t a i, unwinds_alike plan k v w r c a i) refl
-resume_alike plan k v w t (resume.Callback r) a i = refl
-resume_alike plan k v w t (resume.Running r since) a i = ends_alike plan k v w r a i
-resume_alike plan k v w t (resume.Resumed r) a i = refl
-resume_alike plan k v w t (resume.Idle r) a i = rw (fields_agree plan k v w r.dev 1 a i) refl
-resume_alike plan k v w t (resume.Done r c) a i = refl
-resume_alike plan k v w t (resume.Parent r c) a i = refl
-resume_alike plan k v w t (resume.Domain r c) a i = domain_alike plan k v w r c a i
-resume_alike plan k v w t (resume.Unwind r c) a i = unwinds_alike plan k v w r c a i
+pub resume_alike : {plan : Plan} {k : Region plan} {v w : Views} (t : ℕ) (s : ResumeStage) → Agree plan k v w → k.inside (resume_device s).0 ≡ true → resume_row plan v s t ≡ resume_row plan w s t
+resume_alike t (resume.Enter r) a i = rw (fields_agree r.dev r.flags a i) refl
+resume_alike t (resume.Verdict r tried) a i = verdict_alike r tried a i
+resume_alike t (resume.Waiting r tried) a i = rw (device_agrees r.dev a i, verdict_alike r tried a i) refl
+resume_alike t (resume.Links r) a i = links_alike r t a i
+resume_alike t (resume.Supplied r c) a i = rw (links_alike r t a i, unwinds_alike r c a i) refl
+resume_alike t (resume.Callback r) a i = refl
+resume_alike t (resume.Running r since) a i = ends_alike r a i
+resume_alike t (resume.Resumed r) a i = refl
+resume_alike t (resume.Idle r) a i = rw (fields_agree r.dev 1 a i) refl
+resume_alike t (resume.Done r c) a i = refl
+resume_alike t (resume.Parent r c) a i = refl
+resume_alike t (resume.Domain r c) a i = domain_alike r c a i
+resume_alike t (resume.Unwind r c) a i = unwinds_alike r c a i
 
 -- and in the region
 returns_stay : (plan : Plan) (k : Region plan) (r : ResumeCall) (c : ℤ) (change : Change) → k.inside r.dev.0 ≡ true → ChangeIn k change

@@ -28,21 +28,21 @@ use Rattle.pm_apart.proofs.IdleApart.{idle_alike, idle_stays}
 use Rattle.pm_apart.proofs.ResumeApart.{resume_alike, resume_stays}
 use Rattle.pm_apart.proofs.SuspendApart.{suspend_alike, suspend_stays}
 
-pub row_alike : (plan : Plan) (k : Region plan) (v w : Views) (t : ℕ) (s : Stage) → Agree plan k v w → StageIn k s → row plan v s t ≡ row plan w s t
-row_alike plan k v w t (stage.Idle s) a i = ap Some (idle_alike plan k v w t s a i)
-row_alike plan k v w t (stage.Suspend s) a i = ap Some (suspend_alike plan k v w t s a i)
-row_alike plan k v w t (stage.Resume s) a i = ap Some (resume_alike plan k v w t s a i)
-row_alike plan k v w t (stage.Helper s) a i = ap Some (helper_alike plan k v w t s a i)
-row_alike plan k v w t (stage.Control s) a i = ap Some (control_alike plan k v w t s a i)
-row_alike plan k v w t (stage.Await s) a i = refl
+pub row_alike : {plan : Plan} {k : Region plan} {v w : Views} (t : ℕ) (s : Stage) → Agree plan k v w → StageIn k s → row plan v s t ≡ row plan w s t
+row_alike t (stage.Idle s) a i = ap Some (idle_alike t s a i)
+row_alike t (stage.Suspend s) a i = ap Some (suspend_alike t s a i)
+row_alike t (stage.Resume s) a i = ap Some (resume_alike t s a i)
+row_alike t (stage.Helper s) a i = ap Some (helper_alike t s a i)
+row_alike t (stage.Control s) a i = ap Some (control_alike t s a i)
+row_alike t (stage.Await s) a i = refl
 
-pub due_alike : (plan : Plan) (k : Region plan) (v w : Views) (s : Stage) → Agree plan k v w → StageIn k s → due plan v s ≡ due plan w s
-due_alike plan k v w (stage.Helper (at.Timer d)) a i = ap (λ x. option_map_or (λ armed. armed.deadline) x 0) (timer_agrees plan k v w d a i)
-due_alike plan k v w (stage.Idle (idle.Running d f since)) a i = refl
-due_alike plan k v w (stage.Suspend (suspend.Running d f since)) a i = refl
-due_alike plan k v w (stage.Resume (resume.Running r since)) a i = refl
-due_alike plan k v w (stage.Helper (at.Delay ms since)) a i = refl
-due_alike plan k v w _ a i = refl
+pub due_alike : {plan : Plan} {k : Region plan} {v w : Views} (s : Stage) → Agree plan k v w → StageIn k s → due plan v s ≡ due plan w s
+due_alike (stage.Helper (at.Timer d)) a i = ap (λ x. option_map_or (λ armed. armed.deadline) x 0) (timer_agrees d a i)
+due_alike (stage.Idle (idle.Running d f since)) a i = refl
+due_alike (stage.Suspend (suspend.Running d f since)) a i = refl
+due_alike (stage.Resume (resume.Running r since)) a i = refl
+due_alike (stage.Helper (at.Delay ms since)) a i = refl
+due_alike _ a i = refl
 
 some_row : (x y : Row) → Some x ≡ Some y → x ≡ y
 some_row x y e = cc

@@ -21,58 +21,58 @@ use Rattle.pm_apart.proofs.Found.{held_in}
 use Rattle.pm_apart.proofs.Keeping.{local_ended}
 use Rattle.pm_apart.proofs.Staying.{ok, waiting, both, both_next}
 
-verdict_alike : (plan : Plan) (k : Region plan) (v w : Views) (d : DevId) (f t : ℕ) → Agree plan k v w → k.inside d.0 ≡ true
+verdict_alike : {plan : Plan} {k : Region plan} {v w : Views} (d : DevId) (f t : ℕ) → Agree plan k v w → k.inside d.0 ≡ true
     → suspend_verdict plan v d f t ≡ suspend_verdict plan w d f t
 unfolding suspend_verdict autosuspend_at
-verdict_alike plan k v w d f t a i =
-    rw (device_agrees plan k v w d a i, timer_agrees plan k v w d a i, refusal_agrees plan k v w d a i, expiry_agrees plan k v w d a i) refl
+verdict_alike d f t a i =
+    rw (device_agrees d a i, timer_agrees d a i, refusal_agrees d a i, expiry_agrees d a i) refl
 
-gives_alike : (plan : Plan) (k : Region plan) (v w : Views) (d : DevId) (f : ℕ) (x : Option (ℕ × DevId)) → Agree plan k v w → k.inside d.0 ≡ true
+gives_alike : {plan : Plan} {k : Region plan} {v w : Views} (d : DevId) (f : ℕ) (x : Option (ℕ × DevId)) → Agree plan k v w → k.inside d.0 ≡ true
     → suspend_gives v d f x ≡ suspend_gives w d f x
-gives_alike plan k v w d f (Some link) a i = refl
-gives_alike plan k v w d f None a i = rw (pending_agrees plan k v w d a i) refl
+gives_alike d f (Some link) a i = refl
+gives_alike d f None a i = rw (pending_agrees d a i) refl
 
-links_alike : (plan : Plan) (k : Region plan) (v w : Views) (d : DevId) (f : ℕ) → Agree plan k v w → k.inside d.0 ≡ true
+links_alike : {plan : Plan} {k : Region plan} {v w : Views} (d : DevId) (f : ℕ) → Agree plan k v w → k.inside d.0 ≡ true
     → suspend_links plan v d f ≡ suspend_links plan w d f
 unfolding suspend_links
-links_alike plan k v w d f a i = rw (held_agrees plan k v w d a i) (gives_alike plan k v w d f (first_held plan w d) a i)
+links_alike {plan} {k} {v} {w} d f a i = rw (held_agrees d a i) (gives_alike d f (first_held plan w d) a i)
 
-domain_alike : (plan : Plan) (k : Region plan) (v w : Views) (d : DevId) (f : ℕ) → Agree plan k v w → k.inside d.0 ≡ true
+domain_alike : {plan : Plan} {k : Region plan} {v w : Views} (d : DevId) (f : ℕ) → Agree plan k v w → k.inside d.0 ≡ true
     → suspend_domain plan v d f ≡ suspend_domain plan w d f
 unfolding suspend_domain
-domain_alike plan k v w d f a i = rw (down_agrees plan k v w d a i, links_alike plan k v w d f a i) refl
+domain_alike d f a i = rw (down_agrees d a i, links_alike d f a i) refl
 
-parent_alike : (plan : Plan) (k : Region plan) (v w : Views) (d : DevId) (f : ℕ) → Agree plan k v w → k.inside d.0 ≡ true
+parent_alike : {plan : Plan} {k : Region plan} {v w : Views} (d : DevId) (f : ℕ) → Agree plan k v w → k.inside d.0 ≡ true
     → suspend_parent plan v d f ≡ suspend_parent plan w d f
 unfolding suspend_parent
-parent_alike plan k v w d f a i =
+parent_alike {plan} {k} {v} {w} d f a i =
     let p = parent_inside plan k d i in
-    rw (device_agrees plan k v w (parent_of plan d) a p, fields_agree plan k v w (parent_of plan d) 1 a p) refl
+    rw (device_agrees (parent_of plan d) a p, fields_agree (parent_of plan d) 1 a p) refl
 
 -- the expiry after the callback
-after_alike : (plan : Plan) (k : Region plan) (v w : Views) (d : DevId) (c : ℤ) (t : ℕ) → Agree plan k v w → k.inside d.0 ≡ true
+after_alike : {plan : Plan} {k : Region plan} {v w : Views} (d : DevId) (c : ℤ) (t : ℕ) → Agree plan k v w → k.inside d.0 ≡ true
     → expiry (by_event plan t (event.End d cb.Suspend c) (suspend_ended plan d c t v)) d ≡ expiry (by_event plan t (event.End d cb.Suspend c) (suspend_ended plan d c t w)) d
-after_alike plan k v w d c t a i =
+after_alike {plan} {k} {v} {w} d c t a i =
     let ended = local_ended {plan = plan} {k = k} d c t i in
     let moved = event_moves {plan = plan} {k = k} t (event.End d cb.Suspend c) i in
-    expiry_agrees plan k _ _ d (moved.keeps _ _ (ended.keeps v w a)) i
+    expiry_agrees d (moved.keeps _ _ (ended.keeps v w a)) i
 
-ends_alike : (plan : Plan) (k : Region plan) (v w : Views) (d : DevId) (f t : ℕ) → Agree plan k v w → k.inside d.0 ≡ true
+ends_alike : {plan : Plan} {k : Region plan} {v w : Views} (d : DevId) (f t : ℕ) → Agree plan k v w → k.inside d.0 ≡ true
     → suspend_ends plan v d f t ≡ suspend_ends plan w d f t
 unfolding suspend_ends
-ends_alike plan k v w d f t a i =
-    rw (code_agrees plan k v w cb.Suspend d a i, after_alike plan k v w d (callback_code plan w cb.Suspend d) t a i) refl
+ends_alike {plan} {k} {v} {w} d f t a i =
+    rw (code_agrees cb.Suspend d a i, after_alike d (callback_code plan w cb.Suspend d) t a i) refl
 
-pub suspend_alike : (plan : Plan) (k : Region plan) (v w : Views) (t : ℕ) (s : SuspendStage) → Agree plan k v w → k.inside (suspend_device s).0 ≡ true → suspend_row plan v s t ≡ suspend_row plan w s t
-suspend_alike plan k v w t (suspend.Enter d f) a i = rw (fields_agree plan k v w d f a i) refl
-suspend_alike plan k v w t (suspend.Verdict d f) a i = verdict_alike plan k v w d f t a i
-suspend_alike plan k v w t (suspend.Waiting d f) a i = rw (device_agrees plan k v w d a i, verdict_alike plan k v w d f t a i) refl
-suspend_alike plan k v w t (suspend.Running d f since) a i = ends_alike plan k v w d f t a i
-suspend_alike plan k v w t (suspend.Domain d f) a i = domain_alike plan k v w d f a i
-suspend_alike plan k v w t (suspend.Links d f) a i = links_alike plan k v w d f a i
-suspend_alike plan k v w t (suspend.Deferred d f) a i = rw (fields_agree plan k v w d 0 a i) refl
-suspend_alike plan k v w t (suspend.Parent d f) a i = parent_alike plan k v w d f a i
-suspend_alike plan k v w t (suspend.Done d f c) a i = refl
+pub suspend_alike : {plan : Plan} {k : Region plan} {v w : Views} (t : ℕ) (s : SuspendStage) → Agree plan k v w → k.inside (suspend_device s).0 ≡ true → suspend_row plan v s t ≡ suspend_row plan w s t
+suspend_alike t (suspend.Enter d f) a i = rw (fields_agree d f a i) refl
+suspend_alike t (suspend.Verdict d f) a i = verdict_alike d f t a i
+suspend_alike t (suspend.Waiting d f) a i = rw (device_agrees d a i, verdict_alike d f t a i) refl
+suspend_alike t (suspend.Running d f since) a i = ends_alike d f t a i
+suspend_alike t (suspend.Domain d f) a i = domain_alike d f a i
+suspend_alike t (suspend.Links d f) a i = links_alike d f a i
+suspend_alike t (suspend.Deferred d f) a i = rw (fields_agree d 0 a i) refl
+suspend_alike t (suspend.Parent d f) a i = parent_alike d f a i
+suspend_alike t (suspend.Done d f c) a i = refl
 
 -- and in the region
 verdict_stays : (plan : Plan) (k : Region plan) (v : Views) (d : DevId) (f t : ℕ) → k.inside d.0 ≡ true → StaysIn plan k (suspend_verdict plan v d f t)

@@ -2,9 +2,10 @@
 use Rattle.std.proofs.Common.{ℕ, zero, suc, ◌≡◌, ◌+◌, ◌<◌, ◌≤◌, Bool, true, false, cond, List, [], ◌∷◌, ◌++◌, Some, nat_eq, nat_le, length, take, drop, reverse, if◌then◌else◌, refl, sym, subst, ◌∙◌, ap, arith}
 use Rattle.std.specs.Prelude.{slice_get}
 use Rattle.std.specs.List.{list_all, filter}
-use Rattle.std.proofs.lemmas.Bool.{and_parts, eqb-true}
+use Rattle.std.proofs.lemmas.Bool.{and_from, and_parts, eqb-true}
 use Rattle.std.proofs.lemmas.List.{reverse-append, reverse-reverse, take-append-drop, append-nil, length-reverse, length-take, take_all}
 use Rattle.std.proofs.lemmas.List.Elements.{filter-append}
+use Rattle.std.proofs.lemmas.List.Folds.{list_all-append}
 use Rattle.std.proofs.lemmas.Option.{slice_get_within}
 use Rattle.pm_base.specs.declared.ActorId.{ActorId}
 use Rattle.pm_base.specs.declared.ActorId.TheVariants.{Caller, Work, Timer}
@@ -56,15 +57,11 @@ falls_end [] x f all = (omega arith, tt)
 falls_end (y ∷ []) x f all = (le_of x.time y.time (and_parts _ _ all).0, (omega arith, tt))
 falls_end (y ∷ z ∷ g) x f all = (f.0, falls_end (z ∷ g) x f.1 (and_parts _ _ all).1)
 
-all_append : (p : Line → Bool) (xs ys : List Line) → list_all p xs ≡ true → list_all p ys ≡ true → list_all p (xs ++ ys) ≡ true
-all_append p [] ys e f = f
-all_append p (x ∷ xs) ys e f = let h = and_parts (p x) (list_all p xs) e in rw (h.0, all_append p xs ys h.1 f) refl
-
 all_reverse : (p : Line → Bool) (xs : List Line) → list_all p xs ≡ true → list_all p (reverse xs) ≡ true
 all_reverse p [] e = refl
 all_reverse p (x ∷ xs) e =
     let h = and_parts (p x) (list_all p xs) e in
-    subst (λ l. list_all p l ≡ true) (sym (reversed x xs)) (all_append p (reverse xs) (x ∷ []) (all_reverse p xs h.1) (rw h.0 refl))
+    subst (λ l. list_all p l ≡ true) (sym (reversed x xs)) (list_all-append p (reverse xs) (x ∷ []) ∙ and_from _ _ (all_reverse p xs h.1) (rw h.0 refl))
 
 rising_falls : (xs : List Line) → is_rising xs ≡ true → IsInTime (reverse xs)
 rising_falls [] r = tt
@@ -154,7 +151,7 @@ rising_end [] x r e = refl
 rising_end (y ∷ xs) x r e =
     let f = and_parts (no_later y.time xs) (is_rising xs) r in
     let g = and_parts (nat_le y.time x.time) (list_all (λ y. nat_le y.time x.time) xs) e in
-    rw (all_append (λ z. nat_le y.time z.time) xs (x ∷ []) f.0 (rw g.0 refl), rising_end xs x f.1 g.1) refl
+    rw (list_all-append (λ z. nat_le y.time z.time) xs (x ∷ []) ∙ and_from _ _ f.0 (rw g.0 refl), rising_end xs x f.1 g.1) refl
 
 lawful_rises : (q : Plan) (h : List Line) → IsLawful q h → is_rising (reverse h) ≡ true
 lawful_rises q [] l = refl

@@ -55,8 +55,8 @@ place_alike plan k v w (Timer d) a i = alike_at k.region.inside v.timer_places w
 
 ready_alike : (plan : Plan) (k : Island plan) (v w : World) (a : ActorId) → WorldsAgree plan k v w → is_actor_of k a ≡ true → ready plan v a ≡ ready plan w a
 ready_alike plan k v w (Caller c) a i = rw (alike_at k.callers v.called w.called c 0 a.called i) refl
-ready_alike plan k v w (Work d) a i = rw (pending_agrees plan k.region v.views w.views (record { 0 = d }) a.views i) refl
-ready_alike plan k v w (Timer d) a i = rw (timer_agrees plan k.region v.views w.views (record { 0 = d }) a.views i) refl
+ready_alike plan k v w (Work d) a i = rw (pending_agrees (record { 0 = d }) a.views i) refl
+ready_alike plan k v w (Timer d) a i = rw (timer_agrees (record { 0 = d }) a.views i) refl
 
 pub stage_alike : (plan : Plan) (k : Island plan) (v w : World) (a : ActorId) → WorldsAgree plan k v w → is_actor_of k a ≡ true → stage_at plan v a ≡ stage_at plan w a
 stage_alike plan k v w x a i = rw (place_alike plan k v w x a i, ready_alike plan k v w x a i) refl
@@ -119,53 +119,30 @@ counts_aside : (plan : Plan) (k l : Island plan) (a : ActorId) (e : Event) (xs :
 counts_aside plan k l (Caller c) (event.Call command) xs apart i = alike_aside l.callers xs c _ (apart.callers c i)
 counts_aside plan k l _ _ xs apart i = alike_refl l.callers xs
 
+-- worlds that agree, with one list of places made anew
+caller_places_anew : (plan : Plan) (k : Island plan) (v w : World) (xs ys : List (List Stage)) → WorldsAgree plan k v w → Alike k.callers xs ys
+    → WorldsAgree plan k (record v { caller_places = xs }) (record w { caller_places = ys })
+caller_places_anew plan k v w xs ys a b = record { views = a.views; caller_places = b; work_places = a.work_places; timer_places = a.timer_places; called = a.called; }
+
+work_places_anew : (plan : Plan) (k : Island plan) (v w : World) (xs ys : List (List Stage)) → WorldsAgree plan k v w → Alike k.region.inside xs ys
+    → WorldsAgree plan k (record v { work_places = xs }) (record w { work_places = ys })
+work_places_anew plan k v w xs ys a b = record { views = a.views; caller_places = a.caller_places; work_places = b; timer_places = a.timer_places; called = a.called; }
+
+timer_places_anew : (plan : Plan) (k : Island plan) (v w : World) (xs ys : List (List Stage)) → WorldsAgree plan k v w → Alike k.region.inside xs ys
+    → WorldsAgree plan k (record v { timer_places = xs }) (record w { timer_places = ys })
+timer_places_anew plan k v w xs ys a b = record { views = a.views; caller_places = a.caller_places; work_places = a.work_places; timer_places = b; called = a.called; }
+
 -- a place is set
 put_alike : (plan : Plan) (k : Island plan) (v w : World) (a : ActorId) (stages : List Stage) → WorldsAgree plan k v w → WorldsAgree plan k (with_place v a stages) (with_place w a stages)
-put_alike plan k v w (Caller c) stages a = record {
-  views = a.views;
-  caller_places = alike_set k.callers v.caller_places w.caller_places c stages stages a.caller_places (λ _. refl);
-  work_places = a.work_places;
-  timer_places = a.timer_places;
-  called = a.called;
-}
-put_alike plan k v w (Work d) stages a = record {
-  views = a.views;
-  caller_places = a.caller_places;
-  work_places = alike_set k.region.inside v.work_places w.work_places d stages stages a.work_places (λ _. refl);
-  timer_places = a.timer_places;
-  called = a.called;
-}
-put_alike plan k v w (Timer d) stages a = record {
-  views = a.views;
-  caller_places = a.caller_places;
-  work_places = a.work_places;
-  timer_places = alike_set k.region.inside v.timer_places w.timer_places d stages stages a.timer_places (λ _. refl);
-  called = a.called;
-}
+put_alike plan k v w (Caller c) stages a = caller_places_anew plan k v w _ _ a (alike_set k.callers v.caller_places w.caller_places c stages stages a.caller_places (λ _. refl))
+put_alike plan k v w (Work d) stages a = work_places_anew plan k v w _ _ a (alike_set k.region.inside v.work_places w.work_places d stages stages a.work_places (λ _. refl))
+put_alike plan k v w (Timer d) stages a = timer_places_anew plan k v w _ _ a (alike_set k.region.inside v.timer_places w.timer_places d stages stages a.timer_places (λ _. refl))
 
 put_aside : (plan : Plan) (k l : Island plan) (v : World) (a : ActorId) (stages : List Stage) → AreApart plan k l → is_actor_of k a ≡ true
     → WorldsAgree plan l v (with_place v a stages)
-put_aside plan k l v (Caller c) stages apart i = record {
-  views = agree_refl plan l.region v.views;
-  caller_places = alike_aside l.callers v.caller_places c stages (apart.callers c i);
-  work_places = alike_refl l.region.inside v.work_places;
-  timer_places = alike_refl l.region.inside v.timer_places;
-  called = alike_refl l.callers v.called;
-}
-put_aside plan k l v (Work d) stages apart i = record {
-  views = agree_refl plan l.region v.views;
-  caller_places = alike_refl l.callers v.caller_places;
-  work_places = alike_aside l.region.inside v.work_places d stages (apart.regions.devices d i);
-  timer_places = alike_refl l.region.inside v.timer_places;
-  called = alike_refl l.callers v.called;
-}
-put_aside plan k l v (Timer d) stages apart i = record {
-  views = agree_refl plan l.region v.views;
-  caller_places = alike_refl l.callers v.caller_places;
-  work_places = alike_refl l.region.inside v.work_places;
-  timer_places = alike_aside l.region.inside v.timer_places d stages (apart.regions.devices d i);
-  called = alike_refl l.callers v.called;
-}
+put_aside plan k l v (Caller c) stages apart i = caller_places_anew plan l v v _ _ (worlds_refl plan l v) (alike_aside l.callers v.caller_places c stages (apart.callers c i))
+put_aside plan k l v (Work d) stages apart i = work_places_anew plan l v v _ _ (worlds_refl plan l v) (alike_aside l.region.inside v.work_places d stages (apart.regions.devices d i))
+put_aside plan k l v (Timer d) stages apart i = timer_places_anew plan l v v _ _ (worlds_refl plan l v) (alike_aside l.region.inside v.timer_places d stages (apart.regions.devices d i))
 
 -- a line of the island's own
 pub own_line : (plan : Plan) (k : Island plan) (v w : World) (line : Line) (e : Event) (change : Change) (next : Then)
@@ -243,8 +220,8 @@ own_placed plan k w line e change next placed i stays =
     placed_same (Work d) own = placed (Work d) own
     placed_same (Timer d) own = placed (Timer d) own
 
-agree_sym : (plan : Plan) (k : Region plan) (v w : Views) → Agree plan k v w → Agree plan k w v
-agree_sym plan k v w a = record {
+agree_sym : {plan : Plan} {k : Region plan} {v w : Views} → Agree plan k v w → Agree plan k w v
+agree_sym {plan} {k} {v} {w} a = record {
   devices = alike_sym k.inside v.devices w.devices a.devices;
   pending = alike_sym k.inside v.pending w.pending a.pending;
   timers = alike_sym k.inside v.timers w.timers a.timers;
@@ -255,7 +232,7 @@ agree_sym plan k v w a = record {
 
 pub worlds_sym : (plan : Plan) (k : Island plan) (v w : World) → WorldsAgree plan k v w → WorldsAgree plan k w v
 worlds_sym plan k v w a = record {
-  views = agree_sym plan k.region v.views w.views a.views;
+  views = agree_sym a.views;
   caller_places = alike_sym k.callers v.caller_places w.caller_places a.caller_places;
   work_places = alike_sym k.region.inside v.work_places w.work_places a.work_places;
   timer_places = alike_sym k.region.inside v.timer_places w.timer_places a.timer_places;
