@@ -1,7 +1,5 @@
 -- The plan of the generator is a plan.
-use Rattle.std.proofs.Common.{◌≡◌, ℕ, ◌+◌, ◌-◌, ◌/◌, ◌<◌, ◌≤◌, true, List, [], ◌∷◌, length, map, le-leb, refl, arith}
-use Rattle.std.specs.List.{range_with_len}
-use Rattle.std.specs.Str.{bytes_eq}
+use Rattle.std.proofs.Common.{◌≡◌, ℕ, ◌≤◌, true, List, length, le-leb, refl, arith}
 use Rattle.std.proofs.lemmas.Bool.{and_from}
 use Rattle.std.proofs.lemmas.List.FromFn.{length-map-range_with_len}
 use Rattle.pm_base.specs.declared.limits.TheConstants.{MAX_LINES, MAX_DOMAINS, MAX_DEVICES, MAX_LINKS, MAX_CALLERS}
@@ -9,7 +7,7 @@ use Rattle.pm_model.specs.declared.rows.CallerRow.{CallerRow}
 use Rattle.pm_model.specs.declared.rows.DeviceRow.{DeviceRow}
 use Rattle.pm_model.specs.declared.rows.DomainRow.{DomainRow}
 use Rattle.pm_model.specs.declared.rows.LinkRow.{LinkRow}
-use Rattle.pm_model.specs.IsPlan.{are_distinct, each_at, is_device, is_plan}
+use Rattle.pm_model.specs.IsPlan.{is_plan}
 use Rattle.pm_make.specs.Draws.{in_turn}
 use Rattle.pm_make.specs.Generator.{caller_step, device_step, domain_count, domain_row, domain_rows, link_step}
 use Rattle.pm_make.proofs.Names.{distinct_named}

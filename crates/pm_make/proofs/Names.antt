@@ -1,5 +1,5 @@
 -- Names of a letter and a number.
-use Rattle.std.proofs.Common.{◌≡◌, ℕ, zero, suc, ◌+◌, ◌%◌, ◌^◌, ◌<◌, ◌≤◌, Bool, true, false, List, [], ◌∷◌, ◌++◌, decimal, drop, length, map, le-leb, refl, ap, ◌∙◌, arith, lit<}
+use Rattle.std.proofs.Common.{◌≡◌, ℕ, zero, suc, ◌+◌, ◌%◌, ◌^◌, ◌<◌, ◌≤◌, true, false, [], ◌∷◌, decimal, drop, length, map, le-leb, refl, ap, ◌∙◌, arith, lit<}
 use Rattle.std.specs.List.{list_all, list_any, range_with_len}
 use Rattle.std.specs.Str.{bytes_eq}
 use Rattle.std.proofs.lemmas.Bool.{and_from}
@@ -7,7 +7,7 @@ use Rattle.std.proofs.lemmas.Fmt.{decimal_by_steps, decimal_digit, decimal_injec
 use Rattle.std.proofs.lemmas.List.Folds.{list_all-append}
 use Rattle.pm_base.specs.declared.limits.TheConstants.{MAX_NAME}
 use Rattle.pm_lists.proofs.PlaceNamed.{not_same}
-use Rattle.pm_model.specs.IsPlan.{are_distinct, is_caller_name, is_name, is_name_byte, is_name_of, is_plain_byte}
+use Rattle.pm_model.specs.IsPlan.{are_distinct, is_caller_name, is_name, is_name_byte}
 use Rattle.pm_make.specs.Generator.{name}
 
 name_digit : (n : ℕ) → n < 10 → is_name_byte (48 + n) ≡ true

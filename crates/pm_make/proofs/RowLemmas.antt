@@ -1,8 +1,7 @@
 -- The domains, devices and links are those of a plan.
-use Rattle.std.proofs.Common.{◌≡◌, ℕ, zero, suc, ◌+◌, ◌-◌, ◌/◌, ◌%◌, ◌<◌, ◌≤◌, Bool, true, false, not, ◌&&◌, ◌||◌, List, [], ◌∷◌, ◌++◌, Option, Some, None, length, map, nat_eq, nat_lt, slice_get, le-leb, refl, sym, ap, ◌∙◌, arith, if◌then◌else◌}
+use Rattle.std.proofs.Common.{◌≡◌, ℕ, zero, suc, ◌+◌, ◌-◌, ◌/◌, ◌%◌, ◌<◌, ◌≤◌, Bool, true, false, not, ◌&&◌, ◌||◌, List, [], ◌∷◌, ◌++◌, Option, Some, None, length, map, nat_eq, nat_lt, slice_get, le-leb, refl, ap, ◌∙◌, arith, if◌then◌else◌}
 use Rattle.std.specs.List.{list_all, list_any, range_with_len}
 use Rattle.std.specs.Option.{option_map_or}
-use Rattle.std.specs.Str.{bytes_eq}
 use Rattle.std.proofs.Math.Nat.{mod-lt}
 use Rattle.std.proofs.lemmas.Bool.{and_from, and_parts, lt-ltb}
 use Rattle.std.proofs.lemmas.Bool.Decides.{nat_tests}
@@ -12,13 +11,12 @@ use Rattle.pm_base.specs.declared.DevId.{DevId}
 use Rattle.pm_base.specs.declared.DomId.{DomId}
 use Rattle.pm_base.specs.declared.limits.TheConstants.{MAX_MS}
 use Rattle.pm_model.specs.declared.rows.DeviceRow.{DeviceRow}
-use Rattle.pm_model.specs.declared.rows.DomainRow.{DomainRow}
 use Rattle.pm_model.specs.declared.rows.LinkRow.{LinkRow}
-use Rattle.pm_model.specs.IsPlan.{are_distinct, each_at, is_device, is_domain, is_link, is_same_pair, is_time, lacks_callbacks}
+use Rattle.pm_model.specs.IsPlan.{are_distinct, each_at, is_device, is_domain, is_link, is_same_pair, is_time}
 use Rattle.pm_make.specs.Draws.{Drawn, draw, in_turn, next_state}
 use Rattle.pm_make.specs.Generator.{device, device_step, domain_count, domain_row, link_row, link_step, name, parent_of}
 use Rattle.pm_make.proofs.InTurn.{all_in_turn, length_at_most, length_of_ones, names_in_turn, each_in_turn}
-use Rattle.pm_make.proofs.Names.{distinct_named, is_named}
+use Rattle.pm_make.proofs.Names.{is_named}
 
 -- domains
 

@@ -1,5 +1,5 @@
 -- The callers are those of a plan.
-use Rattle.std.proofs.Common.{◌≡◌, ◌≢◌, ℕ, zero, suc, ◌+◌, ◌-◌, ◌/◌, ◌%◌, ◌*◌, ◌<◌, ◌≤◌, Bool, true, false, ◌&&◌, List, [], ◌∷◌, ◌++◌, length, map, nat_eq, filter, le-leb, refl, ap, ◌∙◌, arith, if◌then◌else◌}
+use Rattle.std.proofs.Common.{◌≡◌, ◌≢◌, ℕ, zero, suc, ◌+◌, ◌-◌, ◌/◌, ◌%◌, ◌<◌, ◌≤◌, Bool, true, false, List, [], ◌∷◌, ◌++◌, length, map, nat_eq, filter, le-leb, refl, ap, ◌∙◌, arith, if◌then◌else◌}
 use Rattle.std.specs.List.{list_all, range_with_len}
 use Rattle.std.specs.Str.{bytes_eq}
 use Rattle.std.proofs.Math.Nat.{mod-lt}
@@ -11,7 +11,7 @@ use Rattle.std.proofs.lemmas.List.Folds.{list_all-append}
 use Rattle.pm_base.specs.declared.limits.TheConstants.{MAX_COMMANDS, MAX_MS}
 use Rattle.pm_model.specs.declared.event.Command.{Command}
 use Rattle.pm_model.specs.declared.event.Helper.TheVariants as helper
-use Rattle.pm_model.specs.IsPlan.{are_distinct, is_caller, is_command, is_script}
+use Rattle.pm_model.specs.IsPlan.{are_distinct, is_caller, is_command}
 use Rattle.pm_make.specs.Draws.{draw, in_turn}
 use Rattle.pm_make.specs.Generator.{caller, caller_step, command, enables, name, round, round_step}
 use Rattle.pm_make.proofs.InTurn.{all_in_turn, length_of_ones, length_of_threes, names_in_turn}

@@ -2,7 +2,6 @@
 use Rattle.std.specs.Prelude.{◌≡◌, ℕ, ◌+◌, ◌-◌, ◌/◌, ◌%◌, false, true, List, [], ◌∷◌, ◌++◌, Option, Some, None, codes, decimal, map, nat_eq, filter, pos, if◌then◌else◌}
 use Rattle.std.specs.List.{range_with_len}
 use Rattle.pm_base.specs.declared.DevId.{DevId}
-use Rattle.pm_base.specs.declared.DomId.{DomId}
 use Rattle.pm_base.specs.declared.limits.TheConstants.{MAX_LINES}
 use Rattle.pm_model.specs.declared.event.Command.{Command}
 use Rattle.pm_model.specs.declared.event.Helper.{Helper}
