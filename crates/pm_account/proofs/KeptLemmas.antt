@@ -1,21 +1,17 @@
 -- What is kept of devices, line by line.
-use Rattle.std.proofs.Common.{ℕ, ◌≡◌, ◌+◌, ◌-◌, ◌<◌, ◌≤◌, ◌++◌, Bool, true, false, All, List, [], ◌∷◌, Option, Some, None, drop, get_or, length, map, nat_eq, reverse, set, take, ap, refl, sym, subst, ◌∙◌, arith, get_or-set_other}
+use Rattle.std.proofs.Common.{ℕ, ◌≡◌, ◌+◌, ◌-◌, ◌<◌, ◌≤◌, ◌++◌, All, List, [], ◌∷◌, Option, Some, None, drop, get_or, length, reverse, take, ap, refl, sym, subst, ◌∙◌, arith}
 use Rattle.std.specs.Option.{option_map_or}
-use Rattle.std.proofs.lemmas.Bool.{eqb-false, eqb-true}
-use Rattle.std.proofs.lemmas.Grind.{get_or-set_at}
-use Rattle.std.proofs.lemmas.List.{get_or-map, reverse-append, take-append-drop, take_more}
+use Rattle.std.proofs.lemmas.List.{reverse-append, take-append-drop, take_more}
 use Rattle.std.proofs.lemmas.List.Elements.{All-from_get_or}
 use Rattle.pm_base.specs.declared.DevId.{DevId}
 use Rattle.pm_base.specs.declared.Status.{Status}
 use Rattle.pm_model.specs.declared.event.Line.{Line}
 use Rattle.pm_model.specs.declared.plan.Plan.{Plan}
-use Rattle.pm_model.specs.Counted.{only_if, says_status, status_of}
+use Rattle.pm_model.specs.Counted.{says_status, status_of}
 use Rattle.pm_model.specs.History.{History}
 use Rattle.pm_model.specs.Lawful.{IsLawful, last_time}
-use Rattle.pm_account.specs.declared.Times.{Times}
 use Rattle.pm_account.specs.declared.stay.Stay.{Stay}
-use Rattle.pm_account.specs.Account.{IsAccount, no_times}
-use Rattle.pm_account.specs.Kept.{AreKept, IsKept, IsReady, behind, longer, stay_at, told_of, total, turned, unsaid, until}
+use Rattle.pm_account.specs.Kept.{AreKept, IsKept, IsReady, behind, longer, stay_at, turned, unsaid, until}
 use Rattle.pm_account.specs.Times.{times_of}
 use Rattle.pm_account.proofs.TimesLemmas.{longer_more, longer_none, one_more, total_longer}
 

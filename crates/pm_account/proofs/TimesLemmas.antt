@@ -1,5 +1,5 @@
 -- The times of a device, line by line.
-use Rattle.std.proofs.Common.{ℕ, ◌≡◌, ◌+◌, ◌-◌, [], ◌∷◌, if◌then◌else◌, ap, refl, sym, ◌∙◌, arith}
+use Rattle.std.proofs.Common.{ℕ, ◌≡◌, ◌+◌, ◌-◌, [], ◌∷◌, if◌then◌else◌, ap, refl, ◌∙◌, arith}
 use Rattle.pm_base.specs.declared.DevId.{DevId}
 use Rattle.pm_base.specs.declared.Status.{Status}
 use Rattle.pm_base.specs.declared.Status.TheVariants.{Active, Suspended, Suspending, Resuming}

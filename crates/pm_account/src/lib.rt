@@ -12,6 +12,8 @@ ghost use Rattle.pm_account.specs.Times.{active, moving, suspended};
 
 mod shown;
 mod stay;
+#[cfg(test)]
+mod tests;
 
 use pm_base::NoMemory;
 use pm_model::{Line, Plan};
