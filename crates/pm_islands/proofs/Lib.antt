@@ -1,2 +1,3 @@
 pub mod NextLemmas
 pub mod Going
+pub mod PartLemmas
