@@ -218,3 +218,10 @@ taken slices place time slice rest line timely next below is parts =
           ∙ ap (λ l. line ∷ merged (slice_set (held slices) place l)) behind ∙ ap (λ m. line ∷ merged m) (sym set);
       in_time = subst AreInTime (sym set) (subst (λ l. AreInTime (slice_set (held slices) place l)) behind (still_in_time (held slices) place k.first k.rest timely k.at));
     }
+
+-- three lists of one line each
+pub three_in_time : (a b c : Line) → AreInTime ((a ∷ []) ∷ (b ∷ []) ∷ (c ∷ []) ∷ [])
+three_in_time a b c =
+    All-cons (λ l. IsInTime (reverse l)) (a ∷ []) ((b ∷ []) ∷ (c ∷ []) ∷ []) (omega arith, tt)
+    (All-cons (λ l. IsInTime (reverse l)) (b ∷ []) ((c ∷ []) ∷ []) (omega arith, tt)
+    (All-cons (λ l. IsInTime (reverse l)) (c ∷ []) [] (omega arith, tt) (λ k d below. absurd (omega (arith, below)))))
