@@ -12,7 +12,7 @@ use Rattle.pm_base.specs.declared.ActorId.TheVariants.{Caller, Work, Timer}
 use Rattle.pm_model.specs.declared.event.Line.{Line}
 use Rattle.pm_model.specs.declared.plan.Plan.{Plan}
 use Rattle.pm_model.specs.declared.rows.CallerRow.{CallerRow}
-use Rattle.pm_model.specs.Apart.{IsFinishedOn, IsInTime, MergeIsFinished, MergeIsLawful}
+use Rattle.pm_apart.specs.Apart.{IsFinishedOn, IsInTime, MergeIsFinished, MergeIsLawful}
 use Rattle.pm_model.specs.Islands.{merged, the_caller}
 use Rattle.pm_model.specs.Lawful.{IsFinished, IsLawful, last_time}
 use Rattle.pm_stacks.proofs.Tests.{same_self}

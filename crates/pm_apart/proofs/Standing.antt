@@ -4,7 +4,7 @@ use Rattle.std.specs.Prelude.{option_map, slice_get}
 use Rattle.pm_model.specs.declared.event.Line.{Line}
 use Rattle.pm_model.specs.declared.plan.Plan.{Plan}
 use Rattle.pm_model.specs.declared.rows.LinkRow.{LinkRow}
-use Rattle.pm_model.specs.Apart.{IsLawfulOn, OwnAreLawful, StandAlike}
+use Rattle.pm_apart.specs.Apart.{IsLawfulOn, OwnAreLawful, StandAlike}
 use Rattle.pm_model.specs.Islands.{Node, own, the_device}
 use Rattle.pm_model.specs.Lawful.{IsLawful}
 use Rattle.pm_model.specs.World.{World, world}

@@ -10,7 +10,7 @@ use Rattle.pm_model.specs.declared.stage.Change.{Change}
 use Rattle.pm_model.specs.declared.stage.Move.TheVariants.{Write}
 use Rattle.pm_model.specs.declared.stage.Stage.{Stage}
 use Rattle.pm_model.specs.declared.stage.Then.{Then}
-use Rattle.pm_model.specs.Apart.{IsInTime}
+use Rattle.pm_apart.specs.Apart.{IsInTime}
 use Rattle.pm_model.specs.ChangeViews.{change_views}
 use Rattle.pm_model.specs.Lawful.{IsLawful, Permits, last_time}
 use Rattle.pm_model.specs.PlanRows.{ms_of}

@@ -2,7 +2,7 @@
 #![tactic(auto)]
 
 ghost use Rattle.pm_model.specs.declared.plan.Plan.{Plan};
-ghost use Rattle.pm_model.specs.Apart.{MergeIsFinished, MergeIsLawful, OwnAreLawful};
+ghost use Rattle.pm_apart.specs.Apart.{MergeIsFinished, MergeIsLawful, OwnAreLawful};
 
 /// Lines whose times don't fall, no more than the plan allows, are lawful where each island's own are lawful for its
 /// part; and after them each island stands as after its own (this project's own).

@@ -31,7 +31,6 @@ pub mod Counted
 pub mod Excuse
 pub mod Promises
 pub mod Islands
-pub mod Apart
 -- texts: which lines have one, how they are spelled, and the first bad line of a text
 pub mod LineOf
 pub mod Spelling

@@ -1,3 +1,2 @@
 pub mod CallTable
 pub mod RefusalLemmas
-pub mod SerialLemmas

@@ -7,7 +7,7 @@ ghost use Rattle.pm_model.specs.Lawful.{IsLawful, Permits};
 ghost use Rattle.pm_model.specs.Serial.{goes_on};
 
 /// Each line that one thread writes may come after those before it.
-#[tactic(auto, using(crate::proofs::SerialLemmas::serial_lawful))]
+#[tactic(auto, using(pm_model::proofs::SerialLemmas::serial_lawful))]
 pub fn serial_is_lawful()
     ensures { (plan : Plan) → IsLawful plan (goes_on plan plan.lines []) }
 {}

@@ -25,7 +25,7 @@ use Rattle.pm_model.specs.Serial.{least, move_at, next_line, next_turn, round, w
 use Rattle.pm_model.specs.Views.{Views}
 use Rattle.pm_model.specs.World.{due, move, stage_at, world}
 use Rattle.pm_idling.specs.Blocks.{blocks}
-use Rattle.pm_runs.proofs.SerialLemmas.{permits_next}
+use Rattle.pm_model.proofs.SerialLemmas.{permits_next}
 use Rattle.pm_state.specs.declared.acting.Turn.TheVariants as turn
 use Rattle.pm_state.specs.Turns.{by_move, by_running, by_stage, end_due, is_running, running_due, runs_at, turn_of}
 use Rattle.pm_waking.specs.Wakes.{first_awake, is_within, or_least, turn_by, wakes, wakes_at}

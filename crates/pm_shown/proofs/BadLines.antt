@@ -24,7 +24,7 @@ use Rattle.pm_model.specs.Text.{IsText2Of, IsTextOf}
 use Rattle.pm_model.specs.Verdict.{IsVerdict, YesFinished, YesOpen}
 use Rattle.pm_model.specs.World.{move, stage_at, world}
 use Rattle.pm_runs.proofs.CallTable.{call_table}
-use Rattle.pm_runs.proofs.SerialLemmas.{permits_written, serial_lawful}
+use Rattle.pm_model.proofs.SerialLemmas.{permits_written, serial_lawful}
 use Rattle.pm_runs.specs.Counts.{first_plan, first_text}
 use Rattle.pm_runs.specs.Refusals.{line}
 use Rattle.pm_runs.specs.Words.{call, dev, run_of}

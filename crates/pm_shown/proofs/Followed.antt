@@ -5,7 +5,7 @@ use Rattle.pm_model.specs.declared.plan.Plan.{Plan}
 use Rattle.pm_model.specs.Lawful.{IsFinished, IsLawful, Permits}
 use Rattle.pm_model.specs.Promises.{IsNeverStuck, gets_succeed, is_exclusive, is_kept, is_safe}
 use Rattle.pm_model.specs.Serial.{goes_on}
-use Rattle.pm_runs.proofs.SerialLemmas.{serial_lawful}
+use Rattle.pm_model.proofs.SerialLemmas.{serial_lawful}
 use Rattle.pm_runs.specs.Words.{run_of}
 use Rattle.pm_shown.specs.Shown.{KeepsAll}
 

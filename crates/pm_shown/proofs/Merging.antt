@@ -5,12 +5,12 @@ use Rattle.std.proofs.lemmas.List.{reverse-reverse}
 use Rattle.pm_base.specs.declared.ActorId.{ActorId}
 use Rattle.pm_base.specs.declared.ActorId.TheVariants.{Caller}
 use Rattle.pm_model.specs.declared.plan.Plan.{Plan}
-use Rattle.pm_model.specs.Apart.{EachPasses, IsFinishedOn}
+use Rattle.pm_apart.specs.Apart.{EachPasses, IsFinishedOn}
 use Rattle.pm_model.specs.Islands.{IsPart, merged}
 use Rattle.pm_model.specs.Lawful.{IsFinished, IsLawful}
 use Rattle.pm_model.specs.Serial.{serial}
 use Rattle.pm_runs.proofs.CallTable.{call_table}
-use Rattle.pm_runs.proofs.SerialLemmas.{serial_lawful}
+use Rattle.pm_model.proofs.SerialLemmas.{serial_lawful}
 use Rattle.pm_runs.specs.Words.{run_of}
 use Rattle.pm_shown.proofs.Apart.{is_first_part, is_second_part, is_third_part}
 use Rattle.pm_shown.proofs.Replay.{in_turn, lawful_in_turn}

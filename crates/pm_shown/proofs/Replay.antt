@@ -8,7 +8,7 @@ use Rattle.pm_model.specs.declared.plan.Plan.{Plan}
 use Rattle.pm_model.specs.Lawful.{IsLawful, last_time}
 use Rattle.pm_model.specs.Serial.{move_at, written}
 use Rattle.pm_model.specs.World.{stage_at, world}
-use Rattle.pm_runs.proofs.SerialLemmas.{permits_written}
+use Rattle.pm_model.proofs.SerialLemmas.{permits_written}
 
 abbrev line_at : Plan → List Line → ActorId × ℕ → Option Line
 line_at plan h turn = option_and_then (written turn.0 turn.1) (move_at plan (world plan h) turn.1 turn.0)

@@ -2,7 +2,7 @@
 
 ghost use Rattle.std.specs.Prelude.{ℕ, ◌≡◌, ◌<◌, true, false, [], ◌∷◌, Some, None, map, reverse, take};
 ghost use Rattle.pm_model.specs.declared.plan.Plan.{Plan};
-ghost use Rattle.pm_model.specs.Apart.{EachPasses, IsFinishedOn};
+ghost use Rattle.pm_apart.specs.Apart.{EachPasses, IsFinishedOn};
 ghost use Rattle.pm_model.specs.Islands.{Connected, IsPart, Node, Numbering, island_of, merged, own, the_caller, the_device, the_domain, touch};
 ghost use Rattle.pm_model.specs.Lawful.{IsFinished, IsLawful};
 ghost use Rattle.pm_model.specs.Serial.{callers_and_works, serial, timer_actors};

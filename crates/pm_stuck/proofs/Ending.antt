@@ -22,7 +22,7 @@ use Rattle.pm_laws.proofs.Finals.{nothing_follows}
 use Rattle.pm_laws.proofs.Places.{IsPlaced, is_placed}
 use Rattle.pm_laws.proofs.Runs.{Holds, lawful_holds}
 use Rattle.pm_idling.proofs.Idling.{one_idle}
-use Rattle.pm_runs.proofs.SerialLemmas.{permits_next}
+use Rattle.pm_model.proofs.SerialLemmas.{permits_next}
 use Rattle.pm_waking.specs.Wakes.{wakes, wakes_at}
 use Rattle.pm_waking.proofs.Turning.{next_is, no_turn, turn_awake}
 use Rattle.pm_waking.proofs.Waking.{actor_timed}

@@ -1,6 +1,6 @@
 use Rattle.pm_stuck.proofs.serial_ends.Goals as goal
 use Rattle.pm_stuck.proofs.Ending as proof
-use Rattle.pm_runs.proofs.SerialLemmas.{goes_on_lawful}
+use Rattle.pm_model.proofs.SerialLemmas.{goes_on_lawful}
 
 pub returns-clause-lawful : goal.returns-clause-lawful
 returns-clause-lawful c = goes_on_lawful
