@@ -1,5 +1,5 @@
 -- From when an actor may write, by where it stands.
-use Rattle.std.proofs.Common.{◌≡◌, Bool, true, Option, Some, None, ap, sym, ◌∙◌}
+use Rattle.std.proofs.Common.{◌≡◌, true, Some, None, ap, ◌∙◌}
 use Rattle.std.specs.Option.{option_and_then, option_map_or}
 use Rattle.pm_base.specs.declared.ActorId.{ActorId}
 use Rattle.pm_model.specs.declared.plan.Plan.{Plan}

@@ -1,7 +1,6 @@
 //! What a line changes of the turns.
 
 ghost use Rattle.std.specs.Prelude.{◌≡◌, ◌+◌, ◌*◌, ◌<◌, ◌≤◌, ◌^◌, ◌∷◌, ◌⊎◌, false, IfNone, IfSome};
-ghost use Rattle.pm_base.specs.declared.ActorId.{ActorId as AnActor};
 ghost use Rattle.pm_bits.specs.Marks.{NoneMarked};
 ghost use Rattle.pm_model.specs.History.{History};
 ghost use Rattle.pm_order.specs.Told.{is_actor};

@@ -1,11 +1,10 @@
 //! Who waits for which device after a line.
 
 ghost use Rattle.std.specs.Prelude.{◌≡◌, ◌≢◌, ◌+◌, ◌*◌, ◌<◌, ◌^◌, ℕ, false, true, slice_set, Some};
-ghost use Rattle.pm_base.specs.declared.ActorId.{ActorId as AnActor};
 ghost use Rattle.pm_base.specs.declared.DevId.{DevId as ADevice};
 ghost use Rattle.pm_bits.specs.Marks.{is_marked};
 ghost use Rattle.pm_order.specs.Looks.{device_at, device_in, waits_at};
-ghost use Rattle.pm_order.specs.Told.{is_actor, wait_in};
+ghost use Rattle.pm_order.specs.Told.{wait_in};
 ghost use Rattle.pm_turns.specs.Seats.{IsSeated, seat_after};
 ghost use Rattle.pm_turns.specs.Turning.{Noted, queue};
 

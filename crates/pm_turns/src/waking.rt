@@ -1,6 +1,6 @@
 //! From when an actor may write, by the stage at which it stands.
 
-ghost use Rattle.std.specs.Prelude.{◌≡◌, ◌+◌, ◌<◌, ◌^◌, ℕ, Some, None, length, true, if◌then◌else◌};
+ghost use Rattle.std.specs.Prelude.{◌≡◌, ◌+◌, ◌<◌, ◌^◌, Some, None, length, true, if◌then◌else◌};
 ghost use Rattle.std.specs.Option.{option_map_or};
 ghost use Rattle.pm_device.specs.Parts.{IsFor};
 ghost use Rattle.pm_model.specs.PlanRows.{ms_of};
@@ -42,6 +42,7 @@ fn unless(blocks: bool) -> Option<u64>
     if blocks { None } else { Some(0) }
 }
 
+// From when the line of a stage of idle may be written.
 fn idle_wakes(plan: &Plan, parts: &Parts, stage: &IdleStage) -> Option<u64>
     requires made_for { IsFor plan.now parts.now.shape }
     requires well_formed { is_well_formed plan.now parts.now.views (the_stage.Idle stage.now) ≡ true }
@@ -53,6 +54,7 @@ fn idle_wakes(plan: &Plan, parts: &Parts, stage: &IdleStage) -> Option<u64>
     }
 }
 
+// The same of a stage of suspend.
 fn suspend_wakes(plan: &Plan, parts: &Parts, stage: &SuspendStage) -> Option<u64>
     requires made_for { IsFor plan.now parts.now.shape }
     requires well_formed { is_well_formed plan.now parts.now.views (the_stage.Suspend stage.now) ≡ true }
@@ -65,6 +67,7 @@ fn suspend_wakes(plan: &Plan, parts: &Parts, stage: &SuspendStage) -> Option<u64
     }
 }
 
+// The same of a stage of resume.
 fn resume_wakes(plan: &Plan, parts: &Parts, stage: &ResumeStage) -> Option<u64>
     requires made_for { IsFor plan.now parts.now.shape }
     requires well_formed { is_well_formed plan.now parts.now.views (the_stage.Resume stage.now) ≡ true }
@@ -77,6 +80,7 @@ fn resume_wakes(plan: &Plan, parts: &Parts, stage: &ResumeStage) -> Option<u64>
     }
 }
 
+// The same of a stage of a helper, of a work item or of a timer.
 fn helper_wakes(plan: &Plan, parts: &Parts, stage: &HelperStage) -> Option<u64>
     requires made_for { IsFor plan.now parts.now.shape }
     requires well_formed { is_well_formed plan.now parts.now.views (the_stage.Helper stage.now) ≡ true }
@@ -89,6 +93,7 @@ fn helper_wakes(plan: &Plan, parts: &Parts, stage: &HelperStage) -> Option<u64>
     }
 }
 
+// The same of a stage of a control function.
 fn control_wakes(plan: &Plan, parts: &Parts, stage: &ControlStage) -> Option<u64>
     requires made_for { IsFor plan.now parts.now.shape }
     requires well_formed { is_well_formed plan.now parts.now.views (the_stage.Control stage.now) ≡ true }
@@ -102,7 +107,7 @@ fn control_wakes(plan: &Plan, parts: &Parts, stage: &ControlStage) -> Option<u64
     }
 }
 
-// From when the line of a stage may be written; `None` where the stage blocks or awaits a call.
+// The same of a stage of any group; `None` where it blocks or awaits a call.
 fn stage_wakes(plan: &Plan, parts: &Parts, stage: &Stage) -> Option<u64>
     requires made_for { IsFor plan.now parts.now.shape }
     requires well_formed { is_well_formed plan.now parts.now.views stage.now ≡ true }

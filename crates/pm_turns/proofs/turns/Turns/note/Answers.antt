@@ -1,4 +1,4 @@
-use Rattle.std.proofs.Common.{◌≡◌, ◌∙◌, ap}
+use Rattle.std.proofs.Common.{◌∙◌, ap}
 use Rattle.pm_turns.specs.Seats.{place_of}
 use Rattle.pm_turns.specs.Turning.{Index}
 use Rattle.pm_turns.proofs.IndexLemmas.{noted_by}
