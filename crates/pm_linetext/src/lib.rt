@@ -14,14 +14,18 @@ ghost use Rattle.pm_model.specs.declared.plan.Plan.{Plan};
 ghost use Rattle.pm_linetext.specs.ShortLine.{is_short_line};
 
 mod events;
+mod names;
+mod padded;
 mod pieces;
+mod speller;
 #[cfg(test)]
 mod tests;
 mod text;
 mod words;
 
 use crate::events::push_line;
-use crate::text::LineText;
+pub use crate::speller::LineSpeller;
+pub use crate::text::LineText;
 pub use crate::words::{
     cb_named, cb_of, cb_place, helper_named, helper_of, helper_place, operand_of, req_named,
     req_of, req_place, status_named, status_of, status_place, takes_device,
@@ -103,6 +107,6 @@ fn spelled(plan: &Plan, line: &Line) -> LineText
     ensures { result ≡ line_text (names_of plan.now) line.now }
 {
     let mut text = LineText::new();
-    push_line(&mut text, plan, line);
+    push_line(&mut text, plan, line.time, line);
     text
 }
