@@ -131,7 +131,7 @@ fn push_states(text: &mut LineText, fields: &Fields)
     text.push_number(fields.child as u64);
 }
 
-/// Appends what leads to an event with a payload, and the event.
+/// Appends an event with a payload, behind the lead that names it.
 fn push_payload<S: NameSource, const N: usize>(
     text: &mut LineText,
     names: &S,
@@ -184,7 +184,7 @@ fn push_timer(text: &mut LineText, act: TimerAct)
     }
 }
 
-/// Appends what leads to an event that moves a usage count, and the event.
+/// Appends an event that moves a usage count, behind the lead that names it.
 fn push_move<S: NameSource, const N: usize>(
     text: &mut LineText,
     names: &S,

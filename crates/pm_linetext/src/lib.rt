@@ -1,7 +1,8 @@
 //! The text of a line, in both formats of a trace.
 //!
-//! A line of a plan has one text in each format. Both go behind what stands in a buffer, without a
-//! newline, and no line takes memory but for that buffer.
+//! A line of a plan has one text in each format. `LineSpeller` puts it with a newline into a `LineText`,
+//! with no memory and without failure. `write_line` and `write_line2` append it to a `Vec`, without a
+//! newline, and take no memory but for that.
 #![tactic(auto)]
 
 ghost use Rattle.std.specs.Prelude.{◌≡◌, ℕ, ◌+◌, ◌<◌, ◌≤◌, ◌++◌, true, length, IsOk, OnErr, OnOk, vec_capacity, vec_len};

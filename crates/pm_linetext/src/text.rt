@@ -1,6 +1,6 @@
 //! The text of one line while it is spelled.
 
-ghost use Rattle.std.specs.Prelude.{◌≡◌, ◌++◌, ◌<◌, [], decimal};
+ghost use Rattle.std.specs.Prelude.{◌≡◌, ◌++◌, [], decimal};
 ghost use Rattle.std.specs.Fmt.{signed_decimal};
 ghost use Rattle.pm_linetext.specs.Room.{HasRoom};
 
