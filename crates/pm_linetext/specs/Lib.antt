@@ -1,3 +1,4 @@
+pub mod AtHand
 pub mod Payload
 pub mod Room
 pub mod ShortLine

@@ -2,6 +2,6 @@
 use Rattle.std.specs.Prelude.{ℕ, ◌+◌, ◌≤◌, List, length}
 use Rattle.pm_base.specs.declared.limits.TheConstants.{TEXT_BYTES}
 
--- the piece fits behind what is spelled of the line
+-- the piece fits behind what is spelled of the line and its newline
 abbrev pub HasRoom : List ℕ → List ℕ → Type 0
-HasRoom spelled piece = length spelled + length piece ≤ TEXT_BYTES
+HasRoom spelled piece = length spelled + length piece ≤ TEXT_BYTES + 1

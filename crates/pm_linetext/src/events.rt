@@ -4,17 +4,17 @@ ghost use Rattle.std.specs.Prelude.{◌≡◌, ◌++◌, codes, if◌then◌else
 ghost use Rattle.pm_model.specs.Spelling.{cb_word, command_text, device_name, device_part, event_text};
 ghost use Rattle.pm_model.specs.Spelling.{helper_word, kind_word, line_text, operand_part, payload, req_word};
 ghost use Rattle.pm_model.specs.Spelling.{space, status_word, timer_text, why_text, work_text};
-ghost use Rattle.pm_model.specs.Text.{names_of};
 ghost use Rattle.pm_linetext.specs.Payload.{counts_text, states_text};
 ghost use Rattle.pm_linetext.specs.Room.{HasRoom};
 
+use crate::names::NameSource;
 use crate::pieces::{
     push_actor, push_bit, push_device, push_flags, push_name, push_padded, push_why,
 };
 use crate::text::LineText;
 use crate::words::{cb_place, helper_place, operand_of, req_place, status_place, takes_device};
 use pm_base::{Cb, DevId, Req, Why};
-use pm_model::{Command, Event, Fields, Helper, Line, Operand, Plan, TimerAct, Word, WorkAct};
+use pm_model::{Command, Event, Fields, Helper, Line, Operand, TimerAct, Word, WorkAct};
 use pm_names::{cb_words, helpers, req_words, status_words};
 
 /// Appends the word of a helper.
@@ -22,7 +22,7 @@ fn push_helper(text: &mut LineText, helper: Helper)
     requires { HasRoom text.old (helper_word helper) }
     ensures { text.new ≡ text.old ++ helper_word helper }
 {
-    text.push(helpers().name_of(helper_place(helper)));
+    text.push_bytes(helpers().name_of(helper_place(helper)));
 }
 
 /// Appends the word of a callback.
@@ -30,7 +30,7 @@ fn push_cb(text: &mut LineText, cb: Cb)
     requires { HasRoom text.old (cb_word cb) }
     ensures { text.new ≡ text.old ++ cb_word cb }
 {
-    text.push(cb_words().name_of(cb_place(cb)));
+    text.push_bytes(cb_words().name_of(cb_place(cb)));
 }
 
 /// Appends the word of a request.
@@ -38,7 +38,7 @@ fn push_req(text: &mut LineText, req: Req)
     requires { HasRoom text.old (req_word req) }
     ensures { text.new ≡ text.old ++ req_word req }
 {
-    text.push(req_words().name_of(req_place(req)));
+    text.push_bytes(req_words().name_of(req_place(req)));
 }
 
 /// Appends the word of a change of status.
@@ -46,7 +46,7 @@ fn push_status(text: &mut LineText, word: Word)
     requires { HasRoom text.old (status_word word) }
     ensures { text.new ≡ text.old ++ status_word word }
 {
-    text.push(status_words().name_of(status_place(word)));
+    text.push_bytes(status_words().name_of(status_place(word)));
 }
 
 /// Appends the kind of a timer.
@@ -62,28 +62,28 @@ fn push_kind(text: &mut LineText, autosuspends: bool)
 }
 
 /// Appends a helper and its device.
-fn push_called(text: &mut LineText, plan: &Plan, helper: Helper, dev: DevId)
+fn push_called<S: NameSource>(text: &mut LineText, names: &S, helper: Helper, dev: DevId)
     requires { HasRoom text.old
-        (helper_word helper ++ device_part (names_of plan.now) helper dev) }
+        (helper_word helper ++ device_part (S.names names.now) helper dev) }
     ensures { text.new ≡ text.old
-        ++ (helper_word helper ++ device_part (names_of plan.now) helper dev) }
+        ++ (helper_word helper ++ device_part (S.names names.now) helper dev) }
 {
     push_helper(text, helper);
     if takes_device(helper) {
-        push_device(text, plan, b" ", dev);
+        push_device(text, names, b" ", dev);
     }
 }
 
 /// Appends what a helper takes besides its device.
-fn push_operand(text: &mut LineText, plan: &Plan, operand: Operand, number: i64)
-    requires { HasRoom text.old (operand_part (names_of plan.now) operand number) }
-    ensures { text.new ≡ text.old ++ operand_part (names_of plan.now) operand number }
+fn push_operand<S: NameSource>(text: &mut LineText, names: &S, operand: Operand, number: i64)
+    requires { HasRoom text.old (operand_part (S.names names.now) operand number) }
+    ensures { text.new ≡ text.old ++ operand_part (S.names names.now) operand number }
 {
     match operand {
         Operand::Nothing => {}
         Operand::Milliseconds => {
             text.push(b" ");
-            text.push_number(number);
+            text.push_signed(number);
         }
         Operand::Switch => {
             if number == 0 {
@@ -92,17 +92,17 @@ fn push_operand(text: &mut LineText, plan: &Plan, operand: Operand, number: i64)
                 text.push(b" on");
             }
         }
-        Operand::Supplier => push_name(text, plan, b" ", number.unsigned_abs() as usize),
+        Operand::Supplier => push_name(text, names, b" ", number.unsigned_abs() as usize),
     }
 }
 
 /// Appends a command.
-fn push_command(text: &mut LineText, plan: &Plan, command: &Command)
-    requires { HasRoom text.old (command_text (names_of plan.now) command.now) }
-    ensures { text.new ≡ text.old ++ command_text (names_of plan.now) command.now }
+fn push_command<S: NameSource>(text: &mut LineText, names: &S, command: &Command)
+    requires { HasRoom text.old (command_text (S.names names.now) command.now) }
+    ensures { text.new ≡ text.old ++ command_text (S.names names.now) command.now }
 {
-    push_called(text, plan, command.helper, command.dev);
-    push_operand(text, plan, operand_of(command.helper), command.number);
+    push_called(text, names, command.helper, command.dev);
+    push_operand(text, names, operand_of(command.helper), command.number);
 }
 
 /// Appends flags, usage and depth.
@@ -128,15 +128,21 @@ fn push_states(text: &mut LineText, fields: &Fields)
     text.push(b" p-");
     push_bit(text, fields.pending);
     text.push(b" irq-0 child-");
-    text.push_number(fields.child);
+    text.push_number(fields.child as u64);
 }
 
-/// Appends an event with a payload, of this name.
-fn push_payload(text: &mut LineText, plan: &Plan, name: &[u8], dev: DevId, fields: &Fields)
-    requires { HasRoom text.old (name.now ++ payload (names_of plan.now) dev fields.now) }
-    ensures { text.new ≡ text.old ++ (name.now ++ payload (names_of plan.now) dev fields.now) }
+/// Appends an event with a payload, behind the lead that names it.
+fn push_payload<S: NameSource, const N: usize>(
+    text: &mut LineText,
+    names: &S,
+    lead: &[u8; N],
+    dev: DevId,
+    fields: &Fields,
+)
+    requires { HasRoom text.old (lead.now ++ payload (S.names names.now) dev fields.now) }
+    ensures { text.new ≡ text.old ++ (lead.now ++ payload (S.names names.now) dev fields.now) }
 {
-    push_device(text, plan, name, dev);
+    push_device(text, names, lead, dev);
     push_counts(text, fields);
     push_states(text, fields);
 }
@@ -178,89 +184,95 @@ fn push_timer(text: &mut LineText, act: TimerAct)
     }
 }
 
-/// Appends an event that moves a usage count, of this name.
-fn push_move(text: &mut LineText, plan: &Plan, name: &[u8], dev: DevId, why: Why)
+/// Appends an event that moves a usage count, behind the lead that names it.
+fn push_move<S: NameSource, const N: usize>(
+    text: &mut LineText,
+    names: &S,
+    lead: &[u8; N],
+    dev: DevId,
+    why: Why,
+)
     requires { HasRoom text.old
-        (name.now ++ device_name (names_of plan.now) dev.0 ++ space ++ why_text (names_of plan.now) why) }
+        (lead.now ++ device_name (S.names names.now) dev.0 ++ space ++ why_text (S.names names.now) why) }
     ensures { text.new ≡ text.old
-        ++ (name.now ++ device_name (names_of plan.now) dev.0 ++ space ++ why_text (names_of plan.now) why) }
+        ++ (lead.now ++ device_name (S.names names.now) dev.0 ++ space ++ why_text (S.names names.now) why) }
 {
-    push_device(text, plan, name, dev);
+    push_device(text, names, lead, dev);
     text.push(b" ");
-    push_why(text, plan, why);
+    push_why(text, names, why);
 }
 
 /// Appends the call of a helper.
-fn push_call(text: &mut LineText, plan: &Plan, command: &Command)
-    requires { HasRoom text.old (event_text (names_of plan.now) (Event.Call command.now)) }
-    ensures { text.new ≡ text.old ++ event_text (names_of plan.now) (Event.Call command.now) }
+fn push_call<S: NameSource>(text: &mut LineText, names: &S, command: &Command)
+    requires { HasRoom text.old (event_text (S.names names.now) (Event.Call command.now)) }
+    ensures { text.new ≡ text.old ++ event_text (S.names names.now) (Event.Call command.now) }
 {
     text.push(b"pm_call: ");
-    push_command(text, plan, command);
+    push_command(text, names, command);
 }
 
 /// Appends the return of a helper.
-fn push_ret(text: &mut LineText, plan: &Plan, helper: Helper, dev: DevId, code: i32)
-    requires { HasRoom text.old (event_text (names_of plan.now) (Event.Ret helper dev code)) }
-    ensures { text.new ≡ text.old ++ event_text (names_of plan.now) (Event.Ret helper dev code) }
+fn push_ret<S: NameSource>(text: &mut LineText, names: &S, helper: Helper, dev: DevId, code: i32)
+    requires { HasRoom text.old (event_text (S.names names.now) (Event.Ret helper dev code)) }
+    ensures { text.new ≡ text.old ++ event_text (S.names names.now) (Event.Ret helper dev code) }
 {
     text.push(b"pm_ret: ");
-    push_called(text, plan, helper, dev);
+    push_called(text, names, helper, dev);
     text.push(b" ");
-    text.push_number(code);
+    text.push_signed(code as i64);
 }
 
 /// Appends the return of one of the kernel's inner functions.
-fn push_return(text: &mut LineText, plan: &Plan, func: Cb, dev: DevId, code: i32)
-    requires { HasRoom text.old (event_text (names_of plan.now) (Event.Return func dev code)) }
-    ensures { text.new ≡ text.old ++ event_text (names_of plan.now) (Event.Return func dev code) }
+fn push_return<S: NameSource>(text: &mut LineText, names: &S, func: Cb, dev: DevId, code: i32)
+    requires { HasRoom text.old (event_text (S.names names.now) (Event.Return func dev code)) }
+    ensures { text.new ≡ text.old ++ event_text (S.names names.now) (Event.Return func dev code) }
 {
     text.push(b"rpm_return_int: rpm_");
     push_cb(text, func);
-    push_device(text, plan, b":", dev);
+    push_device(text, names, b":", dev);
     text.push(b" ret=");
-    text.push_number(code);
+    text.push_signed(code as i64);
 }
 
 /// Appends a change of status.
-fn push_state(text: &mut LineText, plan: &Plan, dev: DevId, word: Word)
-    requires { HasRoom text.old (event_text (names_of plan.now) (Event.State dev word)) }
-    ensures { text.new ≡ text.old ++ event_text (names_of plan.now) (Event.State dev word) }
+fn push_state<S: NameSource>(text: &mut LineText, names: &S, dev: DevId, word: Word)
+    requires { HasRoom text.old (event_text (S.names names.now) (Event.State dev word)) }
+    ensures { text.new ≡ text.old ++ event_text (S.names names.now) (Event.State dev word) }
 {
-    push_device(text, plan, b"pm_status: ", dev);
+    push_device(text, names, b"pm_status: ", dev);
     text.push(b" ");
     push_status(text, word);
 }
 
 /// Appends a callback of a device.
-fn push_callback(text: &mut LineText, plan: &Plan, dev: DevId, cb: Cb)
+fn push_callback<S: NameSource>(text: &mut LineText, names: &S, dev: DevId, cb: Cb)
     requires { HasRoom text.old
-        (codes "pm_callback: " ++ device_name (names_of plan.now) dev.0 ++ space ++ cb_word cb) }
+        (codes "pm_callback: " ++ device_name (S.names names.now) dev.0 ++ space ++ cb_word cb) }
     ensures { text.new ≡ text.old
-        ++ (codes "pm_callback: " ++ device_name (names_of plan.now) dev.0 ++ space ++ cb_word cb) }
+        ++ (codes "pm_callback: " ++ device_name (S.names names.now) dev.0 ++ space ++ cb_word cb) }
 {
-    push_device(text, plan, b"pm_callback: ", dev);
+    push_device(text, names, b"pm_callback: ", dev);
     text.push(b" ");
     push_cb(text, cb);
 }
 
 /// Appends the begin of a callback.
-fn push_begin(text: &mut LineText, plan: &Plan, dev: DevId, cb: Cb)
-    requires { HasRoom text.old (event_text (names_of plan.now) (Event.Begin dev cb)) }
-    ensures { text.new ≡ text.old ++ event_text (names_of plan.now) (Event.Begin dev cb) }
+fn push_begin<S: NameSource>(text: &mut LineText, names: &S, dev: DevId, cb: Cb)
+    requires { HasRoom text.old (event_text (S.names names.now) (Event.Begin dev cb)) }
+    ensures { text.new ≡ text.old ++ event_text (S.names names.now) (Event.Begin dev cb) }
 {
-    push_callback(text, plan, dev, cb);
+    push_callback(text, names, dev, cb);
     text.push(b" begin");
 }
 
 /// Appends the end of a callback.
-fn push_end(text: &mut LineText, plan: &Plan, dev: DevId, cb: Cb, code: i32)
-    requires { HasRoom text.old (event_text (names_of plan.now) (Event.End dev cb code)) }
-    ensures { text.new ≡ text.old ++ event_text (names_of plan.now) (Event.End dev cb code) }
+fn push_end<S: NameSource>(text: &mut LineText, names: &S, dev: DevId, cb: Cb, code: i32)
+    requires { HasRoom text.old (event_text (S.names names.now) (Event.End dev cb code)) }
+    ensures { text.new ≡ text.old ++ event_text (S.names names.now) (Event.End dev cb code) }
 {
-    push_callback(text, plan, dev, cb);
+    push_callback(text, names, dev, cb);
     text.push(b" end ");
-    text.push_number(code);
+    text.push_signed(code as i64);
 }
 
 /// Appends which way power domains are switched.
@@ -276,56 +288,56 @@ fn push_way(text: &mut LineText, up: bool)
 }
 
 /// Appends a switch of power domains.
-fn push_domain(text: &mut LineText, plan: &Plan, dev: DevId, up: bool, count: u32)
-    requires { HasRoom text.old (event_text (names_of plan.now) (Event.Domain dev up count)) }
-    ensures { text.new ≡ text.old ++ event_text (names_of plan.now) (Event.Domain dev up count) }
+fn push_domain<S: NameSource>(text: &mut LineText, names: &S, dev: DevId, up: bool, count: u32)
+    requires { HasRoom text.old (event_text (S.names names.now) (Event.Domain dev up count)) }
+    ensures { text.new ≡ text.old ++ event_text (S.names names.now) (Event.Domain dev up count) }
 {
-    push_device(text, plan, b"pm_domain: ", dev);
+    push_device(text, names, b"pm_domain: ", dev);
     push_way(text, up);
-    text.push_number(count);
+    text.push_number(count as u64);
 }
 
 /// Appends an event.
-fn push_event(text: &mut LineText, plan: &Plan, event: &Event)
-    requires { HasRoom text.old (event_text (names_of plan.now) event.now) }
-    ensures { text.new ≡ text.old ++ event_text (names_of plan.now) event.now }
+fn push_event<S: NameSource>(text: &mut LineText, names: &S, event: &Event)
+    requires { HasRoom text.old (event_text (S.names names.now) event.now) }
+    ensures { text.new ≡ text.old ++ event_text (S.names names.now) event.now }
 {
     match event {
-        Event::Call { command } => push_call(text, plan, command),
-        Event::Ret { helper, dev, code } => push_ret(text, plan, *helper, *dev, *code),
-        Event::Get { dev, why } => push_move(text, plan, b"pm_get: ", *dev, *why),
-        Event::Put { dev, why } => push_move(text, plan, b"pm_put: ", *dev, *why),
-        Event::Usage { dev, fields } => push_payload(text, plan, b"rpm_usage: ", *dev, fields),
-        Event::Idle { dev, fields } => push_payload(text, plan, b"rpm_idle: ", *dev, fields),
-        Event::Suspend { dev, fields } => push_payload(text, plan, b"rpm_suspend: ", *dev, fields),
-        Event::Resume { dev, fields } => push_payload(text, plan, b"rpm_resume: ", *dev, fields),
-        Event::Return { func, dev, code } => push_return(text, plan, *func, *dev, *code),
-        Event::Wait { dev } => push_device(text, plan, b"pm_wait: ", *dev),
-        Event::State { dev, word } => push_state(text, plan, *dev, *word),
-        Event::Begin { dev, cb } => push_begin(text, plan, *dev, *cb),
-        Event::End { dev, cb, code } => push_end(text, plan, *dev, *cb, *code),
-        Event::Domain { dev, up, count } => push_domain(text, plan, *dev, *up, *count),
+        Event::Call { command } => push_call(text, names, command),
+        Event::Ret { helper, dev, code } => push_ret(text, names, *helper, *dev, *code),
+        Event::Get { dev, why } => push_move(text, names, b"pm_get: ", *dev, *why),
+        Event::Put { dev, why } => push_move(text, names, b"pm_put: ", *dev, *why),
+        Event::Usage { dev, fields } => push_payload(text, names, b"rpm_usage: ", *dev, fields),
+        Event::Idle { dev, fields } => push_payload(text, names, b"rpm_idle: ", *dev, fields),
+        Event::Suspend { dev, fields } => push_payload(text, names, b"rpm_suspend: ", *dev, fields),
+        Event::Resume { dev, fields } => push_payload(text, names, b"rpm_resume: ", *dev, fields),
+        Event::Return { func, dev, code } => push_return(text, names, *func, *dev, *code),
+        Event::Wait { dev } => push_device(text, names, b"pm_wait: ", *dev),
+        Event::State { dev, word } => push_state(text, names, *dev, *word),
+        Event::Begin { dev, cb } => push_begin(text, names, *dev, *cb),
+        Event::End { dev, cb, code } => push_end(text, names, *dev, *cb, *code),
+        Event::Domain { dev, up, count } => push_domain(text, names, *dev, *up, *count),
         Event::Work { dev, act } => {
-            push_device(text, plan, b"pm_work: ", *dev);
+            push_device(text, names, b"pm_work: ", *dev);
             text.push(b" ");
             push_work(text, *act);
         }
         Event::Timer { dev, act } => {
-            push_device(text, plan, b"pm_timer: ", *dev);
+            push_device(text, names, b"pm_timer: ", *dev);
             text.push(b" ");
             push_timer(text, *act);
         }
     }
 }
 
-/// Appends a line in format 1.
-pub(crate) fn push_line(text: &mut LineText, plan: &Plan, line: &Line)
-    requires { HasRoom text.old (line_text (names_of plan.now) line.now) }
-    ensures { text.new ≡ text.old ++ line_text (names_of plan.now) line.now }
+/// Appends a line with this time in place of its own, in format 1.
+pub(crate) fn push_line<S: NameSource>(text: &mut LineText, names: &S, time: u64, line: &Line)
+    requires { HasRoom text.old (line_text (S.names names.now) (record line.now { time = time })) }
+    ensures { text.new ≡ text.old ++ line_text (S.names names.now) (record line.now { time = time }) }
 {
-    text.push_number(line.time);
+    text.push_number(time);
     text.push(b" ");
-    push_actor(text, plan, line.actor);
+    push_actor(text, names, line.actor);
     text.push(b" ");
-    push_event(text, plan, &line.event);
+    push_event(text, names, &line.event);
 }

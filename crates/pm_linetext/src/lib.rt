@@ -1,7 +1,8 @@
 //! The text of a line, in both formats of a trace.
 //!
-//! A line of a plan has one text in each format. Both go behind what stands in a buffer, without a
-//! newline, and no line takes memory but for that buffer.
+//! A line of a plan has one text in each format. `LineSpeller` puts it with a newline into a `LineText`,
+//! with no memory and without failure. `write_line` and `write_line2` append it to a `Vec`, without a
+//! newline, and take no memory but for that.
 #![tactic(auto)]
 
 ghost use Rattle.std.specs.Prelude.{◌≡◌, ℕ, ◌+◌, ◌<◌, ◌≤◌, ◌++◌, true, length, IsOk, OnErr, OnOk, vec_capacity, vec_len};
@@ -14,14 +15,18 @@ ghost use Rattle.pm_model.specs.declared.plan.Plan.{Plan};
 ghost use Rattle.pm_linetext.specs.ShortLine.{is_short_line};
 
 mod events;
+mod names;
+mod padded;
 mod pieces;
+mod speller;
 #[cfg(test)]
 mod tests;
 mod text;
 mod words;
 
 use crate::events::push_line;
-use crate::text::LineText;
+pub use crate::speller::LineSpeller;
+pub use crate::text::LineText;
 pub use crate::words::{
     cb_named, cb_of, cb_place, helper_named, helper_of, helper_place, operand_of, req_named,
     req_of, req_place, status_named, status_of, status_place, takes_device,
@@ -103,6 +108,6 @@ fn spelled(plan: &Plan, line: &Line) -> LineText
     ensures { result ≡ line_text (names_of plan.now) line.now }
 {
     let mut text = LineText::new();
-    push_line(&mut text, plan, line);
+    push_line(&mut text, plan, line.time, line);
     text
 }

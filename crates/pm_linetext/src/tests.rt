@@ -332,6 +332,21 @@ fn the_longest_lines(rt: HostRuntime) -> Result<(), Fail> {
 }
 
 #[test]
+fn a_speller_spells_in_place(rt: HostRuntime) -> Result<(), Fail> {
+    let plan = plan(rt.alloc())?;
+    let speller = LineSpeller::new(rt.alloc(), &plan)?;
+    let mut text = LineText::new();
+    speller.spell_line(&LONGEST, &mut text);
+    assert_eq!(rt; text.as_slice().len(), 178);
+    speller.spell_line2(9223372036854775806, &LONGEST_SHORT, &mut text);
+    let expected = b"\
+1 timer.0000:00:14.0_abcdefghijklmnopqrs rpm_suspend: 0000:00:14.0_abcdefghijklmnopqrs flags-f cnt-999999 dep-999999 auto-1 p-1 irq-0 child-1024
+";
+    assert_eq!(rt; text.as_slice(), expected.as_slice());
+    Ok(())
+}
+
+#[test]
 fn words_name_what_stands_at_their_place(rt: HostRuntime) {
     assert_eq!(rt; helper_of(29), Some(Helper::SetAutosuspendDelay));
     assert_eq!(rt; helper_of(34), None);

@@ -2,10 +2,10 @@
 use Rattle.pm_linetext.proofs.events.push_event.Goals as goal
 
 pub returns-in-Usage : goal.returns-in-Usage
-returns-in-Usage c = rw c.in-Usage.is c.push_payload.ensures
+returns-in-Usage g c = rw c.in-Usage.is c.push_payload.ensures
 
 pub returns-in-Suspend : goal.returns-in-Suspend
-returns-in-Suspend c = rw c.in-Suspend.is c.push_payload-in-Suspend.ensures
+returns-in-Suspend g c = rw c.in-Suspend.is c.push_payload-in-Suspend.ensures
 
 pub returns-in-Resume : goal.returns-in-Resume
-returns-in-Resume c = rw c.in-Resume.is c.push_payload-in-Resume.ensures
+returns-in-Resume g c = rw c.in-Resume.is c.push_payload-in-Resume.ensures
