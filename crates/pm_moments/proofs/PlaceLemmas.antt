@@ -62,9 +62,9 @@ no_moments places leaves levels low whole enough = record {
 pub no_shown : (places leaves : ℕ) → places ≤ leaves → shown places leaves (replicate places false) (replicate (2 * leaves) never) ≡ replicate places None
 no_shown places leaves enough =
     sym (fill_by_all (place_moment leaves (replicate places false) (replicate (2 * leaves) never)) (replicate places None) places None (length-replicate places None) (λ k below.
-      let unmarked : is_marked (replicate places false) k ≡ false = get_or-replicate places k false false below in
-      let key : get_or (replicate (2 * leaves) never) (leaves + k) 0 ≡ never = get_or-replicate (2 * leaves) (leaves + k) never 0 (omega arith) in
-      get_or-replicate places k None None below ∙ sym (ap (λ mark. moment_by mark (get_or (replicate (2 * leaves) never) (leaves + k) 0)) unmarked ∙ ap later_of key ∙ later_none never (omega arith))))
+    let unmarked : is_marked (replicate places false) k ≡ false = get_or-replicate places k false false below in
+    let key : get_or (replicate (2 * leaves) never) (leaves + k) 0 ≡ never = get_or-replicate (2 * leaves) (leaves + k) never 0 (omega arith) in
+    get_or-replicate places k None None below ∙ sym (ap (λ mark. moment_by mark (get_or (replicate (2 * leaves) never) (leaves + k) 0)) unmarked ∙ ap later_of key ∙ later_none never (omega arith))))
 
 -- of two places that fit, the lesser fits
 pub lesser_found : (P : ℕ → Type 0) (a : Option ℕ) (y : ℕ) → IfSome a P → P y → IfSome (lesser a (Some y)) P
@@ -129,18 +129,18 @@ module _ (places leaves levels : ℕ) (at_once : List Bool) (nodes : List ℕ) (
     pub set_shown : shown places leaves (set at_once place (is_now moment)) next ≡ set (shown places leaves at_once nodes) place moment
     set_shown =
         sym (fill_by_all (place_moment leaves (set at_once place (is_now moment)) next) (set (shown places leaves at_once nodes) place moment) places None (length-set (shown places leaves at_once nodes) place moment ∙ shown_length) (λ k below.
-          elim (cases_eq k place) [
-            | inl at ↦
-                let is : place_moment leaves (set at_once place (is_now moment)) next place ≡ moment =
-                    ap (λ mark. moment_by mark (get_or next (leaves + place) 0)) (get_or-set_same at_once place (is_now moment) false (omega (arith, m.marks))) ∙ ap (moment_by (is_now moment)) leaf_same ∙ same in
-                ap (λ i. get_or (set (shown places leaves at_once nodes) place moment) i None) at
-                ∙ get_or-set_same (shown places leaves at_once nodes) place moment None (omega (arith, shown_length))
-                ∙ sym (ap (place_moment leaves (set at_once place (is_now moment)) next) at ∙ is)
-            | inr other ↦
-                get_or-set_other (shown places leaves at_once nodes) place k moment None other
-                ∙ at_place k below
-                ∙ sym (ap (λ mark. moment_by mark (get_or next (leaves + k) 0)) (get_or-set_other at_once place k (is_now moment) false other) ∙ ap (moment_by (is_marked at_once k)) (leaf_other k other))
-          ]))
+        elim (cases_eq k place) [
+          | inl at ↦
+              let is : place_moment leaves (set at_once place (is_now moment)) next place ≡ moment =
+              ap (λ mark. moment_by mark (get_or next (leaves + place) 0)) (get_or-set_same at_once place (is_now moment) false (omega (arith, m.marks))) ∙ ap (moment_by (is_now moment)) leaf_same ∙ same in
+              ap (λ i. get_or (set (shown places leaves at_once nodes) place moment) i None) at
+              ∙ get_or-set_same (shown places leaves at_once nodes) place moment None (omega (arith, shown_length))
+              ∙ sym (ap (place_moment leaves (set at_once place (is_now moment)) next) at ∙ is)
+          | inr other ↦
+              get_or-set_other (shown places leaves at_once nodes) place k moment None other
+              ∙ at_place k below
+              ∙ sym (ap (λ mark. moment_by mark (get_or next (leaves + k) 0)) (get_or-set_other at_once place k (is_now moment) false other) ∙ ap (moment_by (is_marked at_once k)) (leaf_other k other))
+        ]))
 
     pub set_moments : length next ≡ length nodes → AreKept next → AreMoments places leaves levels (set at_once place (is_now moment)) next
     set_moments len kept = record {
@@ -237,13 +237,13 @@ module _ (places leaves levels : ℕ) (at_once : List Bool) (nodes : List ℕ) (
         elim (cases_lt i places) [
           | inr past ↦ absurd (none-some other (sym (past_places i past) ∙ holds))
           | inl within ↦ elim (cases_lt (get_or nodes (leaves + i) 0) never) [
-              | inr none ↦ absurd (none-some other (sym (later i within ∙ later_none (get_or nodes (leaves + i) 0) none) ∙ holds))
-              | inl some ↦
-                  let is : Some (get_or nodes (leaves + i) 0 + 1) ≡ Some other = sym (later i within ∙ later_some (get_or nodes (leaves + i) 0) some) ∙ holds in
-                  let same : get_or nodes (leaves + i) 0 + 1 ≡ other = cc in
-                  let least = top_is_least i within in
-                  (omega arith, omega arith)
-            ]
+            | inr none ↦ absurd (none-some other (sym (later i within ∙ later_none (get_or nodes (leaves + i) 0) none) ∙ holds))
+            | inl some ↦
+                let is : Some (get_or nodes (leaves + i) 0 + 1) ≡ Some other = sym (later i within ∙ later_some (get_or nodes (leaves + i) 0) some) ∙ holds in
+                let same : get_or nodes (leaves + i) 0 + 1 ≡ other = cc in
+                let least = top_is_least i within in
+                (omega arith, omega arith)
+          ]
         ]
 
     pub least_first : IfSome (later_of (get_or nodes 1 0)) (λ at. (i other : ℕ) → moment_of (shown places leaves at_once nodes) i ≡ Some other → at ≤ other)

@@ -139,9 +139,9 @@ module _ (nodes : List ℕ) (bound node levels at level : ℕ) (kept : AreKept n
         ends = omega (arith, d.ends, ends_at);
         under = omega (arith, d.under);
         first = λ j low high. elim (cases_lt j (first_leaf (2 * at) (level - 1))) [
-            | inl before ↦ d.first j low (omega (arith, begins))
-            | inr left ↦ none j left high
-          ];
+          | inl before ↦ d.first j low (omega (arith, begins))
+          | inr left ↦ none j left high
+        ];
       }
 
 -- the same where the node to the left goes by another name
@@ -241,9 +241,9 @@ module _ (nodes : List ℕ) (bound from levels node level : ℕ) (halves : lengt
         below = climb_below;
         reach = omega (arith, c.reach, sibling_ends left, first_leaf-more (node + 1) level);
         none = λ j low high. elim (cases_lt j (first_leaf (node + 1) level)) [
-            | inl before ↦ c.none j low before
-            | inr there ↦ none j there (omega (arith, sibling_ends left))
-          ];
+          | inl before ↦ c.none j low before
+          | inr there ↦ none j there (omega (arith, sibling_ends left))
+        ];
       }
 
 -- at the top node the climb has looked at all leaves

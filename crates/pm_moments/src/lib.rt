@@ -11,7 +11,9 @@ use pm_base::NoMemory;
 use pm_bits::Bits;
 use std::alloc::Global;
 use std::marker::Model;
-use tree::{first_under, is_now, key_of, later_of, leaves_below, lesser, levels_for, nothing, put, top};
+use tree::{
+    first_under, is_now, key_of, later_of, leaves_below, lesser, levels_for, nothing, put, top,
+};
 
 /// From which moment on the actor at each place may move, in milliseconds of the run, or `None`
 /// where it waits for none. Contracts see the list of these moments by place.

@@ -35,11 +35,7 @@ pub fn key_of(moment: Option<u64>) -> u64
 pub fn later_of(key: u64) -> Option<u64>
     ensures { result ≡ later_of key }
 {
-    if key < NEVER {
-        Some(key + 1)
-    } else {
-        None
-    }
+    if key < NEVER { Some(key + 1) } else { None }
 }
 
 /// Of two places the lesser.

@@ -30,9 +30,9 @@ pub returns-in_default-clause-found : goal.returns-in_default-clause-found
 returns-in_default-clause-found c =
     let m = c.self.inside in
     rw (← c.self.view_is) (for_some
-        (λ i. (c.args.from ≤ i) × (i < length m.at_once) × (is_marked m.at_once i ≡ true))
-        (λ i. (c.args.from ≤ i) × (i < length (shown m.places m.leaves m.at_once m.nodes.items)) × (is_within c.args.bound (moment_of (shown m.places m.leaves m.at_once m.nodes.items) i) ≡ true))
-        c.first-now.result (marked_within m.places m.leaves m.levels m.at_once m.nodes.items c.self.invariant c.args.from c.args.bound) c.first-now.ensures.found)
+    (λ i. (c.args.from ≤ i) × (i < length m.at_once) × (is_marked m.at_once i ≡ true))
+    (λ i. (c.args.from ≤ i) × (i < length (shown m.places m.leaves m.at_once m.nodes.items)) × (is_within c.args.bound (moment_of (shown m.places m.leaves m.at_once m.nodes.items) i) ≡ true))
+    c.first-now.result (marked_within m.places m.leaves m.levels m.at_once m.nodes.items c.self.invariant c.args.from c.args.bound) c.first-now.ensures.found)
 
 pub returns-in_default-clause-first : goal.returns-in_default-clause-first
 returns-in_default-clause-first c =
@@ -51,9 +51,9 @@ returns-clause-found c =
     let m = c.self.inside in
     let here = leaf_within m.places m.leaves m.levels m.at_once m.nodes.items c.self.invariant c.args.from c.args.bound c.in-Some.leaf c.ranges.bound.fits (rw c.deref.ensures.value at c.in-Some.ensures.found) in
     let now = for_some
-        (λ i. (c.args.from ≤ i) × (i < length m.at_once) × (is_marked m.at_once i ≡ true))
-        (λ i. (c.args.from ≤ i) × (i < length (shown m.places m.leaves m.at_once m.nodes.items)) × (is_within c.args.bound (moment_of (shown m.places m.leaves m.at_once m.nodes.items) i) ≡ true))
-        c.first-now.result (marked_within m.places m.leaves m.levels m.at_once m.nodes.items c.self.invariant c.args.from c.args.bound) c.first-now.ensures.found in
+    (λ i. (c.args.from ≤ i) × (i < length m.at_once) × (is_marked m.at_once i ≡ true))
+    (λ i. (c.args.from ≤ i) × (i < length (shown m.places m.leaves m.at_once m.nodes.items)) × (is_within c.args.bound (moment_of (shown m.places m.leaves m.at_once m.nodes.items) i) ≡ true))
+    c.first-now.result (marked_within m.places m.leaves m.levels m.at_once m.nodes.items c.self.invariant c.args.from c.args.bound) c.first-now.ensures.found in
     rw (c.lesser.ensures, ← c.self.view_is) (lesser_found (λ i. (c.args.from ≤ i) × (i < length (shown m.places m.leaves m.at_once m.nodes.items)) × (is_within c.args.bound (moment_of (shown m.places m.leaves m.at_once m.nodes.items) i) ≡ true)) c.first-now.result (c.in-Some.leaf - m.leaves) now here)
 
 pub returns-clause-first : goal.returns-clause-first
