@@ -90,3 +90,53 @@ impl Bits {
         first_beside(&self.words, 64 * word)
     }
 }
+
+#[cfg(test)]
+mod tests {
+    use super::*;
+    use std::test::Fail;
+
+    #[test]
+    fn numbers_at_the_edges_of_words(rt: HostRuntime) -> Result<(), Fail> {
+        let mut bits = Bits::new(rt.alloc(), 5000)?;
+        assert_eq!(rt; bits.first(0), None);
+        for number in [0, 63, 64, 4095, 4096, 4999] {
+            assert!(rt; number < 5000);
+            bits.put(number);
+            bits.put(number);
+            assert!(rt; bits.contains(number));
+        }
+        assert!(rt; !bits.contains(1));
+        for (from, want) in [
+            (0, Some(0)),
+            (1, Some(63)),
+            (64, Some(64)),
+            (65, Some(4095)),
+            (4096, Some(4096)),
+            (4097, Some(4999)),
+            (5000, None),
+        ] {
+            assert!(rt; from <= 5000);
+            assert_eq!(rt; bits.first(from), want, "from {from}");
+        }
+        bits.remove(64);
+        bits.remove(4095);
+        bits.remove(4095);
+        assert!(rt; !bits.contains(4095));
+        assert_eq!(rt; bits.first(64), Some(4096));
+        Ok(())
+    }
+
+    #[test]
+    fn no_number_and_one_word(rt: HostRuntime) -> Result<(), Fail> {
+        assert_eq!(rt; Bits::new(rt.alloc(), 0)?.first(0), None);
+        let mut bits = Bits::new(rt.alloc(), 64)?;
+        assert!(rt; bits.bound == 64);
+        bits.put(63);
+        assert_eq!(rt; bits.first(0), Some(63));
+        assert_eq!(rt; bits.first(64), None);
+        bits.remove(63);
+        assert_eq!(rt; bits.first(0), None);
+        Ok(())
+    }
+}

@@ -8,30 +8,48 @@ ghost use Rattle.pm_moments.specs.Moments.{IsNoLater, NoneWithin, is_within, mom
 mod tree;
 
 use pm_base::NoMemory;
+use pm_bits::Bits;
 use std::alloc::Global;
 use std::marker::Model;
-use tree::{first_under, leaves_below, levels_for, nothing, put, top};
+use tree::{
+    first_under, is_now, key_of, later_of, leaves_below, lesser, levels_for, nothing, put, top,
+};
 
 /// From which moment on the actor at each place may move, in milliseconds of the run, or `None`
 /// where it waits for none. Contracts see the list of these moments by place.
 #[derive(Debug, Drop)]
 pub struct Moments {
     places: usize,
+    // The places whose moment is 0: they may move now.
+    at_once: Bits,
     // The leaves of the tree are a power of two, so that they stand in the order of the places.
     leaves: usize,
     levels: u32,
-    nodes: Vec<Option<u64>>,
+    // The later moments, each less 1.
+    nodes: Vec<u64>,
 }
 
 impl Model for Moments {
     ghost use Rattle.std.specs.Prelude.{List, Option, ℕ};
-    ghost use Rattle.pm_moments.specs.Tree.{IsTree, shown};
+    ghost use Rattle.pm_moments.specs.Tree.{AreMoments, shown};
 
     ghost Value = { List (Option ℕ) };
 
-    ghost view = { λ m. shown m.places m.leaves m.nodes.items };
+    ghost view = { λ m. shown m.places m.leaves m.at_once m.nodes.items };
 
-    ghost invariant = { λ m. IsTree m.places m.leaves m.levels m.nodes.items };
+    ghost invariant = { λ m. AreMoments m.places m.leaves m.levels m.at_once m.nodes.items };
+}
+
+// Puts a place into the set, or takes it out.
+fn mark(places: &mut Bits, place: usize, is_in: bool)
+    requires { place < length places.old }
+    ensures { places.new ≡ slice_set places.old place is_in }
+{
+    if is_in {
+        places.put(place);
+    } else {
+        places.remove(place);
+    }
 }
 
 impl Moments {
@@ -43,21 +61,24 @@ impl Moments {
     {
         let levels = levels_for(places);
         let leaves = leaves_below(levels);
+        let nodes = nothing(alloc, 2 * leaves)?;
         Ok(Moments {
             places,
+            at_once: Bits::new(alloc, places)?,
             leaves,
             levels,
-            nodes: nothing(alloc, 2 * leaves)?,
+            nodes,
         })
     }
 
     /// Sets the moment of a place, or takes it away. It takes a number of steps that is logarithmic
-    /// in the number of places.
+    /// in the number of places, but few where a moment of 0 comes or goes, or nothing changes.
     pub fn set(&mut self, place: usize, moment: Option<u64>)
         requires { place < length self.old }
         ensures { self.new ≡ slice_set self.old place moment }
     {
-        put(&mut self.nodes, self.leaves, place, moment);
+        mark(&mut self.at_once, place, is_now(moment));
+        put(&mut self.nodes, self.leaves, place, key_of(moment));
     }
 
     /// The moment of a place, if it has one.
@@ -65,16 +86,23 @@ impl Moments {
         requires { place < length self.now }
         ensures { result ≡ moment_of self.now place }
     {
-        self.nodes[self.leaves + place]
+        if self.at_once.contains(place) {
+            return Some(0);
+        }
+        later_of(self.nodes[self.leaves + place])
     }
 
-    /// The least moment of all. `None` comes exactly where no place has one. It looks at one entry.
+    /// The least moment of all. `None` comes exactly where no place has one. It looks at few
+    /// entries.
     pub fn least(&self) -> Option<u64>
         ensures held { IfSome result (λ at. SomeIndex self.now (λ i. moment_of self.now i ≡ Some at)) }
         ensures least { IfSome result (λ at. (i other : ℕ) → moment_of self.now i ≡ Some other → at ≤ other) }
         ensures missing { IfNone result ((i : ℕ) → moment_of self.now i ≡ None) }
     {
-        top(&self.nodes)
+        if self.at_once.first(0).is_some() {
+            return Some(0);
+        }
+        later_of(top(&self.nodes))
     }
 
     /// The first place at or after `from` whose moment is at most the bound, in as many steps as `set`
@@ -85,8 +113,11 @@ impl Moments {
         ensures first { IfSome result (λ i. NoneWithin self.now bound from i) }
         ensures missing { IfNone result (NoneWithin self.now bound from (length self.now)) }
     {
-        let leaf = first_under(&self.nodes, 1, self.levels, self.leaves + from, bound)?;
-        Some(leaf - self.leaves)
+        let now = self.at_once.first(from);
+        let Some(leaf) = first_under(&self.nodes, self.levels, self.leaves + from, bound) else {
+            return now;
+        };
+        lesser(now, Some(leaf - self.leaves))
     }
 
     /// The least moment, and of several places that have it the least. `None` comes exactly where no
@@ -151,6 +182,27 @@ mod tests {
                 "from {from}, bound {bound}"
             );
         }
+        Ok(())
+    }
+
+    #[test]
+    fn the_greatest_moment_and_0(rt: HostRuntime) -> Result<(), Fail> {
+        let mut moments = Moments::new(rt.alloc(), 100)?;
+        assert!(rt; moments.places == 100);
+        moments.set(70, Some(u64::MAX));
+        assert_eq!(rt; moments.get(70), Some(u64::MAX));
+        assert_eq!(rt; moments.first_within(0, u64::MAX - 1), None);
+        assert_eq!(rt; moments.first_within(70, u64::MAX), Some(70));
+        assert_eq!(rt; moments.first(), Some((u64::MAX, 70)));
+        moments.set(80, Some(0));
+        moments.set(80, Some(0));
+        assert_eq!(rt; moments.first_within(0, u64::MAX), Some(70));
+        assert_eq!(rt; moments.first_within(71, 0), Some(80));
+        assert_eq!(rt; moments.first(), Some((0, 80)));
+        moments.set(80, None);
+        moments.set(70, Some(0));
+        assert_eq!(rt; moments.first(), Some((0, 70)));
+        assert_eq!(rt; moments.first_within(71, u64::MAX), None);
         Ok(())
     }
 

@@ -1,17 +1,46 @@
-//! A tree of moments, kept up to date in a logarithmic number of steps, and what is asked of it.
+//! A tree of the later moments, kept up to date in a logarithmic number of steps, and what is asked of
+//! it.
 
-ghost use Rattle.std.specs.Prelude.{◌≡◌, ◌+◌, ◌*◌, ◌<◌, ◌≤◌, ◌^◌, ℕ, true, false, drop, length, replicate, slice_set, IfNone, IfOk, IfSome, None};
-ghost use Rattle.pm_moments.specs.Moments.{is_within, moment_of};
-ghost use Rattle.pm_moments.specs.Tree.{AreKept, earlier, first_leaf};
+ghost use Rattle.std.specs.Prelude.{◌≡◌, ◌+◌, ◌*◌, ◌<◌, ◌≤◌, ◌^◌, true, drop, length, replicate, slice_index, slice_set, IfNone, IfOk, IfSome};
+ghost use Rattle.pm_moments.specs.Tree.{AreKept, NoneUnder, first_leaf, is_now, later_of, lesser, moment_by, never};
 
 use std::alloc::{AllocError, Global};
 
-/// The moment from which an actor may move, in milliseconds of the run, if it waits for one.
-pub type Moment = Option<u64>;
+/// What a leaf holds where its place has no later moment.
+const NEVER: u64 = u64::MAX;
 
-// Of two moments the earlier.
-fn earlier(a: Moment, b: Moment) -> Moment
-    ensures { result ≡ earlier a b }
+/// Whether a moment is 0. Such a one is not held in the tree.
+pub fn is_now(moment: Option<u64>) -> bool
+    ensures { result ≡ is_now moment }
+{
+    match moment {
+        Some(at) => at == 0,
+        None => false,
+    }
+}
+
+/// What a leaf holds of a moment. A later one than 0 is held less 1, which leaves the greatest number
+/// for none.
+pub fn key_of(moment: Option<u64>) -> u64
+    ensures held { moment_by (is_now moment) result ≡ moment }
+    ensures none { is_now moment ≡ true → result ≡ never }
+{
+    match moment {
+        Some(at) if at > 0 => at - 1,
+        _ => NEVER,
+    }
+}
+
+/// The later moment that a leaf or a node holds.
+pub fn later_of(key: u64) -> Option<u64>
+    ensures { result ≡ later_of key }
+{
+    if key < NEVER { Some(key + 1) } else { None }
+}
+
+/// Of two places the lesser.
+pub fn lesser(a: Option<usize>, b: Option<usize>) -> Option<usize>
+    ensures { result ≡ lesser a b }
 {
     let Some(x) = a else {
         return b;
@@ -20,16 +49,6 @@ fn earlier(a: Moment, b: Moment) -> Moment
         return a;
     };
     Some(x.min(y))
-}
-
-// Whether there is a moment, no later than the bound.
-fn is_within(moment: Moment, bound: u64) -> bool
-    ensures { result ≡ is_within bound moment }
-{
-    match moment {
-        Some(at) => at <= bound,
-        None => false,
-    }
 }
 
 /// How many levels stand above the leaves, where there is a leaf for each of so many places.
@@ -49,71 +68,114 @@ pub fn levels_for(places: usize) -> u32
 pub fn leaves_below(levels: u32) -> usize
     requires { levels ≤ 32 }
     ensures leaves { result ≡ first_leaf 1 levels }
+    ensures some { 0 < result }
     ensures few { result ≤ 2 ^ 32 }
 {
     1 << levels
 }
 
 /// So many nodes that hold nothing.
-pub fn nothing(alloc: Global, nodes: usize) -> Result<Vec<Moment>, AllocError>
-    ensures { IfOk result (λ v. v.items ≡ replicate nodes None) }
+pub fn nothing(alloc: Global, nodes: usize) -> Result<Vec<u64>, AllocError>
+    ensures { IfOk result (λ v. v.items ≡ replicate nodes never) }
 {
-    vec![in alloc; None; nodes]
+    vec![in alloc; NEVER; nodes]
 }
 
-/// The earliest moment of all: what the top node holds.
-pub fn top(nodes: &[Moment]) -> Moment
-    ensures { result ≡ moment_of nodes.now 1 }
+/// The least number of all: what the top node holds.
+pub fn top(nodes: &[u64]) -> u64
+    requires { 1 < length nodes.now }
+    ensures { result ≡ slice_index nodes.now 1 }
 {
-    nodes.get(1).copied().unwrap_or(None)
+    nodes[1]
 }
 
-/// Puts a moment into a leaf, and keeps each node above it, from below.
-pub fn put(nodes: &mut [Moment], leaves: usize, leaf: usize, moment: Moment)
+/// Puts a number into a leaf, and keeps each node above it, from below.
+pub fn put(nodes: &mut [u64], leaves: usize, leaf: usize, key: u64)
     requires halves { length nodes.old ≡ 2 * leaves }
     requires in_range { leaf < leaves }
     requires kept { AreKept nodes.old }
     ensures kept { AreKept nodes.new }
-    ensures put { drop leaves nodes.new ≡ slice_set (drop leaves nodes.old) leaf moment }
+    ensures put { drop leaves nodes.new ≡ slice_set (drop leaves nodes.old) leaf key }
 {
-    nodes[leaves + leaf] = moment;
+    if nodes[leaves + leaf] == key {
+        return;
+    }
+    nodes[leaves + leaf] = key;
     let mut node = (leaves + leaf) / 2;
     while node > 0 {
-        let earliest = earlier(nodes[2 * node], nodes[2 * node + 1]);
+        let least = nodes[2 * node].min(nodes[2 * node + 1]);
         // Then all nodes above hold what they should, too.
-        if nodes[node] == earliest {
+        if nodes[node] == least {
             break;
         }
-        nodes[node] = earliest;
+        nodes[node] = least;
         node /= 2;
     }
 }
 
-/// The first leaf at or after `from`, of those under this node, whose moment is within the bound.
-/// The node stands so many levels above the leaves. A leaf, and `from`, goes by its number as a node.
-pub fn first_under(
-    nodes: &[Moment],
-    node: usize,
-    levels: u32,
-    from: usize,
-    bound: u64,
-) -> Option<usize>
+// The first leaf under a node that holds less than the bound, where the node does. It stands so many
+// levels above the leaves.
+fn descend(nodes: &[u64], node: usize, levels: u32, bound: u64) -> usize
     requires node { 0 < node }
-    requires levels { levels < 64 }
     requires in_range { first_leaf (node + 1) levels ≤ length nodes.now }
     requires kept { AreKept nodes.now }
-    ensures found { IfSome result (λ i. (from ≤ i) × (is_within bound (moment_of nodes.now i) ≡ true)) }
-    ensures first { IfSome result (λ i. (j : ℕ) → first_leaf node levels ≤ j → from ≤ j → j < i → is_within bound (moment_of nodes.now j) ≡ false) }
-    ensures missing { IfNone result ((j : ℕ) → first_leaf node levels ≤ j → from ≤ j → j < first_leaf (node + 1) levels → is_within bound (moment_of nodes.now j) ≡ false) }
+    requires under { slice_index nodes.now node < bound }
+    ensures found { (first_leaf node levels ≤ result) × (result < first_leaf (node + 1) levels) × (slice_index nodes.now result < bound) }
+    ensures first { NoneUnder nodes.now bound (first_leaf node levels) result }
 {
-    if node < from >> levels || !is_within(nodes[node], bound) {
+    let mut at = node;
+    let mut below = levels;
+    while below > 0 {
+        below -= 1;
+        at *= 2;
+        if nodes[at] >= bound {
+            at += 1;
+        }
+    }
+    at
+}
+
+// The node, and how many levels it stands above the leaves, that has under it the first leaf at or
+// after `from` that holds less than the bound.
+fn climb(nodes: &[u64], levels: u32, from: usize, bound: u64) -> Option<(usize, u32)>
+    requires halves { length nodes.now ≡ 2 * first_leaf 1 levels }
+    requires in_range { (first_leaf 1 levels ≤ from) × (from < length nodes.now) }
+    requires kept { AreKept nodes.now }
+    requires under { slice_index nodes.now 1 < bound }
+    ensures found { IfSome result (λ top. (0 < top.0) × (first_leaf (top.0 + 1) top.1 ≤ length nodes.now) × (slice_index nodes.now top.0 < bound)) }
+    ensures first { IfSome result (λ top. (from ≤ first_leaf top.0 top.1) × NoneUnder nodes.now bound from (first_leaf top.0 top.1)) }
+    ensures missing { IfNone result (NoneUnder nodes.now bound from (length nodes.now)) }
+{
+    // All leaves stand under the top node.
+    if from == nodes.len() / 2 {
+        return Some((1, levels));
+    }
+    if nodes[from] < bound {
+        return Some((from, 0));
+    }
+    let mut node = from;
+    for level in 0..levels {
+        if node % 2 == 0 && nodes[node + 1] < bound {
+            return Some((node + 1, level));
+        }
+        node /= 2;
+    }
+    None
+}
+
+/// The first leaf at or after `from` that holds less than the bound. A leaf, and `from`, goes by its
+/// number as a node.
+pub fn first_under(nodes: &[u64], levels: u32, from: usize, bound: u64) -> Option<usize>
+    requires halves { length nodes.now ≡ 2 * first_leaf 1 levels }
+    requires in_range { (first_leaf 1 levels ≤ from) × (from ≤ length nodes.now) }
+    requires kept { AreKept nodes.now }
+    ensures found { IfSome result (λ i. (from ≤ i) × (i < length nodes.now) × (slice_index nodes.now i < bound)) }
+    ensures first { IfSome result (λ i. NoneUnder nodes.now bound from i) }
+    ensures missing { IfNone result (NoneUnder nodes.now bound from (length nodes.now)) }
+{
+    if nodes[1] >= bound || from == nodes.len() {
         return None;
     }
-    if levels == 0 {
-        return Some(node);
-    }
-    match first_under(nodes, 2 * node, levels - 1, from, bound) {
-        Some(leaf) => Some(leaf),
-        None => first_under(nodes, 2 * node + 1, levels - 1, from, bound),
-    }
+    let (node, level) = climb(nodes, levels, from, bound)?;
+    Some(descend(nodes, node, level, bound))
 }

@@ -1,10 +1,16 @@
-use Rattle.std.proofs.Common.{◌*◌, ◌-◌, ◌≡◌, ◌≤◌, None, take, replicate, ap, ◌∙◌, arith}
-use Rattle.std.proofs.lemmas.List.{drop-replicate, take-replicate}
+use Rattle.std.proofs.Common.{◌≤◌, arith}
+use Rattle.pm_moments.proofs.PlaceLemmas.{no_moments, no_shown}
 use Rattle.pm_moments.proofs.Moments.new.Goals as goal
+
+pub invariant_of-result : goal.invariant_of-result
+invariant_of-result c =
+    let levels = c.levels_for-levels in
+    let leaves = c.leaves_below-leaves in
+    let enough : c.args.places ≤ leaves.result = omega (arith, levels.ensures.enough, leaves.ensures.leaves) in
+    rw (c.in_ok-nodes.ensures, c.in_ok-new.ensures) (no_moments c.args.places leaves.result levels.result levels.ensures.few leaves.ensures.leaves enough)
 
 pub returns : goal.returns
 returns c =
-    let leaves = c.leaves_below-leaves.result in
-    let half : 2 * leaves - leaves ≡ leaves = omega arith in
-    let enough : c.args.places ≤ leaves = omega (arith, c.levels_for-levels.ensures.enough, c.leaves_below-leaves.ensures.leaves) in
-    rw c.in_ok-nothing.ensures (ap (take c.args.places) (drop-replicate leaves (2 * leaves) None ∙ ap (λ n. replicate n None) half) ∙ take-replicate c.args.places leaves None enough)
+    let leaves = c.leaves_below-leaves in
+    let enough : c.args.places ≤ leaves.result = omega (arith, c.levels_for-levels.ensures.enough, leaves.ensures.leaves) in
+    rw (c.in_ok-nodes.ensures, c.in_ok-new.ensures) (no_shown c.args.places leaves.result enough)

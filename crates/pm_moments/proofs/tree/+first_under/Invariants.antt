@@ -1,4 +1,0 @@
-use Rattle.pm_moments.proofs.tree.+first_under.Given as goal
-
-abbrev pub decreases-first_under : goal.decreases-first_under
-decreases-first_under l = l.levels
