@@ -92,8 +92,8 @@ impl Moments {
         later_of(self.nodes[self.leaves + place])
     }
 
-    /// The least moment of all. `None` comes exactly where no place has one. It looks at few
-    /// entries.
+    /// The least moment of all. `None` comes exactly where no place has one. It looks at one word for
+    /// each 4,096 places, and at three entries besides, at most.
     pub fn least(&self) -> Option<u64>
         ensures held { IfSome result (λ at. SomeIndex self.now (λ i. moment_of self.now i ≡ Some at)) }
         ensures least { IfSome result (λ at. (i other : ℕ) → moment_of self.now i ≡ Some other → at ≤ other) }
@@ -105,8 +105,8 @@ impl Moments {
         later_of(top(&self.nodes))
     }
 
-    /// The first place at or after `from` whose moment is at most the bound, in as many steps as `set`
-    /// takes.
+    /// The first place at or after `from` whose moment is at most the bound. It takes as many steps as
+    /// `set`, and looks at one word for each 4,096 places besides, at most.
     pub fn first_within(&self, from: usize, bound: u64) -> Option<usize>
         requires { from ≤ length self.now }
         ensures found { IfSome result (λ i. (from ≤ i) × (i < length self.now) × (is_within bound (moment_of self.now i) ≡ true)) }

@@ -74,7 +74,8 @@ impl Timers {
     }
 
     /// The armed timer with the least deadline, and of several the one of the least device: its
-    /// deadline and its device. It takes as many steps as `arm`.
+    /// deadline and its device. It takes as many steps as `arm`, and looks at one word for each 4,096
+    /// devices besides, at most.
     pub fn earliest(&self) -> Option<(u64, DevId)>
         ensures armed { IfSome result (λ first. deadline_of self.now first.1 ≡ Some first.0) }
         ensures least { IfSome result (λ first. (d : Dev) (at : ℕ) → deadline_of self.now d ≡ Some at → IsNoLater first (at, d)) }
