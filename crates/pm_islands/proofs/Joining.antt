@@ -1,12 +1,11 @@
 -- Labels stay labels where two nodes that touch are joined, and then the two share theirs.
-use Rattle.std.proofs.Common.{ℕ, ◌≡◌, ◌+◌, ◌<◌, ◌≤◌, Bool, true, false, List, [], ◌∷◌, Option, Some, None, length, map, max, min, nat_eq, slice_index_or, if◌then◌else◌, refl, sym, ap, subst, arith, inl, inr, ◌∙◌, ◌⊎◌}
-use Rattle.std.proofs.lemmas.Bool.{cases_Bool, cases_lt, eq-eqb, eqb-true, eqb-false}
+use Rattle.std.proofs.Common.{ℕ, ◌≡◌, ◌<◌, ◌≤◌, Bool, true, false, List, [], ◌∷◌, length, max, min, nat_eq, if◌then◌else◌, refl, sym, ap, subst, arith, inl, inr, ◌∙◌, ◌⊎◌}
+use Rattle.std.proofs.lemmas.Bool.{cases_lt, eq-eqb, eqb-true}
 use Rattle.std.proofs.lemmas.List.{get_or-map, length-map}
 use Rattle.pm_model.specs.declared.plan.Plan.{Plan}
-use Rattle.pm_model.specs.Islands.{Connected, Node, here}
-use Rattle.pm_islands.specs.declared.touching.Tie.{Tie}
-use Rattle.pm_islands.specs.Labels.{AreLabels, Joined, Joins, Keeps, joined, label_at, label_of, put_for, relabelled}
-use Rattle.pm_islands.specs.Places.{node_at, nodes, place, places, tied}
+use Rattle.pm_model.specs.Islands.{Connected}
+use Rattle.pm_islands.specs.Labels.{AreLabels, Keeps, joined, label_at, put_for, relabelled}
+use Rattle.pm_islands.specs.Places.{node_at, nodes}
 use Rattle.pm_islands.proofs.Walks.{goes_back, goes_further}
 
 puts : (from to x : ℕ) → ((x ≡ from) × (put_for from to x ≡ to)) ⊎ (put_for from to x ≡ x)

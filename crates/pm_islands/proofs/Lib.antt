@@ -9,3 +9,4 @@ pub mod Numbered
 pub mod NextLemmas
 pub mod Going
 pub mod PartLemmas
+pub mod SmallIsPlan

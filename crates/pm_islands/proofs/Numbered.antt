@@ -1,12 +1,12 @@
 -- Shared labels number the islands.
-use Rattle.std.proofs.Common.{ℕ, zero, suc, ◌≡◌, ◌+◌, ◌<◌, ◌≤◌, Bool, true, false, List, [], ◌∷◌, Option, Some, None, drop, length, map, nat_lt, slice_get, slice_index_or, take, unwrap_or, if◌then◌else◌, refl, sym, ap, subst, arith, inl, inr, ◌∙◌, ◌⊎◌}
-use Rattle.std.proofs.lemmas.Bool.{cases_lt, cases_order, cond-true, cond-false, false_from_ne_true, le-ltb, lt-ltb, ltb-false, ltb-true}
+use Rattle.std.proofs.Common.{ℕ, zero, suc, ◌≡◌, ◌+◌, ◌<◌, Bool, true, false, List, [], ◌∷◌, Option, Some, None, drop, length, map, nat_lt, slice_get, slice_index_or, take, unwrap_or, if◌then◌else◌, refl, sym, ap, subst, arith, inl, inr, ◌∙◌}
+use Rattle.std.proofs.lemmas.Bool.{cases_lt, cond-true, cond-false, false_from_ne_true, le-ltb, lt-ltb, ltb-false, ltb-true}
 use Rattle.std.proofs.lemmas.List.{get_or-drop, get_or-map, get_or-take, get_or_past, length-drop, length-map, length-take, length-take-le}
-use Rattle.std.proofs.lemmas.Option.{cond_some, get_or_from_slice_get, unwrap_or-slice_get}
+use Rattle.std.proofs.lemmas.Option.{cond_some, unwrap_or-slice_get}
 use Rattle.pm_base.specs.declared.ActorId.{ActorId}
 use Rattle.pm_base.specs.declared.ActorId.TheVariants.{Caller, Work, Timer}
 use Rattle.pm_model.specs.declared.plan.Plan.{Plan}
-use Rattle.pm_model.specs.Islands.{Connected, IsLabelling, Node, Numbering, comes_before, island_of, node_of, the_caller, the_device, the_domain, touch}
+use Rattle.pm_model.specs.Islands.{Connected, IsLabelling, Node, Numbering, comes_before, island_of, the_caller, the_device, the_domain}
 use Rattle.pm_islands.specs.Labels.{AreLabels, AreShared, label_at, label_of}
 use Rattle.pm_islands.specs.Numbers.{AreIslands, AreNumbers, NodeNumbers, actor_in, island_in}
 use Rattle.pm_islands.specs.Places.{has_node, node_at, nodes, place}
@@ -263,9 +263,6 @@ nodes_by plan labels one_each (the_caller c) =
     ]
 nodes_by plan labels one_each (the_domain o) = go (nat_lt o (length plan.domains)) refl
   where
-    rest : List ℕ
-    rest = drop (length plan.callers) (drop (length plan.devices) labels)
-
     each : length (drop (length plan.callers) (drop (length plan.devices) labels)) ≡ length plan.domains
     each = omega (arith, length-drop (length plan.callers) (drop (length plan.devices) labels), length-drop (length plan.devices) labels, one_each)
 
@@ -296,11 +293,13 @@ number_below plan labels are x n is =
 
 islands_by : (plan : Plan) (labels : List ℕ) → AreShared plan labels → AreIslands plan (numbers_by plan labels)
 unfolding numbers_by numbering_by
-islands_by plan labels all = record { numbering = numbering_by plan labels all; nodes = nodes_by plan labels all.are.one_each; actors = actors }
+islands_by plan labels all = record {
+  numbering = numbering_by plan labels all;
+  nodes = nodes_by plan labels all.are.one_each;
+  callers = length-map (of_callers plan labels) (rank (of_callers plan labels)) ∙ callers_each plan labels all.are.one_each;
+  actors = actors;
+}
   where
-    tell : ℕ → Option ℕ
-    tell n = if nat_lt n (count_by plan labels) then Some n else None
-
     device : (d : ℕ) → (if nat_lt (island_by plan labels (the_device d)) (count_by plan labels) then Some (island_by plan labels (the_device d)) else None)
         ≡ slice_index_or (map (number_of (of_callers plan labels)) (take (length plan.devices) labels)) d None
     device d =

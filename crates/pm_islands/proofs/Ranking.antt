@@ -1,5 +1,5 @@
 -- Numbers among labels have rising ranks, and each rank below that of a number is the rank of one below it.
-use Rattle.std.proofs.Common.{ℕ, zero, suc, ◌≡◌, ◌+◌, ◌<◌, ◌≤◌, Bool, true, false, ◌||◌, List, [], ◌∷◌, length, nat_eq, slice_index_or, if◌then◌else◌, refl, sym, ap, subst, arith, inl, inr, ◌∙◌, ◌⊎◌}
+use Rattle.std.proofs.Common.{ℕ, zero, suc, ◌≡◌, ◌+◌, ◌<◌, ◌≤◌, Bool, true, false, List, [], ◌∷◌, length, nat_eq, slice_index_or, if◌then◌else◌, refl, sym, ap, subst, arith, inl, inr, ◌∙◌, ◌⊎◌}
 use Rattle.std.proofs.lemmas.Bool.{cases_lt, cases_order, eq-eqb, eqb-true, false≢true, or_cases, or_left, or_right}
 use Rattle.pm_islands.specs.Ranks.{is_among, rank}
 

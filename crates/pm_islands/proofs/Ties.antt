@@ -1,5 +1,5 @@
 -- The rows of a plan tie the nodes that touch, and no others.
-use Rattle.std.proofs.Common.{ℕ, zero, suc, ◌≡◌, ◌+◌, ◌<◌, Bool, true, false, ◌&&◌, ◌||◌, List, [], ◌∷◌, Option, Some, None, length, nat_eq, nat_lt, slice_get, if◌then◌else◌, refl, sym, ap, subst, arith, inl, inr, ◌∙◌}
+use Rattle.std.proofs.Common.{ℕ, zero, suc, ◌≡◌, ◌+◌, ◌<◌, Bool, true, false, ◌&&◌, List, [], ◌∷◌, Option, Some, None, length, nat_eq, nat_lt, slice_get, if◌then◌else◌, refl, sym, ap, subst, arith, inl, inr, ◌∙◌}
 use Rattle.std.specs.Prelude.{option_and_then, option_map}
 use Rattle.std.specs.List.{list_all, list_any}
 use Rattle.std.specs.Option.{option_map_or}
@@ -14,9 +14,9 @@ use Rattle.pm_model.specs.declared.rows.CallerRow.{CallerRow}
 use Rattle.pm_model.specs.declared.rows.DeviceRow.{DeviceRow}
 use Rattle.pm_model.specs.declared.rows.DomainRow.{DomainRow}
 use Rattle.pm_model.specs.declared.rows.LinkRow.{LinkRow}
-use Rattle.pm_model.specs.IsPlan.{each_at, is_command, is_device, is_domain, is_link, is_operand, is_plan}
+use Rattle.pm_model.specs.IsPlan.{each_at, is_device, is_domain, is_link, is_operand, is_plan}
 use Rattle.pm_model.specs.Islands.{Node, is_some_device, is_some_domain, names_device, the_caller, the_device, the_domain, touch}
-use Rattle.pm_model.specs.PlanRows.{domain, domain_parent, parent}
+use Rattle.pm_model.specs.PlanRows.{domain, parent}
 use Rattle.pm_model.specs.Spelling.{operand_of, takes_device}
 use Rattle.pm_stacks.proofs.PlanLaw.{all_get, command_lawful, device_lawful}
 use Rattle.pm_stacks.proofs.Tests.{front, rear, same_self}
@@ -116,7 +116,7 @@ by_script : (plan : Plan) (c i : ℕ) (row : CallerRow) (command : Command) → 
     → takes_device command.helper ≡ true → AreTied plan (the_caller c) (the_device command.dev.0)
 by_script plan c i row command at its takes =
     let law : ((if takes_device command.helper then nat_lt command.dev.0 (length plan.devices) else nat_eq command.dev.0 0)
-        && is_operand (length plan.devices) command.helper (operand_of command.helper) command.number) ≡ true = command_lawful plan c i row command at its in
+    && is_operand (length plan.devices) command.helper (operand_of command.helper) command.number) ≡ true = command_lawful plan c i row command at its in
     record {
       touches = rw at (any_at (names_device command.dev.0) row.script i command its (rw (takes, same_self command.dev.0) refl));
       first = in_list plan.callers c row at;

@@ -29,6 +29,7 @@ actor_in numbers (Timer d) = slice_index_or numbers.devices d None
 pub record AreIslands (plan : Plan) (numbers : NodeNumbers) : Type 0 where
   pub numbering : Numbering plan numbers.count
   pub nodes : (a : Node) → numbering.island a ≡ island_in numbers a
+  pub callers : length numbers.callers ≡ length plan.callers
   pub actors : (a : ActorId) → island_of numbering a ≡ actor_in numbers a
 
 -- one of the plan's islands

@@ -1,5 +1,5 @@
 -- The nodes of a plan in one row, which is the order of nodes, and the pairs of them that touch (this project's own).
-use Rattle.std.specs.Prelude.{ℕ, ◌+◌, ◌-◌, Bool, List, Option, Some, None, length, nat_lt, option_and_then, option_map, slice_get, slice_index_or, if◌then◌else◌}
+use Rattle.std.specs.Prelude.{ℕ, ◌+◌, ◌-◌, Bool, Option, Some, None, length, nat_lt, option_and_then, option_map, slice_get, if◌then◌else◌}
 use Rattle.std.specs.Option.{option_map_or}
 use Rattle.pm_model.specs.declared.plan.Plan.{Plan}
 use Rattle.pm_model.specs.Islands.{Node, the_caller, the_device, the_domain}

@@ -6,6 +6,8 @@ mod labels;
 mod merging;
 mod numbers;
 mod parts;
+#[cfg(test)]
+mod tests;
 mod touching;
 
 pub use merging::merge;

@@ -1,6 +1,6 @@
 //! The part of one island of a plan.
 
-ghost use Rattle.std.specs.Prelude.{ℕ, ◌≡◌, ◌<◌, ◌^◌, [], ◌∷◌, ◌++◌, IfNone, IfOk, IfSome, if◌then◌else◌, length, vec_len};
+ghost use Rattle.std.specs.Prelude.{ℕ, ◌≡◌, ◌<◌, ◌^◌, [], ◌∷◌, ◌++◌, IfNone, IfOk, IfSome, if◌then◌else◌, length};
 ghost use Rattle.pm_model.specs.Islands.{IsPart, Node, Numbering, with_scripts};
 ghost use Rattle.pm_islands.specs.Numbers.{AreNumbers, IsIsland, is_of};
 

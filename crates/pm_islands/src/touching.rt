@@ -89,7 +89,10 @@ fn of_domains(plan: &Plan, row: usize) -> Option<(usize, usize)>
     ensures { result ≡ places plan.now (tied plan.now OfDomains row) }
 {
     let parent = plan.domains.get(row)?.parent?;
-    Some((domain_place(plan, row), domain_place(plan, parent.0 as usize)))
+    Some((
+        domain_place(plan, row),
+        domain_place(plan, parent.0 as usize),
+    ))
 }
 
 fn of_caller(plan: &Plan, caller: usize, row: usize) -> Option<(usize, usize)>
