@@ -1,3 +1,12 @@
+pub mod Walks
+pub mod OneNumbering
+pub mod NodeOrder
+pub mod Joining
+pub mod Ties
+pub mod Sharing
+pub mod Ranking
+pub mod Numbered
 pub mod NextLemmas
 pub mod Going
 pub mod PartLemmas
+pub mod SmallIsPlan

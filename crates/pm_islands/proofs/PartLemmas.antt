@@ -1,7 +1,8 @@
 -- The rows of a part, and that it is a plan.
-use Rattle.std.proofs.Common.{◌≡◌, ◌<◌, ◌^◌, ◌∙◌, ℕ, suc, Bool, List, [], ◌∷◌, ◌++◌, true, if◌then◌else◌, length, nat_eq, refl, sym, subst, ap, arith}
+use Rattle.std.proofs.Common.{◌≡◌, ◌<◌, ◌≤◌, ◌^◌, ◌∙◌, ℕ, suc, Bool, List, [], ◌∷◌, ◌++◌, Some, slice_get, true, if◌then◌else◌, length, nat_eq, refl, sym, subst, ap, arith}
 use Rattle.std.proofs.lemmas.Grind.{common_steps}
 use Rattle.std.proofs.lemmas.List.{append_assoc}
+use Rattle.std.proofs.lemmas.Option.{slice_get_within}
 use Rattle.pm_model.specs.declared.plan.Plan.{Plan}
 use Rattle.pm_model.specs.declared.rows.CallerRow.{CallerRow}
 use Rattle.pm_model.specs.declared.rows.DeviceRow.{DeviceRow}
@@ -11,20 +12,31 @@ use Rattle.pm_model.specs.Islands.{Node, the_caller, with_scripts}
 use Rattle.pm_model.specs.IsPlan.{is_plan}
 use Rattle.pm_apart.proofs.Isles.{law_in}
 use Rattle.pm_islands.specs.Numbers.{AreNumbers, is_of}
+use Rattle.pm_islands.specs.Places.{nodes}
 
 -- a plan has few rows
 few : (lines trace : ℕ) (domains : List DomainRow) (devices : List DeviceRow) (links : List LinkRow) (callers : List CallerRow) → is_plan lines trace domains devices links callers ≡ true
-    → (length domains < 2 ^ 32) × (length devices < 2 ^ 32) × (length callers < 2 ^ 32)
+    → (length domains ≤ 128) × (length devices ≤ 1024) × (length callers ≤ 16)
 few lines trace domains devices links callers law = (grind (arith, common_steps), grind (arith, common_steps), grind (arith, common_steps))
 
 pub few_domains : (plan : Plan) → length plan.domains < 2 ^ 32
-few_domains plan = (few plan.lines plan.trace plan.domains plan.devices plan.links plan.callers plan.law).0
+few_domains plan = let f = few plan.lines plan.trace plan.domains plan.devices plan.links plan.callers plan.law in omega (arith, f.0)
 
 pub few_devices : (plan : Plan) → length plan.devices < 2 ^ 32
-few_devices plan = (few plan.lines plan.trace plan.domains plan.devices plan.links plan.callers plan.law).1
+few_devices plan = let f = few plan.lines plan.trace plan.domains plan.devices plan.links plan.callers plan.law in omega (arith, f.1)
 
 pub few_callers : (plan : Plan) → length plan.callers < 2 ^ 32
-few_callers plan = (few plan.lines plan.trace plan.domains plan.devices plan.links plan.callers plan.law).2
+few_callers plan = let f = few plan.lines plan.trace plan.domains plan.devices plan.links plan.callers plan.law in omega (arith, f.2)
+
+pub few_nodes : (plan : Plan) → nodes plan ≤ 1168
+few_nodes plan = let f = few plan.lines plan.trace plan.domains plan.devices plan.links plan.callers plan.law in omega (arith, f.0, f.1, f.2)
+
+-- a row's place is a small number
+pub domain_place_is_small : (plan : Plan) (n : ℕ) (row : DomainRow) → slice_get plan.domains n ≡ Some row → n < 2 ^ 32
+domain_place_is_small plan n row at = omega (arith, slice_get_within plan.domains n row at, few_domains plan)
+
+pub caller_place_is_small : (plan : Plan) (n : ℕ) (row : CallerRow) → slice_get plan.callers n ≡ Some row → n < 2 ^ 32
+caller_place_is_small plan n row at = omega (arith, slice_get_within plan.callers n row at, few_callers plan)
 
 pub length_scripts : (own : ℕ → Bool) (rows : List CallerRow) → length (with_scripts own rows) ≡ length rows
 length_scripts own [] = refl

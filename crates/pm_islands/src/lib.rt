@@ -1,9 +1,15 @@
-//! The islands of a plan, which run apart: the part of each, and the merge of their lists of lines
-//! (this project's own).
+//! The islands of a plan, which run apart: their numbers, the part of each, and the merge of their
+//! lists of lines (this project's own).
 #![tactic(auto)]
 
+mod labels;
 mod merging;
+mod numbers;
 mod parts;
+#[cfg(test)]
+mod tests;
+mod touching;
 
 pub use merging::merge;
+pub use numbers::{IslandNumbers, islands, number};
 pub use parts::part;

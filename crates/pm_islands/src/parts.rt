@@ -1,9 +1,10 @@
 //! The part of one island of a plan.
 
-ghost use Rattle.std.specs.Prelude.{ℕ, ◌≡◌, ◌<◌, ◌^◌, [], ◌∷◌, ◌++◌, IfNone, IfOk, IfSome, if◌then◌else◌, length, vec_len};
-ghost use Rattle.pm_model.specs.Islands.{IsPart, Node, with_scripts};
-ghost use Rattle.pm_islands.specs.Numbers.{AreNumbers, is_of};
+ghost use Rattle.std.specs.Prelude.{ℕ, ◌≡◌, ◌<◌, ◌^◌, [], ◌∷◌, ◌++◌, IfNone, IfOk, IfSome, if◌then◌else◌, length};
+ghost use Rattle.pm_model.specs.Islands.{IsPart, Node, Numbering, with_scripts};
+ghost use Rattle.pm_islands.specs.Numbers.{AreNumbers, IsIsland, is_of};
 
+use crate::numbers::caller_numbers;
 use pm_base::NoMemory;
 use pm_model::{
     CallerList, CallerRow, Command, DeviceRow, DomainRow, Items, Named, NamedList, Plan,
@@ -153,10 +154,9 @@ fn callers_of(
     Ok(NamedList::new(alloc, callers)?)
 }
 
-/// The part of an island: the plan with the script of every caller outside it empty (this project's
-/// own). `numbers` has each caller's number. Fails where memory runs out.
+// The plan with the scripts of the callers that have this number.
 #[tactic(auto, using(crate::proofs::PartLemmas::few_domains, crate::proofs::PartLemmas::few_devices, crate::proofs::PartLemmas::few_callers))]
-pub fn part(alloc: Global, plan: &Plan, numbers: &[u32], island: u32) -> Result<Plan, NoMemory>
+fn part_of(alloc: Global, plan: &Plan, numbers: &[u32], island: u32) -> Result<Plan, NoMemory>
     requires one_each { length numbers.now ≡ length plan.now.callers }
     requires numbers { (f : Node → ℕ) × AreNumbers plan.now f numbers.now }
     ensures { IfOk result (λ part. (f : Node → ℕ) → AreNumbers plan.now f numbers.now → IsPart plan.now f island part) }
@@ -170,4 +170,14 @@ pub fn part(alloc: Global, plan: &Plan, numbers: &[u32], island: u32) -> Result<
         links: items_of(alloc, &plan.links)?,
         callers,
     })
+}
+
+/// The part of an island, which is one of the plan's: the plan with the script of every caller outside
+/// it empty (this project's own). Fails where memory runs out.
+pub fn part(alloc: Global, plan: &Plan, island: u32) -> Result<Plan, NoMemory>
+    requires { IsIsland plan.now island }
+    ensures { IfOk result (λ part. (count : ℕ) (k : Numbering plan.now count) → IsPart plan.now k.island island part) }
+{
+    let numbers = caller_numbers(alloc, plan)?;
+    part_of(alloc, plan, &numbers, island)
 }
