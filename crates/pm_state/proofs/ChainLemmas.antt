@@ -1,8 +1,12 @@
 -- No chain of parents and suppliers is longer than the list of chains says.
 use Rattle.std.proofs.Common.{ℕ, zero, suc, ◌≡◌, ◌∙◌, ◌+◌, ◌-◌, ◌<◌, ◌≤◌, Bool, true, false, ◌&&◌, List, [], ◌∷◌, ◌++◌, Option, Some, None, length, map, max, nat_eq, is_some, replicate, slice_get, slice_index_or, take, unwrap_or, if◌then◌else◌, ap, arith, inl, inr, refl, subst, sym}
+use Rattle.std.proofs.Common.{nat_cmp}
 use Rattle.std.specs.Option.{option_map_or}
+use Rattle.std.specs.Ordering.{ord_max}
 use Rattle.std.proofs.lemmas.Bool.{cases_lt}
+use Rattle.std.proofs.lemmas.Grind.{common_steps}
 use Rattle.std.proofs.lemmas.List.{get_or_append_left, get_or-append_right, length-append, take_more}
+use Rattle.std.proofs.lemmas.Option.{get_or_from_slice_get}
 use Rattle.pm_base.specs.declared.DevId.{DevId}
 use Rattle.pm_model.specs.declared.plan.Plan.{Plan}
 use Rattle.pm_model.specs.declared.rows.LinkRow.{LinkRow}
@@ -17,6 +21,13 @@ use Rattle.pm_state.specs.Standing.{IsRoomy}
 pub map_constant : {A B : Type 0} (x : B) (rows : List A) → replicate (length rows) x ≡ map (λ row. x) rows
 map_constant x [] = refl
 map_constant x (row ∷ rows) = ap (λ xs. x ∷ xs) (map_constant x rows)
+
+-- the greater of two numbers, as the code takes it
+pub max_is : (n a b : ℕ) → n ≡ ord_max nat_cmp a b → n ≡ max a b
+max_is n a b is = grind (arith, common_steps)
+
+pub two : (n a b x y z : ℕ) → n ≡ max a b → a ≡ x → b ≡ y → z ≡ max x y → n ≡ z
+two n a b x y z is was more all = omega arith
 
 greatest_append : {A : Type 0} (f : A → ℕ) (xs : List A) (y : A) → greatest f (xs ++ y ∷ []) ≡ max (greatest f xs) (f y)
 greatest_append f [] y = omega arith
@@ -108,7 +119,7 @@ more_chains plan chains chains' d chain are next is more = subst (AreChains plan
     longer = omega (arith, length-append chains (chain ∷ []))
 
     here : slice_index_or (chains ++ chain ∷ []) d.0 0 ≡ chain
-    here = get_or-append_right chains (chain ∷ []) d.0 d.0 0 (sym next) (omega arith) ∙ ap (λ n. slice_index_or (chain ∷ []) n 0) (omega arith)
+    here = get_or-append_right chains (chain ∷ []) d.0 d.0 0 (sym next) (omega arith) ∙ (let e : d.0 - d.0 ≡ 0 = omega arith in ap (λ n. slice_index_or (chain ∷ []) n 0) e)
 
     same : (x : DevId) → x.0 ≡ d.0 → x ≡ d
     same x e = ap (λ n. record { 0 = n }) e
@@ -149,7 +160,13 @@ short_past plan d past (suc n) =
 
 pub is_roomy : (plan : Plan) (chains : List ℕ) (longest : ℕ) → AreChains plan chains → length chains ≡ length plan.devices → longest ≡ max 1 (greatest (λ n. n) chains) → IsRoomy plan (longest + 3)
 unfolding longest_chain
-is_roomy plan chains longest are all is = record { each = λ d. elim (cases_lt d.0 (length chains)) [
-  | inl lt ↦ omega (arith, are.each d (length plan.devices) lt, at_most_greatest chains d.0, is)
-  | inr past ↦ omega (arith, short_past plan d (omega (arith, past, all)) (length plan.devices), is)
-] }
+is_roomy plan chains longest are all is = record {
+  each = λ d. elim (cases_lt d.0 (length chains)) [
+    | inl lt ↦ omega (arith, are.each d (length plan.devices) lt, at_most_greatest chains d.0, is)
+    | inr past ↦ omega (arith, short_past plan d (omega (arith, past, all)) (length plan.devices), is)
+  ];
+}
+
+-- and no list says more than there are devices
+pub greatest_few : (plan : Plan) (chains : List ℕ) → AreChains plan chains → greatest (λ n. n) chains ≤ length chains
+greatest_few plan chains are = greatest_within (λ n. n) (length chains) chains (λ i x is. let few : slice_index_or chains i 0 ≤ length chains = are.few (record { 0 = i }) in omega (arith, few, get_or_from_slice_get chains i x 0 is))
