@@ -1,3 +1,4 @@
 pub mod LineLemmas
 pub mod RunningLemmas
+pub mod EndLemmas
 pub mod PageLemmas

@@ -55,6 +55,7 @@ placed_of plan s w (Caller c) stages is callers works timers called = record {
   works = grind (arith, common_steps, is.works);
   timers = grind (arith, common_steps, is.timers);
   called = grind (arith, common_steps, is.called);
+  roomy = is.roomy;
 }
 placed_of plan s w (Work d) stages is callers works timers called = record {
   made_for = is.made_for;
@@ -62,6 +63,7 @@ placed_of plan s w (Work d) stages is callers works timers called = record {
   works = grind (arith, common_steps, is.works);
   timers = grind (arith, common_steps, is.timers);
   called = grind (arith, common_steps, is.called);
+  roomy = is.roomy;
 }
 placed_of plan s w (Timer d) stages is callers works timers called = record {
   made_for = is.made_for;
@@ -69,6 +71,7 @@ placed_of plan s w (Timer d) stages is callers works timers called = record {
   works = grind (arith, common_steps, is.works);
   timers = grind (arith, common_steps, is.timers);
   called = grind (arith, common_steps, is.called);
+  roomy = is.roomy;
 }
 
 calls_length : (actor : ActorId) (e : Event) (called : List ℕ) → length (counts_call actor e called) ≡ length called

@@ -1,6 +1,6 @@
 //! The book, and what it shows.
 
-ghost use Rattle.std.specs.Prelude.{◌≡◌, ◌<◌, [], reverse, true, IfErr, IfOk, IfSome};
+ghost use Rattle.std.specs.Prelude.{◌≡◌, ◌≤◌, [], reverse, true, IfErr, IfOk, IfSome, IsOk, OnErr, OnOk};
 ghost use Rattle.std.specs.List.{list_all};
 ghost use Rattle.pm_model.specs.LineOf.{is_line_of};
 ghost use Rattle.pm_model.specs.Lawful.{IsLawful, is_finished};
@@ -9,7 +9,7 @@ ghost use Rattle.pm_state.specs.Turns.{is_running};
 ghost use Rattle.pm_model.specs.World.{start};
 ghost use Rattle.pm_model.specs.Serial.{next_turn};
 ghost use Rattle.pm_turns.specs.Turning.{IsIndex};
-ghost use Rattle.pm_book.specs.Pages.{is_full, world_of};
+ghost use Rattle.pm_book.specs.Pages.{HasSpare, Keeps, is_full, world_of};
 ghost use Rattle.pm_device.specs.Parts.{IsFor};
 
 use crate::laws::all_stand_well;
@@ -25,8 +25,8 @@ use std::alloc::Global;
 use std::marker::Model;
 
 /// A plan and the lines of a run of it, with the counters, the open stages and the turns after them.
-/// Contracts see the plan and the lines, the newest first. In each value of the type the list is
-/// lawful.
+/// Contracts see the plan, the lines, the newest first, and how many more can be written without taking
+/// memory. In each value of the type the list is lawful.
 #[derive(Drop)]
 pub struct Book {
     pub(crate) plan: Plan,
@@ -41,9 +41,9 @@ impl Model for Book {
 
     ghost Value = { Pages };
 
-    ghost view = { λ b. record { plan = b.plan; lines = reverse b.lines.lines } };
+    ghost view = { λ b. record { plan = b.plan; lines = reverse b.lines.lines; spare = b.lines.spare } };
 
-    ghost invariant = { λ b. IsKept b.plan b.state b.turns b.lines.ends (reverse b.lines.lines) };
+    ghost invariant = { λ b. IsKept b.plan b.state b.turns b.lines.ends b.lines.limit (reverse b.lines.lines) };
 }
 
 // The state before any line, with the turns.
@@ -59,21 +59,36 @@ fn start_of(alloc: Global, plan: &Plan) -> Result<(State, Turns), NoMemory>
 }
 
 impl Book {
-    /// The book of a plan with no lines. All memory but that of lines, stages and waiters is taken here;
-    /// where it runs out, the plan is handed back.
+    /// The book of a plan with no lines. All memory but that of lines is taken here; where it runs out,
+    /// the plan is handed back.
     pub fn start(alloc: Global, plan: Plan) -> Result<Book, (Plan, NoMemory)>
-        ensures ok { IfOk result (λ book. book ≡ record { plan = plan; lines = [] }) }
+        ensures plan { IfOk result (λ book. book.plan ≡ plan) }
+        ensures lines { IfOk result (λ book. book.lines ≡ []) }
         ensures err { IfErr result (λ back. back.0 ≡ plan) }
     {
+        let limit = plan.lines;
         match start_of(alloc, &plan) {
             Ok((state, turns)) => Ok(Book {
                 plan,
-                lines: Lines::none(alloc),
+                lines: Lines::none(alloc, limit),
                 state,
                 turns,
             }),
             Err(error) => Err((plan, error)),
         }
+    }
+
+    /// Takes memory for so many more lines, or for all that the plan still allows where those are fewer:
+    /// so many can then be written without taking memory. Each may begin a callback, and the place of
+    /// its end line is kept then, so memory is taken for twice as many. After `NoMemory` nothing is
+    /// changed.
+    pub fn reserve(&mut self, more: usize) -> Result<(), NoMemory>
+        ensures keeps { Keeps self.old self.new }
+        ensures ok { OnOk result (HasSpare self.new more) }
+        ensures room { more ≤ self.old.spare → IsOk result }
+        ensures err { OnErr result (self.new ≡ self.old) }
+    {
+        self.lines.reserve(more)
     }
 
     /// The plan.
@@ -108,7 +123,7 @@ impl Book {
         self.lines.as_slice().len() >= self.plan.lines as usize
     }
 
-    /// Whether a callback that the actor began runs.
+    /// Whether a callback that the actor began runs. It takes no memory.
     pub fn running(&self, actor: ActorId) -> bool
         requires { IsActor self.now.plan actor }
         ensures { result ≡ is_running self.now.plan (world_of self.now) actor }
@@ -117,7 +132,7 @@ impl Book {
     }
 
     /// Whether the run is finished: each script has ended, each place is empty, no device is queued and
-    /// no timer is armed. It looks at all actors.
+    /// no timer is armed. It looks at all actors, and takes no memory.
     pub fn finished(&self) -> bool
         ensures { result ≡ is_finished self.now.plan (world_of self.now) }
     {

@@ -1,42 +1,24 @@
 //! How a run goes on.
 
-ghost use Rattle.std.specs.Prelude.{◌≡◌, ◌≢◌, ◌<◌, ◌≤◌, ◌∷◌, ◌^◌, length, false, true, IfOk, OnErr, OnOk};
-ghost use Rattle.pm_sums.specs.Sums.{weigh};
+ghost use Rattle.std.specs.Prelude.{◌≡◌, ◌≢◌, ◌<◌, ◌^◌, length, false, true, IfOk, IsOk, OnErr, OnOk};
+ghost use Rattle.pm_model.specs.World.{move};
 ghost use Rattle.pm_state.specs.Standing.{IsActor};
-ghost use Rattle.pm_state.specs.Turns.{EndsLevel, is_running};
-ghost use Rattle.pm_book.specs.Pages.{Adds, BeginsWithin, MayWrite, end_answer, has_written, moment_from, runs_here, step_answer, world_of, written};
+ghost use Rattle.pm_state.specs.Turns.{is_running};
+ghost use Rattle.pm_book.specs.Pages.{Adds, BeginsWithin, Longer, MayGo, MayWrite, by_move, end_answer, has_written, moment_from, step_answer, world_of, written};
+ghost use Rattle.pm_book.specs.Sheets.{begins_callback};
 
 use crate::book::Book;
-use crate::laws::{all_stand_well, each_line_is_taken};
+use crate::laws::{all_stand_well, each_line_is_taken, stacks_have_room};
 use crate::steps::{EndStep, Step};
 use pm_base::{ActorId, NoMemory};
-use pm_bounds::{lines_are_bounded, lines_are_of_plan};
-use pm_model::{Change, Event, IdleStage, Line, ResumeStage, Stage, StageRow, SuspendStage, Then};
-use pm_state::Turn;
+use pm_bounds::lines_are_of_plan;
+use pm_model::{Change, Event, Line, Move, Stage, Then};
 
-// 1 at a stage at which a callback runs.
-fn runs_here(stage: Stage) -> u32
-    ensures count { result ≡ runs_here stage }
-    ensures few { result ≤ 1 }
+// Whether a line with this event begins a callback.
+fn begins_callback(event: &Event) -> bool
+    ensures { result ≡ begins_callback event.now }
 {
-    match stage {
-        Stage::Idle(IdleStage::Running { .. })
-        | Stage::Suspend(SuspendStage::Running { .. })
-        | Stage::Resume(ResumeStage::Running { .. }) => 1,
-        _ => 0,
-    }
-}
-
-// How many callbacks a line begins, after which these stages take its stage's place.
-fn begins(then: &Then) -> u32
-    ensures count { result ≡ weigh runs_here then.now.push }
-    ensures few { result ≤ 2 }
-{
-    match then.push.row() {
-        StageRow::Zero => 0,
-        StageRow::One(stage) => runs_here(stage),
-        StageRow::Two(stage, under) => runs_here(stage) + runs_here(under),
-    }
+    matches!(*event, Event::Begin { .. })
 }
 
 impl Book {
@@ -49,11 +31,11 @@ impl Book {
     }
 
     // The answer to a line with this event that is about to be written.
-    fn answer(&self, event: Event) -> Step
-        requires { BeginsWithin (length self.now.plan.devices) event }
-        ensures { result ≡ written (world_of self.now).views event }
+    fn answer(&self, event: &Event) -> Step
+        requires { BeginsWithin (length self.now.plan.devices) event.now }
+        ensures { result ≡ written (world_of self.now).views event.now }
     {
-        match event {
+        match *event {
             Event::Begin { dev, cb } => {
                 let nth = u64::from(self.state.parts().begun(dev, cb)) + 1;
                 Step::Begun(dev, cb, nth)
@@ -62,102 +44,114 @@ impl Book {
         }
     }
 
-    // Writes a line that may come next and begins so many callbacks.
+    // Writes a line that may come next.
     fn write(
         &mut self,
-        stage: Stage,
-        line: Line,
+        stage: &Stage,
+        line: &Line,
         change: Change,
-        then: Then,
-        begins: u32,
+        then: &Then,
     ) -> Result<(), NoMemory>
-        requires in_range { IsActor self.old.plan line.actor }
-        requires may { MayWrite self.old stage line change then }
-        requires begins { begins ≡ weigh runs_here then.push }
-        requires few { begins ≤ 2 }
-        ensures ok { OnOk result (self.new ≡ record self.old { lines = line ∷ self.old.lines }) }
+        requires in_range { IsActor self.old.plan line.now.actor }
+        requires may { MayWrite self.old.plan self.old.lines stage.now line.now change then.now }
+        ensures ok { OnOk result (Longer self.old self.new line.now) }
+        ensures room { 0 < self.old.spare → IsOk result }
         ensures err { OnErr result (self.new ≡ self.old) }
     {
         each_line_is_taken();
+        stacks_have_room();
         all_stand_well();
-        lines_are_bounded();
-        self.turns.reserve(line.event)?;
-        self.lines.make_room(begins)?;
-        self.state.go(&self.plan, change, &line, then)?;
-        self.lines.push(line, begins);
-        self.turns.settle(&self.plan, &self.state, stage, &line);
+        self.lines.reserve(1)?;
+        self.state.go(&self.plan, change, line, then);
+        self.lines.push(*line, begins_callback(&line.event));
+        self.turns.settle(&self.plan, &self.state, *stage, line);
         Ok(())
     }
 
     // Writes the end line of a callback, at the place that is kept for it. It takes no memory.
-    fn write_end(&mut self, stage: Stage, line: Line, change: Change, then: Then)
-        requires in_range { IsActor self.old.plan line.actor }
-        requires may { MayWrite self.old stage line change then }
-        requires running { is_running self.old.plan (world_of self.old) line.actor ≡ true }
-        requires level { EndsLevel (world_of self.old) line.actor then }
-        ensures { self.new ≡ record self.old { lines = line ∷ self.old.lines } }
+    fn write_end(&mut self, stage: &Stage, line: &Line, change: Change, then: &Then)
+        requires in_range { IsActor self.old.plan line.now.actor }
+        requires may { MayWrite self.old.plan self.old.lines stage.now line.now change then.now }
+        requires running { is_running self.old.plan (world_of self.old) line.now.actor ≡ true }
+        ensures { Longer self.old self.new line.now }
     {
         each_line_is_taken();
+        stacks_have_room();
         all_stand_well();
-        self.state.go_level(&self.plan, change, &line, then);
-        self.lines.push_end(line);
-        self.turns.settle(&self.plan, &self.state, stage, &line);
+        self.state.go(&self.plan, change, line, then);
+        self.lines.push_end(*line);
+        self.turns.settle(&self.plan, &self.state, *stage, line);
     }
 }
 
 impl Book {
-    // Writes the line that an actor's turn is.
-    fn write_turn(
+    // Writes the line that an actor's move is.
+    fn write_move(
         &mut self,
-        line: Line,
-        stage: Stage,
+        stage: &Stage,
+        line: &Line,
         change: Change,
-        then: Then,
+        then: &Then,
     ) -> Result<Step, NoMemory>
-        requires in_range { IsActor self.old.plan line.actor }
-        requires may { MayWrite self.old stage line change then }
-        requires within { BeginsWithin (length self.old.plan.devices) line.event }
-        ensures answer { IfOk result (λ s. s ≡ written (world_of self.old).views line.event) }
-        ensures ok { OnOk result (self.new ≡ record self.old { lines = line ∷ self.old.lines }) }
+        requires in_range { IsActor self.old.plan line.now.actor }
+        requires may { MayWrite self.old.plan self.old.lines stage.now line.now change then.now }
+        requires within { BeginsWithin (length self.old.plan.devices) line.now.event }
+        ensures answer { IfOk result (λ s. s ≡ written (world_of self.old).views line.now.event) }
+        ensures ok { OnOk result (Longer self.old self.new line.now) }
+        ensures room { 0 < self.old.spare → IsOk result }
         ensures err { OnErr result (self.new ≡ self.old) }
     {
-        let answer = self.answer(line.event);
-        let begins = begins(&then);
-        self.write(stage, line, change, then, begins)?;
+        let answer = self.answer(&line.event);
+        self.write(stage, line, change, then)?;
         Ok(answer)
     }
 
+    // Lets an actor go on by one line at this moment, at the stage where it stands and no callback runs.
+    fn go_on(&mut self, actor: ActorId, stage: &Stage, time: u64) -> Result<Step, NoMemory>
+        requires in_range { IsActor self.old.plan actor }
+        requires may { MayGo self.old.plan self.old.lines actor stage.now time }
+        ensures answer { IfOk result (λ s. s ≡ by_move (world_of self.old).views (move self.old.plan (world_of self.old).views stage.now time)) }
+        ensures writes { IfOk result (λ s. has_written s ≡ true → Adds self.old self.new actor time) }
+        ensures stays { IfOk result (λ s. has_written s ≡ false → self.new ≡ self.old) }
+        ensures room { 0 < self.old.spare → IsOk result }
+        ensures err { OnErr result (self.new ≡ self.old) }
+    {
+        all_stand_well();
+        lines_are_of_plan();
+        match self.state.next(&self.plan, stage, time) {
+            Move::Wait(dev) => Ok(Step::Blocked(dev)),
+            Move::Late(at) => Ok(Step::Early(at)),
+            Move::Write(event, change, then) => {
+                let line = Line { time, actor, event };
+                self.write_move(stage, &line, change, &then)
+            }
+        }
+    }
+
     /// Lets an actor go on by one line at the moment of the last line, or at this later one by the
-    /// clock, in milliseconds of the run; a clock above 2^62 counts as 2^62. After `NoMemory` nothing is
-    /// changed.
+    /// clock, in milliseconds of the run; a clock above 2^62 counts as 2^62. It takes memory for lines
+    /// alone, and none where one more can be written without: a line lowers their number by at most one.
+    /// After `NoMemory` nothing is changed.
     pub fn step(&mut self, actor: ActorId, now: u64) -> Result<Step, NoMemory>
         requires { IsActor self.old.plan actor }
         ensures answer { IfOk result (λ s. s ≡ step_answer self.old actor now) }
         ensures writes { IfOk result (λ s. has_written s ≡ true → Adds self.old self.new actor (moment_from self.old.lines now)) }
         ensures stays { IfOk result (λ s. has_written s ≡ false → self.new ≡ self.old) }
+        ensures room { 0 < self.old.spare → IsOk result }
         ensures err { OnErr result (self.new ≡ self.old) }
     {
         if self.is_full() {
             return Ok(Step::AtLimit);
         }
         let time = self.moment(now);
+        let Some(stage) = self.state.stage_at(&self.plan, actor) else {
+            return Ok(Step::Resting);
+        };
         all_stand_well();
-        lines_are_of_plan();
-        match self.state.turn(&self.plan, actor, time) {
-            Turn::Resting => Ok(Step::Resting),
-            Turn::Running(at) => Ok(Step::Running(at)),
-            Turn::Blocked(dev) => Ok(Step::Blocked(dev)),
-            Turn::Early(at) => Ok(Step::Early(at)),
-            Turn::Writes {
-                stage,
-                event,
-                change,
-                then,
-            } => {
-                let line = Line { time, actor, event };
-                self.write_turn(line, stage, change, then)
-            }
+        if let Some(at) = self.state.running_until(&self.plan, &stage) {
+            return Ok(Step::Running(at));
         }
+        self.go_on(actor, &stage, time)
     }
 
     /// Lets a callback end that the actor began. It takes no memory.
@@ -173,19 +167,17 @@ impl Book {
         }
         let time = self.moment(now);
         all_stand_well();
-        match self.state.ending(&self.plan, actor, time) {
-            Turn::Early(at) => EndStep::Early(at),
-            Turn::Writes {
-                stage,
-                event,
-                change,
-                then,
-            } => {
+        let Some(stage) = self.state.stage_at(&self.plan, actor) else {
+            unreachable!();
+        };
+        match self.state.next(&self.plan, &stage, time) {
+            Move::Late(at) => EndStep::Early(at),
+            Move::Write(event, change, then) => {
                 let line = Line { time, actor, event };
-                self.write_end(stage, line, change, then);
+                self.write_end(&stage, &line, change, &then);
                 EndStep::Wrote
             }
-            Turn::Resting | Turn::Running(_) | Turn::Blocked(_) => unreachable!(),
+            Move::Wait(_) => unreachable!(),
         }
     }
 }

@@ -1,8 +1,9 @@
 -- Where a run of a plan stands, and what one line makes of it (this project's own).
-use Rattle.std.specs.Prelude.{◌≡◌, ◌<◌, ◌&&◌, Bool, true, false, drop, length}
+use Rattle.std.specs.Prelude.{ℕ, ◌≡◌, ◌+◌, ◌<◌, ◌≤◌, ◌&&◌, Bool, true, false, drop, length}
 use Rattle.std.specs.Option.{option_map_or}
 use Rattle.pm_base.specs.declared.ActorId.{ActorId}
 use Rattle.pm_base.specs.declared.ActorId.TheVariants.{Caller, Work, Timer}
+use Rattle.pm_base.specs.declared.DevId.{DevId}
 use Rattle.pm_model.specs.declared.event.Event.{Event}
 use Rattle.pm_model.specs.declared.event.Event.TheVariants as event
 use Rattle.pm_model.specs.declared.event.Line.{Line}
@@ -19,11 +20,18 @@ use Rattle.pm_model.specs.Views.{Views}
 use Rattle.pm_model.specs.WellFormed.{is_well_formed}
 use Rattle.pm_model.specs.World.{World, called_by, counts_call, place, stage_at, with_place}
 use Rattle.pm_device.specs.Parts.{Counters, IsFor, Shape}
+use Rattle.pm_stacks.specs.Depth.{longest_chain}
 
--- what the counters were made for, and where the run stands
+-- what the counters were made for, where the run stands, and for how many open stages each actor's place has room
 pub record Standing : Type 0 where
   pub shape : Shape
   pub world : World
+  pub room : ℕ
+
+-- the places of work items and of timers have as much room as those of callers
+pub record AreAlike (of_callers of_works of_timers : ℕ) : Type 0 where
+  pub works : of_works ≡ of_callers
+  pub timers : of_timers ≡ of_callers
 
 -- the counters of a standing
 abbrev pub counters : Standing → Counters
@@ -35,14 +43,19 @@ IsActor plan (Caller c) = c < length plan.callers
 IsActor plan (Work d) = d < length plan.devices
 IsActor plan (Timer d) = d < length plan.devices
 
--- it was made for this plan, whatever its scripts: it has the counters, a place for each actor and a number of calls
--- for each caller
+-- so many stages are enough for each actor's place: 3 more than devices stand on any chain of parents and suppliers
+pub record IsRoomy (plan : Plan) (room : ℕ) : Type 0 where
+  pub each : (d : DevId) → longest_chain plan d + 3 ≤ room
+
+-- it was made for this plan, whatever its scripts: it has the counters, a place with room enough for each actor and a
+-- number of calls for each caller
 pub record IsOf (plan : Plan) (s : Standing) : Type 0 where
   pub made_for : IsFor plan s.shape
   pub callers : length s.world.caller_places ≡ length plan.callers
   pub works : length s.world.work_places ≡ length plan.devices
   pub timers : length s.world.timer_places ≡ length plan.devices
   pub called : length s.world.called ≡ length plan.callers
+  pub roomy : IsRoomy plan s.room
 
 -- a stage that awaits no call
 abbrev pub is_awake : Stage → Bool
@@ -79,3 +92,7 @@ after_write plan w c line next =
       views = by_event plan line.time line.event (change_views plan line.time c w.views);
       called = counts_call line.actor line.event w.called;
     }) line.actor (after_then next (drop 1 (place w line.actor)))
+
+-- the actor's place has room for what this makes of its stages
+abbrev pub HasRoomFor : Standing → ActorId → Then → Type 0
+HasRoomFor s actor next = length (after_then next (drop 1 (place s.world actor))) ≤ s.room

@@ -3,21 +3,13 @@
 ghost use Rattle.std.specs.Prelude.{◌≡◌, ◌+◌, ◌<◌, length, nat_le, not, slice_index_or, is_none};
 ghost use Rattle.std.specs.List.{enumerate_from, list_all};
 ghost use Rattle.pm_laws.specs.Sizes.{HasEntries};
-ghost use Rattle.pm_model.specs.Lawful.{is_empty_place, is_finished};
+ghost use Rattle.pm_model.specs.Lawful.{is_finished};
 ghost use Rattle.pm_state.specs.Standing.{IsOf};
 
 use crate::state::State;
 use pm_base::DevId;
 use pm_device::Parts;
 use pm_model::{CallerRow, Plan};
-use pm_place::Place;
-
-// No stage is open at any place.
-fn all_empty(places: &[Place]) -> bool
-    ensures { result ≡ list_all is_empty_place places.now }
-{
-    places.iter().all(|place| place.is_empty())
-}
 
 // Every script has ended, of these callers, of which the first is the one with this number.
 fn scripts_ended(first: usize, rows: &[CallerRow], called: &[u32]) -> bool
@@ -68,9 +60,9 @@ impl State {
     {
         let devices = plan.devices.len() as u32;
         scripts_ended(0, plan.callers.as_slice(), &self.called)
-            && all_empty(&self.callers)
-            && all_empty(&self.works)
-            && all_empty(&self.timers)
+            && self.callers.all_empty()
+            && self.works.all_empty()
+            && self.timers.all_empty()
             && none_queued(&self.parts, devices)
             && none_armed(&self.parts, devices)
     }

@@ -2,13 +2,13 @@
 //! is (this project's own).
 #![tactic(auto)]
 
-mod acting;
 mod devices;
 mod finished;
 mod going;
 mod moves;
+mod rooms;
+mod running;
 mod state;
 
-pub use acting::Turn;
 pub use devices::device_of;
 pub use state::State;

@@ -11,14 +11,14 @@ impl State {
     /// What an actor may do at a well formed stage that awaits no call, at this moment, in milliseconds
     /// of the run. It takes no memory.
     #[tactic(auto, using(crate::proofs::PlaceLemmas::well_formed_of))]
-    pub fn next(&self, plan: &Plan, stage: Stage, time: u64) -> Move
+    pub fn next(&self, plan: &Plan, stage: &Stage, time: u64) -> Move
         requires is_of { IsOf plan.now self.now }
-        requires stands { can_go_on plan.now self.now.world.views stage ≡ true }
+        requires stands { can_go_on plan.now self.now.world.views stage.now ≡ true }
         requires in_time { time < 2 ^ 63 }
-        ensures { Some result ≡ move plan.now self.now.world.views stage time }
+        ensures { Some result ≡ move plan.now self.now.world.views stage.now time }
     {
         let parts = &self.parts;
-        match stage {
+        match *stage {
             Stage::Idle(stage) => pm_idle::next(plan, parts, stage, time),
             Stage::Suspend(stage) => pm_suspend::next(plan, parts, stage, time),
             Stage::Resume(stage) => pm_resume::next(plan, parts, stage, time),

@@ -1,31 +1,32 @@
 //! The state of a run, and at which stage each actor stands.
 
-ghost use Rattle.std.specs.Prelude.{◌≡◌, ◌<◌, [], map, length, slice_get, IfOk};
+ghost use Rattle.std.specs.Prelude.{◌≡◌, ◌<◌, map, length, slice_get, IfOk, None};
 ghost use Rattle.std.specs.Option.{option_and_then};
-ghost use Rattle.pm_model.specs.World.{place, ready, stage_at, start};
+ghost use Rattle.pm_model.specs.World.{place, ready, stage_at, start, top};
 ghost use Rattle.pm_state.specs.Standing.{IsActor, IsOf, counters};
 
+use crate::rooms::stack_room;
 use pm_base::{ActorId, DevId, NoMemory};
 use pm_device::Parts;
 use pm_model::{Command, HelperStage, Plan, Stage};
-use pm_place::Place;
+use pm_place::Places;
 use std::alloc::{AllocError, Global};
 use std::marker::Model;
 
-/// Where a run of a plan stands, which contracts see as the views, the places of all actors and the
-/// number of commands that each caller has called.
+/// Where a run of a plan stands, which contracts see as the views, the places of all actors with the
+/// room of each, and the number of commands that each caller has called.
 #[derive(Drop)]
 pub struct State {
     pub(crate) parts: Parts,
-    pub(crate) callers: Vec<Place>,
-    pub(crate) works: Vec<Place>,
-    pub(crate) timers: Vec<Place>,
+    pub(crate) callers: Places,
+    pub(crate) works: Places,
+    pub(crate) timers: Places,
     // How many commands each caller has called.
     pub(crate) called: Vec<u32>,
 }
 
 impl Model for State {
-    ghost use Rattle.pm_state.specs.Standing.{Standing};
+    ghost use Rattle.pm_state.specs.Standing.{AreAlike, Standing};
 
     ghost Value = { Standing };
 
@@ -33,19 +34,15 @@ impl Model for State {
       shape = s.parts.shape;
       world = record {
         views = s.parts.views;
-        caller_places = s.callers.items;
-        work_places = s.works.items;
-        timer_places = s.timers.items;
+        caller_places = s.callers.stages;
+        work_places = s.works.stages;
+        timer_places = s.timers.stages;
         called = s.called.items;
       };
+      room = s.callers.room;
     } };
-}
 
-// No stage is open at any place.
-fn empty_places<T>(alloc: Global, rows: &[T]) -> Result<Vec<Place>, AllocError>
-    ensures { IfOk result (λ v. v.items ≡ map (λ row. []) rows.now) }
-{
-    rows.iter().map(|_row| Place::empty(alloc)).collect(alloc)
+    ghost invariant = { λ s. AreAlike s.callers.room s.works.room s.timers.room };
 }
 
 // Nothing is called.
@@ -65,19 +62,19 @@ fn next_command_of(plan: &Plan, caller: u32, called: u32) -> Option<Command>
 }
 
 impl State {
-    /// The state of a plan before any line.
+    /// The state of a plan before any line. All memory that a state ever needs is taken here.
     pub fn fresh(alloc: Global, plan: &Plan) -> Result<State, NoMemory>
         ensures is_of { IfOk result (IsOf plan.now) }
         ensures start { IfOk result (λ s. s.world ≡ start plan.now) }
     {
-        let callers = plan.callers.as_slice();
-        let devices = plan.devices.as_slice();
+        let devices = plan.devices.len();
+        let room = stack_room(alloc, plan)?;
         Ok(State {
             parts: Parts::fresh(alloc, plan)?,
-            callers: empty_places(alloc, callers)?,
-            works: empty_places(alloc, devices)?,
-            timers: empty_places(alloc, devices)?,
-            called: none_called(alloc, callers)?,
+            callers: Places::empty(alloc, plan.callers.len(), room)?,
+            works: Places::empty(alloc, devices, room)?,
+            timers: Places::empty(alloc, devices, room)?,
+            called: none_called(alloc, plan.callers.as_slice())?,
         })
     }
 
@@ -88,16 +85,16 @@ impl State {
         &self.parts
     }
 
-    // The open stages of an actor.
-    pub(crate) fn place(&self, plan: &Plan, actor: ActorId) -> &Place
+    // The stage of an actor that is open and writes next.
+    fn top(&self, plan: &Plan, actor: ActorId) -> Option<Stage>
         requires is_of { IsOf plan.now self.now }
         requires in_range { IsActor plan.now actor }
-        ensures { result.now ≡ place self.now.world actor }
+        ensures { result ≡ top None (place self.now.world actor) }
     {
         match actor {
-            ActorId::Caller(caller) => &self.callers[caller as usize],
-            ActorId::Work(device) => &self.works[device as usize],
-            ActorId::Timer(device) => &self.timers[device as usize],
+            ActorId::Caller(caller) => self.callers.top(caller as usize),
+            ActorId::Work(device) => self.works.top(device as usize),
+            ActorId::Timer(device) => self.timers.top(device as usize),
         }
     }
 
@@ -130,13 +127,13 @@ impl State {
     }
 
     /// The stage at which an actor stands; `None` comes exactly where its place is empty and it has
-    /// nothing to start.
+    /// nothing to start. It takes no memory.
     pub fn stage_at(&self, plan: &Plan, actor: ActorId) -> Option<Stage>
         requires is_of { IsOf plan.now self.now }
         requires in_range { IsActor plan.now actor }
         ensures { result ≡ stage_at plan.now self.now.world actor }
     {
-        match self.place(plan, actor).top() {
+        match self.top(plan, actor) {
             Some(stage) => Some(stage),
             None => self.ready(plan, actor),
         }

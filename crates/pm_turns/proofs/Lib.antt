@@ -1,5 +1,7 @@
 pub mod FewLemmas
 pub mod PlaceLemmas
 pub mod RoundLemmas
+pub mod QueueLemmas
+pub mod WakeLemmas
 pub mod IndexLemmas
 pub mod SettleLemmas

@@ -7,6 +7,7 @@ use Rattle.std.proofs.lemmas.Option.{none-some, same_Some}
 use Rattle.pm_base.specs.declared.ActorId.{ActorId}
 use Rattle.pm_base.specs.declared.ActorId.TheVariants.{Caller, Work, Timer}
 use Rattle.pm_base.specs.declared.DevId.{DevId}
+use Rattle.pm_bits.specs.Marks.{is_marked}
 use Rattle.pm_model.specs.declared.event.Line.{Line}
 use Rattle.pm_model.specs.declared.plan.Plan.{Plan}
 use Rattle.pm_model.specs.declared.stage.ControlStage.TheVariants as control
@@ -26,8 +27,9 @@ use Rattle.pm_order.proofs.Telling.{all_shown, same_actor}
 use Rattle.pm_order.proofs.Touching.{only_touched}
 use Rattle.pm_stacks.proofs.Fitting.{stands_fit}
 use Rattle.pm_waking.specs.Wakes.{wakes}
-use Rattle.pm_turns.specs.Seats.{Asks, IsSeated, Seating, moment_by, seat_after}
-use Rattle.pm_turns.specs.Turning.{Index, IsIndex, Leads, Noted, Queue, TouchedAny, is_listed, is_near, no_queue, queue}
+use Rattle.pm_turns.specs.Seats.{Asks, IsSeated, Seating, moment_by, place_of, seat_after}
+use Rattle.pm_turns.specs.Turning.{Index, IsIndex, Leads, Noted, TouchedAny, is_listed, is_near, queue}
+use Rattle.pm_turns.proofs.QueueLemmas.{place_kept}
 use Rattle.pm_turns.proofs.IndexLemmas.{asks_then, seated_kept, stays_right}
 
 -- a device that is waited for is one of the plan's
@@ -50,18 +52,18 @@ waited_in plan h a d lawful told = go (place (world plan h) a) refl (all_shown p
         grind (arith, nat_tests)
 
 -- who is touched by a device is near it, where those who wait for it are listed
-near_of : (x : Index) (h : History) (a : ActorId) (d : DevId) → ((e : DevId) → told_wait a h ≡ Some e → is_listed a (queue x e).actors ≡ true) → touches d.0 h a ≡ true
+near_of : (x : Index) (h : History) (a : ActorId) (d : DevId) → ((e : DevId) → told_wait a h ≡ Some e → is_listed x e a ≡ true) → touches d.0 h a ≡ true
     → is_near x d a ≡ true
 near_of x h a d waiting touched = go (is_actor a (Work d.0)) (is_actor a (Timer d.0)) touched (listed (told_wait a h) refl)
   where
-    listed : (o : Option DevId) → told_wait a h ≡ o → option_map_or (λ y. nat_eq y.0 d.0) o false ≡ true → is_listed a (queue x d).actors ≡ true
+    listed : (o : Option DevId) → told_wait a h ≡ o → option_map_or (λ y. nat_eq y.0 d.0) o false ≡ true → is_listed x d a ≡ true
     listed None is hit = absurd (false≢true hit)
     listed (Some e) is hit =
         let same : e.0 ≡ d.0 = grind (arith, nat_tests) in
-        ap (λ n. let q : Queue = slice_index_or x.queues n no_queue in is_listed a q.actors) (sym same) ∙ waiting e is
+        ap (λ n. is_marked (slice_index_or x.queues n []) (place_of x.rows a)) (sym same) ∙ waiting e is
 
     go : (p q : Bool) → p || q || option_map_or (λ y. nat_eq y.0 d.0) (told_wait a h) false ≡ true
-        → (option_map_or (λ y. nat_eq y.0 d.0) (told_wait a h) false ≡ true → is_listed a (queue x d).actors ≡ true) → p || q || is_listed a (queue x d).actors ≡ true
+        → (option_map_or (λ y. nat_eq y.0 d.0) (told_wait a h) false ≡ true → is_listed x d a ≡ true) → p || q || is_listed x d a ≡ true
     go true q hit rest = refl
     go false true hit rest = refl
     go false false hit rest = rest hit
@@ -74,15 +76,15 @@ seat_is plan h s line callers = go line.actor
     go (Work d) = ap (λ n. n + d + 1) callers
     go (Timer d) = refl
 
--- what was done to an index x after a line: noted, its writer asked anew, and those near the device of its stage and near
--- the device of its event
+-- what was done to an index x after a line: noted, its writer asked anew, and all others near the device of its stage and
+-- near the device of its event
 pub record Done (wake : ActorId → Option ℕ) (line : Line) (s : Stage) (x x1 x2 x3 x4 : Index) (of : Option DevId) : Type 0 where
   pub noted : Noted x x1 line
   pub asks : Asks wake x1.rows x2.rows
   pub right : moment_by x2.rows line.actor ≡ wake line.actor
   pub queues : x2.queues ≡ x1.queues
-  pub at : TouchedAny wake x2 x3 (device_at s)
-  pub after : TouchedAny wake x3 x4 of
+  pub at : TouchedAny wake x2 x3 (device_at s) line.actor
+  pub after : TouchedAny wake x3 x4 of line.actor
   pub other : (of ≡ device_in line.event) ⊎ (device_in line.event ≡ device_at s)
 
 module _ (plan : Plan) (h : History) (line : Line) (lawful : IsLawful plan (line ∷ h)) (x x1 x2 x3 x4 : Index) (of : Option DevId)
@@ -108,11 +110,16 @@ module _ (plan : Plan) (h : History) (line : Line) (lawful : IsLawful plan (line
   in_3 : (a : ActorId) → IsSeated x4.rows a → IsSeated x3.rows a
   in_3 a seated = seated_kept x2.rows x3.rows a done.at.asks.callers done.at.asks.devices (in_2 a seated)
 
-  listed_1 : (a : ActorId) → is_actor a line.actor ≡ false → (d : DevId) → told_wait a h ≡ Some d → is_listed a (queue x1 d).actors ≡ true
-  listed_1 a other d told = done.noted.others a d other (is.waiting a d (omega (arith, waited_in plan h a d lawful.2 told, is.of_plan.devices)) told)
+  in_0 : (a : ActorId) → IsSeated x1.rows a → IsSeated x.rows a
+  in_0 a seated = seated_kept x1.rows x.rows a (sym callers_1) (sym devices_1) seated
 
-  from_1 : (y : Index) (a : ActorId) → y.queues ≡ x1.queues → (d : DevId) → is_listed a (queue x1 d).actors ≡ true → is_listed a (queue y d).actors ≡ true
-  from_1 y a same d listed = ap (λ (qs : List Queue). let q : Queue = slice_index_or qs d.0 no_queue in is_listed a q.actors) same ∙ listed
+  listed_1 : (a : ActorId) → IsSeated x1.rows a → is_actor a line.actor ≡ false → (d : DevId) → told_wait a h ≡ Some d → is_listed x1 d a ≡ true
+  listed_1 a seated other d told =
+      done.noted.others a d (in_0 a seated) other (is.waiting a d (in_0 a seated) (omega (arith, waited_in plan h a d lawful.2 told, is.of_plan.devices)) told)
+
+  from_1 : (y : Index) (a : ActorId) → y.queues ≡ x1.queues → y.rows.callers ≡ x1.rows.callers → y.rows.devices ≡ x1.rows.devices → (d : DevId) → is_listed x1 d a ≡ true → is_listed y d a ≡ true
+  from_1 y a same callers devices d listed =
+      ap (λ (qs : List (List Bool)). is_marked (slice_index_or qs d.0 []) (place_of y.rows a)) same ∙ ap (is_marked (queue x1 d)) (place_kept x1.rows y.rows a callers devices) ∙ listed
 
   queues_3 : x3.queues ≡ x1.queues
   queues_3 = done.at.queues ∙ done.queues
@@ -125,14 +132,14 @@ module _ (plan : Plan) (h : History) (line : Line) (lawful : IsLawful plan (line
   of_stage : (a : ActorId) → IsSeated x4.rows a → is_actor a line.actor ≡ false → (o : Option DevId) → device_at lawful.0.stage ≡ o → touches_any o h a ≡ true → moment_by x4.rows a ≡ wake a
   of_stage a seated other None at hit = absurd (false≢true hit)
   of_stage a seated other (Some d) at hit =
-      let near = near_of x2 h a d (λ e told. from_1 x2 a done.queues e (listed_1 a other e told)) hit in
-      stays_right wake x3.rows x4.rows a done.after.asks (in_3 a seated) (done.at.right d at a (in_2 a seated) near)
+      let near = near_of x2 h a d (λ e told. from_1 x2 a done.queues done.asks.callers done.asks.devices e (listed_1 a (in_1 a seated) other e told)) hit in
+      stays_right wake x3.rows x4.rows a done.after.asks (in_3 a seated) (done.at.right d at a (in_2 a seated) other near)
 
   of_event : (a : ActorId) → IsSeated x4.rows a → is_actor a line.actor ≡ false → (o : Option DevId) → of ≡ o → touches_any o h a ≡ true → moment_by x4.rows a ≡ wake a
   of_event a seated other None at hit = absurd (false≢true hit)
   of_event a seated other (Some d) at hit =
-      let near = near_of x3 h a d (λ e told. from_1 x3 a queues_3 e (listed_1 a other e told)) hit in
-      done.after.right d at a (in_3 a seated) near
+      let near = near_of x3 h a d (λ e told. from_1 x3 a queues_3 (done.at.asks.callers ∙ done.asks.callers) (done.at.asks.devices ∙ done.asks.devices) e (listed_1 a (in_1 a seated) other e told)) hit in
+      done.after.right d at a (in_3 a seated) other near
 
   untouched : (a : ActorId) → IsSeated x4.rows a → is_actor a line.actor ≡ false → touches_any (device_at lawful.0.stage) h a ≡ false → touches_any (device_in line.event) h a ≡ false
       → moment_by x4.rows a ≡ wake a
@@ -140,7 +147,7 @@ module _ (plan : Plan) (h : History) (line : Line) (lawful : IsLawful plan (line
       elim (all_asks.each a (in_1 a seated)) [
         | inl right ↦ right
         | inr same ↦
-            let before = is.moments a (seated_kept x1.rows x.rows a (sym callers_1) (sym devices_1) (in_1 a seated)) in
+            let before = is.moments a (in_0 a (in_1 a seated)) in
             same ∙ ap (λ s. moment_by s a) done.noted.rows ∙ before ∙ sym (only_touched plan h line lawful a other p q)
       ]
 
@@ -160,13 +167,12 @@ module _ (plan : Plan) (h : History) (line : Line) (lawful : IsLawful plan (line
       go false false true e f g = by_event e f g
       go false false false e f g = untouched a seated e f g
 
-  waits : (a : ActorId) (d : DevId) → d.0 < x4.rows.devices → told_wait a (line ∷ h) ≡ Some d → is_listed a (queue x4 d).actors ≡ true
-  waits a d within told = from_1 x4 a (done.after.queues ∙ queues_3) d (go (is_actor a line.actor) refl told)
+  waits : (a : ActorId) (d : DevId) → IsSeated x4.rows a → d.0 < x4.rows.devices → told_wait a (line ∷ h) ≡ Some d → is_listed x4 d a ≡ true
+  waits a d seated within told = from_1 x4 a (done.after.queues ∙ queues_3) all_asks.callers all_asks.devices d (go (is_actor a line.actor) refl told)
     where
-      go : (p : Bool) → is_actor a line.actor ≡ p → (if p then wait_in line.event else told_wait a h) ≡ Some d → is_listed a (queue x1 d).actors ≡ true
-      go true e told =
-          subst (λ b. is_listed b (queue x1 d).actors ≡ true) (sym (same_actor a line.actor e)) (done.noted.joined d told (omega (arith, within, all_asks.devices, devices_1)))
-      go false e told = listed_1 a e d told
+      go : (p : Bool) → is_actor a line.actor ≡ p → (if p then wait_in line.event else told_wait a h) ≡ Some d → is_listed x1 d a ≡ true
+      go true e told = subst (λ b. is_listed x1 d b ≡ true) (sym (same_actor a line.actor e)) (done.noted.joined d told (omega (arith, within, all_asks.devices, devices_1)))
+      go false e told = listed_1 a (in_1 a seated) e d told
 
   pub settled_index : IsIndex plan (line ∷ h) x4
   settled_index = record {

@@ -6,5 +6,6 @@ mod rows;
 mod settle;
 mod turns;
 mod waiting;
+mod waking;
 
 pub use turns::Turns;

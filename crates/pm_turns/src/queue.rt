@@ -1,113 +1,73 @@
 //! Those who wait for one device.
 
-ghost use Rattle.std.specs.Prelude.{◌≡◌, ◌<◌, ◌≤◌, ◌++◌, ◌∷◌, [], false, true, length, slice_get, IfSome, OnOk, Some};
-ghost use Rattle.pm_base.specs.declared.ActorId.{ActorId as AnActor};
-ghost use Rattle.pm_order.specs.Told.{is_actor};
-ghost use Rattle.pm_turns.specs.Turning.{is_listed};
+ghost use Rattle.std.specs.Prelude.{◌≡◌, ◌<◌, ◌≤◌, ◌^◌, false, true, length, replicate, slice_set, IfNone, IfOk, IfSome};
+ghost use Rattle.pm_bits.specs.Marks.{NoneMarked, is_marked};
 
-use pm_base::{ActorId, NoMemory};
+use pm_base::NoMemory;
+use pm_bits::Bits;
 use std::alloc::Global;
 use std::marker::Model;
 
-/// The actors that wait for one device.
+/// Who waits for one device. Contracts see a mark for each seat.
 #[derive(Drop)]
 pub struct Waiters {
-    actors: Vec<ActorId>,
+    seats: Bits,
+    // Whether anybody waits. Most often nobody does, and then no mark is looked at.
+    any: bool,
 }
 
 impl Model for Waiters {
-    ghost use Rattle.std.specs.Prelude.{◌-◌, vec_capacity, vec_len};
-    ghost use Rattle.pm_turns.specs.Turning.{Queue};
+    ghost use Rattle.std.specs.Prelude.{◌≡◌, Bool, List, false, length};
+    ghost use Rattle.pm_bits.specs.Marks.{NoneMarked};
 
-    ghost Value = { Queue };
+    ghost Value = { List Bool };
 
-    ghost view = { λ q. record { actors = q.actors.items; spare = vec_capacity q.actors - vec_len q.actors } };
-}
+    ghost view = { λ w. w.seats };
 
-// Whether it is the same actor.
-fn is_same(actor: ActorId, other: ActorId) -> bool
-    ensures { result ≡ is_actor actor other }
-{
-    match actor {
-        ActorId::Caller(caller) => match other {
-            ActorId::Caller(number) => caller == number,
-            _ => false,
-        },
-        ActorId::Work(device) => match other {
-            ActorId::Work(number) => device == number,
-            _ => false,
-        },
-        ActorId::Timer(device) => match other {
-            ActorId::Timer(number) => device == number,
-            _ => false,
-        },
-    }
-}
-
-// Where an actor is listed first.
-fn find(actors: &[ActorId], actor: ActorId) -> Option<usize>
-    ensures below { IfSome result (λ nth. nth < length actors.now) }
-    ensures is { IfSome result (λ nth. slice_get actors.now nth ≡ Some actor) }
-{
-    for nth in 0..actors.len() {
-        if is_same(actors[nth], actor) {
-            return Some(nth);
-        }
-    }
-    None
+    ghost invariant = { λ w. w.any ≡ false → NoneMarked w.seats 0 (length w.seats) };
 }
 
 impl Waiters {
-    /// Nobody waits.
-    pub fn none(alloc: Global) -> Waiters
-        ensures { result.actors ≡ [] }
+    /// Nobody waits at any of so many seats. All memory is taken here.
+    pub fn none(alloc: Global, seats: usize) -> Result<Waiters, NoMemory>
+        requires { seats < 2 ^ 32 }
+        ensures { IfOk result (λ waiters. waiters ≡ replicate seats false) }
     {
-        Waiters {
-            actors: Vec::new(alloc),
+        Ok(Waiters {
+            seats: Bits::new(alloc, seats)?,
+            any: false,
+        })
+    }
+
+    /// Who sits here waits.
+    pub fn join(&mut self, seat: usize)
+        requires { seat < length self.old }
+        ensures { self.new ≡ slice_set self.old seat true }
+    {
+        self.seats.put(seat);
+        self.any = true;
+    }
+
+    /// Who sits here doesn't wait any longer.
+    pub fn leave(&mut self, seat: usize)
+        requires { seat < length self.old }
+        ensures { self.new ≡ slice_set self.old seat false }
+    {
+        self.seats.remove(seat);
+        self.any = self.seats.first(0).is_some();
+    }
+
+    /// The first seat at or after this one of somebody who waits.
+    pub fn first(&self, from: usize) -> Option<usize>
+        requires { from ≤ length self.now }
+        ensures found { IfSome result (λ i. (from ≤ i) × (i < length self.now) × (is_marked self.now i ≡ true)) }
+        ensures first { IfSome result (λ i. NoneMarked self.now from i) }
+        ensures missing { IfNone result (NoneMarked self.now from (length self.now)) }
+    {
+        if self.any {
+            self.seats.first(from)
+        } else {
+            None
         }
-    }
-
-    /// Makes room for one more. After `NoMemory` nothing is changed.
-    pub fn make_room(&mut self) -> Result<(), NoMemory>
-        ensures actors { self.new.actors ≡ self.old.actors }
-        ensures room { OnOk result (1 ≤ self.new.spare) }
-    {
-        self.actors.reserve(1)?;
-        Ok(())
-    }
-
-    /// One more waits, for whom there is room.
-    pub fn join(&mut self, actor: ActorId)
-        requires { 1 ≤ self.old.spare }
-        ensures { self.new.actors ≡ self.old.actors ++ actor ∷ [] }
-    {
-        match self.actors.push(actor) {
-            Ok(()) => {}
-            Err(_) => unreachable!(),
-        }
-    }
-
-    /// An actor doesn't wait any longer.
-    pub fn leave(&mut self, actor: ActorId)
-        ensures spare { self.old.spare ≤ self.new.spare }
-        ensures others { (other : AnActor) → is_actor other actor ≡ false → is_listed other self.old.actors ≡ true → is_listed other self.new.actors ≡ true }
-    {
-        if let Some(nth) = find(&self.actors, actor) {
-            let _ = self.actors.remove(nth);
-        }
-    }
-
-    /// How many wait.
-    pub fn count(&self) -> usize
-        ensures { result ≡ length self.now.actors }
-    {
-        self.actors.len()
-    }
-
-    /// The one of several.
-    pub fn get(&self, nth: usize) -> Option<ActorId>
-        ensures { result ≡ slice_get self.now.actors nth }
-    {
-        self.actors.get(nth).copied()
     }
 }

@@ -65,8 +65,8 @@ impl Rows {
         self.devices
     }
 
-    // The seat of an actor.
-    fn place(&self, actor: ActorId) -> usize
+    /// The seat of an actor.
+    pub fn place(&self, actor: ActorId) -> usize
         requires { IsSeated self.now actor }
         ensures is { result ≡ place_of self.now actor }
         ensures below { result < self.now.callers + 2 * self.now.devices }
@@ -78,8 +78,8 @@ impl Rows {
         }
     }
 
-    // The actor at a seat.
-    fn actor_at(&self, place: usize) -> ActorId
+    /// The actor at a seat.
+    pub fn actor_at(&self, place: usize) -> ActorId
         requires { place < self.now.callers + 2 * self.now.devices }
         ensures is { result ≡ actor_at self.now.callers self.now.devices place }
         ensures seated { IsSeated self.now result }

@@ -1,12 +1,13 @@
 //! What a line changes of the turns.
 
-ghost use Rattle.std.specs.Prelude.{◌≡◌, ◌<◌, ◌^◌, ◌∷◌, ◌⊎◌, true, false, length, slice_get, IfSome, Some};
-ghost use Rattle.pm_base.specs.declared.ActorId.{ActorId as AnActor};
+ghost use Rattle.std.specs.Prelude.{◌≡◌, ◌+◌, ◌*◌, ◌<◌, ◌≤◌, ◌^◌, ◌∷◌, ◌⊎◌, false, IfNone, IfSome};
+ghost use Rattle.pm_bits.specs.Marks.{NoneMarked};
 ghost use Rattle.pm_model.specs.History.{History};
+ghost use Rattle.pm_order.specs.Told.{is_actor};
 ghost use Rattle.pm_state.specs.Standing.{AllStandWell, IsActor, IsOf};
 ghost use Rattle.pm_waking.specs.Wakes.{wakes};
-ghost use Rattle.pm_turns.specs.Seats.{Asks, IsSeated, moment_by};
-ghost use Rattle.pm_turns.specs.Turning.{AreOf, HasRoom, IsIndex, Leads, Looked, Touched, TouchedAny, queue};
+ghost use Rattle.pm_turns.specs.Seats.{Asks, IsSeated, actor_at, moment_by};
+ghost use Rattle.pm_turns.specs.Turning.{AreOf, IsIndex, Leads, Looked, Touched, TouchedAny, queue};
 
 use crate::turns::Turns;
 use crate::waiting::{device_at, device_in};
@@ -14,129 +15,148 @@ use pm_base::{ActorId, DevId};
 use pm_model::{Line, Plan, Stage};
 use pm_state::State;
 
-impl Turns {
-    // Whether an actor is one of so many callers and devices.
-    fn is_seated(&self, actor: ActorId) -> bool
-        ensures yes { result ≡ true → IsSeated self.now.rows actor }
-        ensures no { result ≡ false → IsSeated self.now.rows actor → ⊥ }
-    {
-        match actor {
-            ActorId::Caller(caller) => (caller as usize) < self.rows.callers(),
-            ActorId::Work(device) => (device as usize) < self.rows.devices(),
-            ActorId::Timer(device) => (device as usize) < self.rows.devices(),
-        }
+// Whether it is the same actor.
+fn is_same(actor: ActorId, other: ActorId) -> bool
+    ensures { result ≡ is_actor actor other }
+{
+    match actor {
+        ActorId::Caller(caller) => match other {
+            ActorId::Caller(number) => caller == number,
+            _ => false,
+        },
+        ActorId::Work(device) => match other {
+            ActorId::Work(number) => device == number,
+            _ => false,
+        },
+        ActorId::Timer(device) => match other {
+            ActorId::Timer(number) => device == number,
+            _ => false,
+        },
     }
+}
 
-    // How many wait for a device.
-    fn count(&self, dev: DevId) -> usize
-        ensures { result ≡ length (queue self.now dev).actors }
+impl Turns {
+    // The first seat at or after this one of somebody who is listed for a device.
+    #[tactic(auto, using(crate::proofs::QueueLemmas::none_in_nothing))]
+    fn waiter(&self, dev: DevId, from: usize) -> Option<usize>
+        requires { from ≤ self.now.rows.callers + 2 * self.now.rows.devices }
+        ensures found { IfSome result (λ i. (from ≤ i) × (i < self.now.rows.callers + 2 * self.now.rows.devices)) }
+        ensures first { IfSome result (λ i. NoneMarked (queue self.now dev) from i) }
+        ensures missing { IfNone result (NoneMarked (queue self.now dev) from (self.now.rows.callers + 2 * self.now.rows.devices)) }
     {
         match self.waiters.get(dev.0 as usize) {
-            Some(waiters) => waiters.count(),
-            None => 0,
-        }
-    }
-
-    // The actor that is listed for a device as this one of several, if it is one of the plan's.
-    fn waiter(&self, dev: DevId, nth: usize) -> Option<ActorId>
-        ensures found { IfSome result (IsSeated self.now.rows) }
-        ensures is { (a : AnActor) → slice_get (queue self.now dev).actors nth ≡ Some a → IsSeated self.now.rows a → result ≡ Some a }
-    {
-        let listed = match self.waiters.get(dev.0 as usize) {
-            Some(waiters) => waiters.get(nth),
+            Some(waiters) => waiters.first(from),
             None => None,
-        };
-        match listed {
-            Some(actor) if self.is_seated(actor) => Some(actor),
-            _ => None,
         }
     }
 
-    // Looks anew at the one of those who wait for a device.
-    #[tactic(auto, using(crate::proofs::IndexLemmas::asks_none))]
-    fn refresh_nth(&mut self, plan: &Plan, state: &State, dev: DevId, nth: usize)
+    // Looks anew at who sits here.
+    fn refresh_seat(&mut self, plan: &Plan, state: &State, seat: usize)
         requires is_of { IsOf plan.now state.now }
         requires stand { AllStandWell plan.now state.now.world }
         requires seats { AreOf plan.now self.old.rows }
+        requires in_range { seat < self.old.rows.callers + 2 * self.old.rows.devices }
         ensures asks { Asks (wakes plan.now state.now.world) self.old.rows self.new.rows }
+        ensures right { let actor = actor_at self.old.rows.callers self.old.rows.devices seat in moment_by self.new.rows actor ≡ wakes plan.now state.now.world actor }
         ensures queues { self.new.queues ≡ self.old.queues }
-        ensures right { (a : AnActor) → slice_get (queue self.old dev).actors nth ≡ Some a → IsSeated self.old.rows a → moment_by self.new.rows a ≡ wakes plan.now state.now.world a }
     {
-        let Some(waiter) = self.waiter(dev, nth) else {
-            return;
-        };
-        self.refresh(plan, state, waiter);
+        let actor = self.rows.actor_at(seat);
+        self.refresh(plan, state, actor);
     }
 
-    // Looks anew at those who wait for a device.
+    // Looks anew at those who wait for a device; mostly that is nobody.
     fn refresh_waiters(&mut self, plan: &Plan, state: &State, dev: DevId)
         requires is_of { IsOf plan.now state.now }
         requires stand { AllStandWell plan.now state.now.world }
         requires seats { AreOf plan.now self.old.rows }
-        ensures { Looked (wakes plan.now state.now.world) self.old self.new dev (length (queue self.old dev).actors) }
+        ensures { Looked (wakes plan.now state.now.world) self.old self.new dev (self.old.rows.callers + 2 * self.old.rows.devices) }
     {
-        for nth in 0..self.count(dev) {
-            self.refresh_nth(plan, state, dev, nth);
+        let mut from = 0;
+        while let Some(seat) = self.waiter(dev, from) {
+            self.refresh_seat(plan, state, seat);
+            from = seat + 1;
         }
     }
 
-    // Looks anew at the work item and the timer of a device.
+    // Looks anew at an actor, unless it is this one.
     #[tactic(auto, using(crate::proofs::IndexLemmas::asks_none))]
-    fn refresh_own(&mut self, plan: &Plan, state: &State, dev: DevId)
+    fn refresh_but(&mut self, plan: &Plan, state: &State, actor: ActorId, but: ActorId)
+        requires is_of { IsOf plan.now state.now }
+        requires stand { AllStandWell plan.now state.now.world }
+        requires seats { AreOf plan.now self.old.rows }
+        requires in_range { IsActor plan.now actor }
+        ensures asks { Asks (wakes plan.now state.now.world) self.old.rows self.new.rows }
+        ensures right { is_actor actor but ≡ false → moment_by self.new.rows actor ≡ wakes plan.now state.now.world actor }
+        ensures queues { self.new.queues ≡ self.old.queues }
+    {
+        if !is_same(actor, but) {
+            self.refresh(plan, state, actor);
+        }
+    }
+
+    // Looks anew at the work item and the timer of a device, but for this actor.
+    #[tactic(auto, using(crate::proofs::IndexLemmas::asks_none, crate::proofs::IndexLemmas::asks_then))]
+    fn refresh_own(&mut self, plan: &Plan, state: &State, dev: DevId, but: ActorId)
         requires is_of { IsOf plan.now state.now }
         requires stand { AllStandWell plan.now state.now.world }
         requires seats { AreOf plan.now self.old.rows }
         ensures asks { Asks (wakes plan.now state.now.world) self.old.rows self.new.rows }
         ensures queues { self.new.queues ≡ self.old.queues }
-        ensures work { IsSeated self.old.rows (ActorId.Work dev.0) → moment_by self.new.rows (ActorId.Work dev.0) ≡ wakes plan.now state.now.world (ActorId.Work dev.0) }
-        ensures timer { IsSeated self.old.rows (ActorId.Timer dev.0) → moment_by self.new.rows (ActorId.Timer dev.0) ≡ wakes plan.now state.now.world (ActorId.Timer dev.0) }
+        ensures work { IsSeated self.old.rows (ActorId.Work dev.0) → is_actor (ActorId.Work dev.0) but ≡ false → moment_by self.new.rows (ActorId.Work dev.0) ≡ wakes plan.now state.now.world (ActorId.Work dev.0) }
+        ensures timer { IsSeated self.old.rows (ActorId.Timer dev.0) → is_actor (ActorId.Timer dev.0) but ≡ false → moment_by self.new.rows (ActorId.Timer dev.0) ≡ wakes plan.now state.now.world (ActorId.Timer dev.0) }
     {
-        if !self.is_seated(ActorId::Work(dev.0)) {
+        if dev.0 as usize >= self.rows.devices() {
             return;
         }
-        self.refresh(plan, state, ActorId::Work(dev.0));
-        self.refresh(plan, state, ActorId::Timer(dev.0));
+        self.refresh_but(plan, state, ActorId::Work(dev.0), but);
+        self.refresh_but(plan, state, ActorId::Timer(dev.0), but);
     }
 
-    // Looks anew at all whose turn may depend on this device.
-    fn touch(&mut self, plan: &Plan, state: &State, dev: DevId)
+    // Looks anew at all whose turn may depend on this device, but for this actor.
+    fn touch(&mut self, plan: &Plan, state: &State, dev: DevId, but: ActorId)
         requires is_of { IsOf plan.now state.now }
         requires stand { AllStandWell plan.now state.now.world }
         requires seats { AreOf plan.now self.old.rows }
-        ensures { Touched (wakes plan.now state.now.world) self.old self.new dev }
+        ensures { Touched (wakes plan.now state.now.world) self.old self.new dev but }
     {
-        self.refresh_own(plan, state, dev);
+        self.refresh_own(plan, state, dev, but);
         self.refresh_waiters(plan, state, dev);
     }
 
-    // Looks anew at all whose turn may depend on this device, if it is one.
+    // Looks anew at all whose turn may depend on this device, if it is one, but for this actor.
     #[tactic(auto, using(crate::proofs::IndexLemmas::touched_none, crate::proofs::IndexLemmas::touched_some))]
-    fn touch_any(&mut self, plan: &Plan, state: &State, dev: Option<DevId>)
+    fn touch_any(&mut self, plan: &Plan, state: &State, dev: Option<DevId>, but: ActorId)
         requires is_of { IsOf plan.now state.now }
         requires stand { AllStandWell plan.now state.now.world }
         requires seats { AreOf plan.now self.old.rows }
-        ensures { TouchedAny (wakes plan.now state.now.world) self.old self.new dev }
+        ensures { TouchedAny (wakes plan.now state.now.world) self.old self.new dev but }
     {
         if let Some(dev) = dev {
-            self.touch(plan, state, dev);
+            self.touch(plan, state, dev, but);
         }
     }
 
-    /// Takes note of a line that was written at this stage and led to this state, for which there is room.
+    /// Takes note of a line that was written at this stage and led to this state. It takes no memory,
+    /// and looks anew at the line's writer, at the work item and the timer of the device of the stage
+    /// and of the device of the event, and at those who wait for these devices.
     pub fn settle(&mut self, plan: &Plan, state: &State, stage: Stage, line: &Line)
         requires is_of { IsOf plan.now state.now }
         requires stand { AllStandWell plan.now state.now.world }
         requires seats { AreOf plan.now self.old.rows }
         requires in_range { IsActor plan.now line.now.actor }
         requires in_time { line.now.time < 2 ^ 63 }
-        requires room { HasRoom self.old line.now.event }
         ensures { (h : History) → Leads plan.now h line.now stage state.now.world → IsIndex plan.now h self.old → IsIndex plan.now (line.now ∷ h) self.new }
     {
-        self.note(stage, line);
+        self.note(&stage, line);
         self.refresh(plan, state, line.actor);
         let at = device_at(stage);
-        self.touch_any(plan, state, at);
-        self.touch_any(plan, state, other_than(device_in(line.event), at));
+        self.touch_any(plan, state, at, line.actor);
+        self.touch_any(
+            plan,
+            state,
+            other_than(device_in(&line.event), at),
+            line.actor,
+        );
     }
 }
 

@@ -1,19 +1,20 @@
 //! The index of turns.
 
-ghost use Rattle.std.specs.Prelude.{◌≡◌, ◌+◌, ◌*◌, ◌<◌, ◌^◌, [], length, IfOk, IfSome};
+ghost use Rattle.std.specs.Prelude.{◌≡◌, ◌+◌, ◌*◌, ◌<◌, ◌^◌, [], false, length, replicate, IfOk, IfSome};
 ghost use Rattle.pm_model.specs.declared.plan.Plan.{Plan as APlan};
 ghost use Rattle.pm_model.specs.History.{History};
 ghost use Rattle.pm_model.specs.Serial.{next_turn};
 ghost use Rattle.pm_model.specs.World.{start};
-ghost use Rattle.pm_state.specs.Standing.{AllStandWell, IsActor, IsOf, StandsWell};
+ghost use Rattle.pm_state.specs.Standing.{AllStandWell, IsActor, IsOf};
 ghost use Rattle.pm_waking.specs.Wakes.{wakes};
 ghost use Rattle.pm_turns.specs.Seats.{Asks, IsSeated, moment_by};
-ghost use Rattle.pm_turns.specs.Turning.{AreOf, Called, IsIndex, wakes_by};
+ghost use Rattle.pm_turns.specs.Turning.{AreOf, Called, IsIndex};
 
 use crate::queue::Waiters;
 use crate::rows::Rows;
+use crate::waking::wakes;
 use pm_base::{ActorId, NoMemory};
-use pm_model::{Move, Plan};
+use pm_model::Plan;
 use pm_state::State;
 use std::alloc::Global;
 use std::marker::Model;
@@ -23,19 +24,18 @@ use std::marker::Model;
 #[derive(Drop)]
 pub struct Turns {
     pub(crate) rows: Rows,
-    // For each device the actors that wait for it.
+    // For each device who waits for it, by seat.
     pub(crate) waiters: Vec<Waiters>,
 }
 
 impl Model for Turns {
-    ghost use Rattle.std.specs.Prelude.{◌≡◌, length};
-    ghost use Rattle.pm_turns.specs.Turning.{Index};
+    ghost use Rattle.pm_turns.specs.Turning.{AreQueues, Index};
 
     ghost Value = { Index };
 
     ghost view = { λ t. record { rows = t.rows; queues = t.waiters.items } };
 
-    ghost invariant = { λ t. length t.waiters.items ≡ t.rows.devices };
+    ghost invariant = { λ t. AreQueues t.rows t.waiters.items };
 }
 
 /// A plan has no more actors than can be numbered.
@@ -45,38 +45,15 @@ pub fn few(plan: &Plan)
 {}
 
 // Nobody waits for any device.
-fn no_waiters(alloc: Global, devices: usize) -> Result<Vec<Waiters>, NoMemory>
-    ensures { IfOk result (λ v. length v.items ≡ devices) }
+fn no_waiters(alloc: Global, devices: usize, seats: usize) -> Result<Vec<Waiters>, NoMemory>
+    requires { seats < 2 ^ 32 }
+    ensures { IfOk result (λ v. v.items ≡ replicate devices (replicate seats false)) }
 {
     let mut waiters = Vec::with_capacity(alloc, devices)?;
     for _ in 0..devices {
-        waiters.push(Waiters::none(alloc))?;
+        waiters.push(Waiters::none(alloc, seats)?)?;
     }
     Ok(waiters)
-}
-
-// From when a line may be written, by what its actor may do at 0.
-fn waking(may: Move) -> Option<u64>
-    ensures { result ≡ wakes_by may }
-{
-    match may {
-        Move::Write(..) => Some(0),
-        Move::Late(at) => Some(at),
-        Move::Wait(_) => None,
-    }
-}
-
-// From when an actor may write, as things stand; `None` where it rests or waits.
-fn wakes(plan: &Plan, state: &State, actor: ActorId) -> Option<u64>
-    requires is_of { IsOf plan.now state.now }
-    requires in_range { IsActor plan.now actor }
-    requires stands { StandsWell plan.now state.now.world actor }
-    ensures { result ≡ wakes plan.now state.now.world actor }
-{
-    match state.stage_at(plan, actor) {
-        Some(stage) => waking(state.next(plan, stage, 0)),
-        None => None,
-    }
 }
 
 impl Turns {
@@ -106,8 +83,9 @@ impl Turns {
         }
     }
 
-    /// The turns before any line: only callers have something to start. All memory is taken here but
-    /// that for waiters.
+    /// The turns before any line: only callers have something to start. All memory is taken here, for
+    /// each device a bit for each actor among it. Fails where it runs out.
+    #[tactic(auto, using(crate::proofs::QueueLemmas::queues_none))]
     pub fn fresh(alloc: Global, plan: &Plan, state: &State) -> Result<Turns, NoMemory>
         requires is_of { IsOf plan.now state.now }
         requires start { state.now.world ≡ start plan.now }
@@ -115,10 +93,11 @@ impl Turns {
         ensures { IfOk result (IsIndex plan.now []) }
     {
         few(plan);
-        let mut turns = Turns {
-            rows: Rows::fresh(alloc, plan.callers.len(), plan.devices.len())?,
-            waiters: no_waiters(alloc, plan.devices.len())?,
-        };
+        let callers = plan.callers.len();
+        let devices = plan.devices.len();
+        let rows = Rows::fresh(alloc, callers, devices)?;
+        let waiters = no_waiters(alloc, devices, callers + 2 * devices)?;
+        let mut turns = Turns { rows, waiters };
         turns.refresh_callers(plan, state);
         Ok(turns)
     }

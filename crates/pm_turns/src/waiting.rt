@@ -1,28 +1,27 @@
 //! Who waits for which device after a line.
 
-ghost use Rattle.std.specs.Prelude.{◌≡◌, ◌<◌, ◌≤◌, ◌^◌, false, true, length, OnOk, Some};
-ghost use Rattle.pm_base.specs.declared.ActorId.{ActorId as AnActor};
+ghost use Rattle.std.specs.Prelude.{◌≡◌, ◌≢◌, ◌+◌, ◌*◌, ◌<◌, ◌^◌, ℕ, false, true, slice_set, Some};
 ghost use Rattle.pm_base.specs.declared.DevId.{DevId as ADevice};
-ghost use Rattle.pm_model.specs.declared.event.Event.{Event as AnEvent};
+ghost use Rattle.pm_bits.specs.Marks.{is_marked};
 ghost use Rattle.pm_order.specs.Looks.{device_at, device_in, waits_at};
-ghost use Rattle.pm_order.specs.Told.{is_actor, wait_in};
+ghost use Rattle.pm_order.specs.Told.{wait_in};
 ghost use Rattle.pm_turns.specs.Seats.{IsSeated, seat_after};
-ghost use Rattle.pm_turns.specs.Turning.{HasRoom, Noted, is_listed, queue};
+ghost use Rattle.pm_turns.specs.Turning.{Noted, queue};
 
 use crate::turns::Turns;
-use pm_base::{ActorId, DevId, NoMemory};
+use pm_base::DevId;
 use pm_model::{ControlStage, Event, HelperStage, Line, ResumeStage, Stage, SuspendStage};
 use pm_state::device_of;
 
 // The device that is waited for at a stage after a wait line.
-fn waits_at(stage: Stage) -> Option<DevId>
-    ensures { result ≡ waits_at stage }
+fn waits_at(stage: &Stage) -> Option<DevId>
+    ensures { result ≡ waits_at stage.now }
 {
     match stage {
-        Stage::Suspend(SuspendStage::Waiting { dev, .. }) => Some(dev),
+        Stage::Suspend(SuspendStage::Waiting { dev, .. }) => Some(*dev),
         Stage::Resume(ResumeStage::Waiting { call, .. }) => Some(call.dev),
-        Stage::Control(ControlStage::Disabled { dev }) => Some(dev),
-        Stage::Control(ControlStage::BarrierWait { dev, .. }) => Some(dev),
+        Stage::Control(ControlStage::Disabled { dev }) => Some(*dev),
+        Stage::Control(ControlStage::BarrierWait { dev, .. }) => Some(*dev),
         _ => None,
     }
 }
@@ -38,8 +37,8 @@ pub(crate) fn device_at(stage: Stage) -> Option<DevId>
 }
 
 // The device that a line's event speaks of; a call line only names one.
-pub(crate) fn device_in(event: Event) -> Option<DevId>
-    ensures { result ≡ device_in event }
+pub(crate) fn device_in(event: &Event) -> Option<DevId>
+    ensures { result ≡ device_in event.now }
 {
     match event {
         Event::Call { .. } => None,
@@ -57,59 +56,55 @@ pub(crate) fn device_in(event: Event) -> Option<DevId>
         | Event::End { dev, .. }
         | Event::Domain { dev, .. }
         | Event::Work { dev, .. }
-        | Event::Timer { dev, .. } => Some(dev),
+        | Event::Timer { dev, .. } => Some(*dev),
     }
 }
 
 impl Turns {
-    // An actor doesn't wait for the device any longer.
-    #[tactic(auto, using(crate::proofs::IndexLemmas::set_listed, crate::proofs::IndexLemmas::set_spare))]
-    fn leave(&mut self, dev: DevId, actor: ActorId)
-        ensures rows { self.new.rows ≡ self.old.rows }
-        ensures others { (a : AnActor) (d : ADevice) → is_actor a actor ≡ false → is_listed a (queue self.old d).actors ≡ true → is_listed a (queue self.new d).actors ≡ true }
-        ensures room { (d : ADevice) → (queue self.old d).spare ≤ (queue self.new d).spare }
-        ensures len { length self.new.queues ≡ length self.old.queues }
+    // Who sits here doesn't wait for the device any longer.
+    fn leave(&mut self, dev: DevId, seat: usize)
+        requires { seat < self.old.rows.callers + 2 * self.old.rows.devices }
+        ensures { self.new ≡ record self.old { queues = slice_set self.old.queues dev.0 (slice_set (queue self.old dev) seat false) } }
     {
         let place = dev.0 as usize;
         if place < self.waiters.len() {
-            self.waiters[place].leave(actor);
+            self.waiters[place].leave(seat);
         }
     }
 
-    // An actor waits for the device from now on, where there is room.
-    #[tactic(auto, using(crate::proofs::IndexLemmas::set_listed, crate::proofs::IndexLemmas::set_joined, crate::proofs::IndexLemmas::joined_kept))]
-    fn join(&mut self, dev: DevId, actor: ActorId)
-        requires { dev.0 < length self.old.queues → 1 ≤ (queue self.old dev).spare }
-        ensures rows { self.new.rows ≡ self.old.rows }
-        ensures others { (a : AnActor) (d : ADevice) → is_listed a (queue self.old d).actors ≡ true → is_listed a (queue self.new d).actors ≡ true }
-        ensures joined { dev.0 < self.old.rows.devices → is_listed actor (queue self.new dev).actors ≡ true }
+    // Who sits here waits for the device from now on.
+    #[tactic(auto, using(crate::proofs::QueueLemmas::mark_set))]
+    fn join(&mut self, dev: DevId, seat: usize)
+        requires { seat < self.old.rows.callers + 2 * self.old.rows.devices }
+        ensures marked { dev.0 < self.old.rows.devices → is_marked (queue self.new dev) seat ≡ true }
+        ensures queues { self.new ≡ record self.old { queues = slice_set self.old.queues dev.0 (slice_set (queue self.old dev) seat true) } }
     {
         let place = dev.0 as usize;
         if place < self.waiters.len() {
-            self.waiters[place].join(actor);
+            self.waiters[place].join(seat);
         }
     }
 
-    // The actor of a line at this stage doesn't wait any longer.
-    fn leave_at(&mut self, stage: Stage, actor: ActorId)
+    // Who sits here has written a line at this stage, and doesn't wait any longer.
+    fn leave_at(&mut self, stage: &Stage, seat: usize)
+        requires { seat < self.old.rows.callers + 2 * self.old.rows.devices }
         ensures rows { self.new.rows ≡ self.old.rows }
-        ensures others { (a : AnActor) (d : ADevice) → is_actor a actor ≡ false → is_listed a (queue self.old d).actors ≡ true → is_listed a (queue self.new d).actors ≡ true }
-        ensures room { (event : AnEvent) → HasRoom self.old event → HasRoom self.new event }
+        ensures others { (d : ADevice) (i : ℕ) → i ≢ seat → is_marked (queue self.old d) i ≡ true → is_marked (queue self.new d) i ≡ true }
     {
         if let Some(dev) = waits_at(stage) {
-            self.leave(dev, actor);
+            self.leave(dev, seat);
         }
     }
 
-    // The actor of a line with this event waits from now on, where it is a wait line.
-    fn join_in(&mut self, event: Event, actor: ActorId)
-        requires { HasRoom self.old event }
+    // Who sits here has written a line with this event, and waits from now on where it is a wait line.
+    fn join_in(&mut self, event: &Event, seat: usize)
+        requires { seat < self.old.rows.callers + 2 * self.old.rows.devices }
         ensures rows { self.new.rows ≡ self.old.rows }
-        ensures others { (a : AnActor) (d : ADevice) → is_listed a (queue self.old d).actors ≡ true → is_listed a (queue self.new d).actors ≡ true }
-        ensures joined { (d : ADevice) → wait_in event ≡ Some d → d.0 < self.old.rows.devices → is_listed actor (queue self.new d).actors ≡ true }
+        ensures others { (d : ADevice) (i : ℕ) → is_marked (queue self.old d) i ≡ true → is_marked (queue self.new d) i ≡ true }
+        ensures joined { (d : ADevice) → wait_in event.now ≡ Some d → d.0 < self.old.rows.devices → is_marked (queue self.new d) seat ≡ true }
     {
         if let Event::Wait { dev } = event {
-            self.join(dev, actor);
+            self.join(*dev, seat);
         }
     }
 
@@ -123,30 +118,14 @@ impl Turns {
     }
 
     // Takes note of a line that was written at this stage.
-    pub(crate) fn note(&mut self, stage: Stage, line: &Line)
+    pub(crate) fn note(&mut self, stage: &Stage, line: &Line)
         requires seated { IsSeated self.old.rows line.now.actor }
         requires in_time { line.now.time < 2 ^ 63 }
-        requires room { HasRoom self.old line.now.event }
         ensures { Noted self.old self.new line.now }
     {
-        self.leave_at(stage, line.actor);
-        self.join_in(line.event, line.actor);
+        let seat = self.rows.place(line.actor);
+        self.leave_at(stage, seat);
+        self.join_in(&line.event, seat);
         self.write_down(line);
-    }
-
-    /// Takes the memory that a line with this event needs here. After `NoMemory` nothing is changed.
-    #[tactic(auto, using(crate::proofs::IndexLemmas::set_listed))]
-    pub fn reserve(&mut self, event: Event) -> Result<(), NoMemory>
-        ensures rows { self.new.rows ≡ self.old.rows }
-        ensures others { (a : AnActor) (d : ADevice) → is_listed a (queue self.old d).actors ≡ true → is_listed a (queue self.new d).actors ≡ true }
-        ensures room { OnOk result (HasRoom self.new event) }
-    {
-        if let Event::Wait { dev } = event {
-            let place = dev.0 as usize;
-            if place < self.waiters.len() {
-                self.waiters[place].make_room()?;
-            }
-        }
-        Ok(())
     }
 }

@@ -1,6 +1,6 @@
-use Rattle.std.proofs.Common.{◌≡◌, length}
+use Rattle.std.proofs.Common.{◌≡◌, false, replicate}
 use Rattle.pm_turns.proofs.turns.no_waiters.Given as goal
 
--- one list for each device so far
+-- one for each device so far
 abbrev pub invariant-loop : goal.invariant-loop
-invariant-loop l = length l.waiters.items ≡ l.counter
+invariant-loop l = l.waiters.items ≡ replicate l.counter (replicate l.seats false)

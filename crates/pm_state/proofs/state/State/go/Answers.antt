@@ -14,6 +14,6 @@ apply-requires-clause-fits c =
     let w = c.args.self.now.world in
     let views_of : Standing → Views = λ s. s.world.views in
     let kept : c.self.inside.parts.views ≡ w.views =
-    ap views_of c.self.view_is ∙ ap views_of c.count_call.ensures ∙ ap views_of c.in_ok-give_way.ensures.ok
-    ∙ with_place_views w line.actor (after_then c.args.then (drop 1 (place w line.actor))) in
+    ap views_of c.self.view_is ∙ ap views_of c.count_call.ensures ∙ ap views_of c.give_way.ensures
+    ∙ with_place_views w line.actor (after_then c.args.then.now (drop 1 (place w line.actor))) in
     subst (λ v. can_take plan v c.args.change line.event ≡ true) (sym kept) c.requires.takes.counters

@@ -9,8 +9,8 @@ use Rattle.pm_turns.proofs.turns.Turns.settle.Goals as goal
 pub returns : goal.returns
 returns c = λ h leads is.
     let wake = wakes c.args.plan.now c.args.state.now.world in
-    let at : TouchedAny wake c.refresh.new.self c.touch_any.new.self (device_at c.args.stage) =
-    subst (λ (o : Option DevId). TouchedAny wake c.refresh.new.self c.touch_any.new.self o) c.device_at-at.ensures c.touch_any.ensures in
+    let at : TouchedAny wake c.refresh.new.self c.touch_any.new.self (device_at c.args.stage) c.args.line.now.actor =
+    subst (λ (o : Option DevId). TouchedAny wake c.refresh.new.self c.touch_any.new.self o c.args.line.now.actor) c.device_at-at.ensures c.touch_any.ensures in
     let by_event : (c.other_than.result ≡ device_in c.args.line.now.event) ⊎ (device_in c.args.line.now.event ≡ c.device_at-at.result) =
     subst (λ (o : Option DevId). (c.other_than.result ≡ o) ⊎ (o ≡ c.device_at-at.result)) c.device_in.ensures c.other_than.ensures in
     let other : (c.other_than.result ≡ device_in c.args.line.now.event) ⊎ (device_in c.args.line.now.event ≡ device_at c.args.stage) =
