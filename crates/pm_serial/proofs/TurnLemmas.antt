@@ -26,9 +26,8 @@ use Rattle.pm_model.specs.Views.{Views}
 use Rattle.pm_model.specs.World.{due, move, stage_at, world}
 use Rattle.pm_idling.specs.Blocks.{blocks}
 use Rattle.pm_model.proofs.SerialLemmas.{permits_next}
-use Rattle.pm_state.specs.declared.acting.Turn.TheVariants as turn
 use Rattle.pm_state.specs.Standing.{IsActor}
-use Rattle.pm_state.specs.Turns.{by_move, by_running, by_stage, end_due, is_running, running_due, runs_at, turn_of}
+use Rattle.pm_state.specs.Turns.{end_due, is_running, running_due, runs_at}
 use Rattle.pm_waking.specs.Wakes.{first_awake, is_within, or_least, turn_by, wakes, wakes_at}
 use Rattle.pm_waking.proofs.Turning.{next_is, turn_awake}
 use Rattle.pm_waking.proofs.Waking.{actor_timed}
@@ -36,7 +35,7 @@ use Rattle.pm_book.specs.declared.steps.EndStep.{EndStep}
 use Rattle.pm_book.specs.declared.steps.EndStep.TheVariants as end
 use Rattle.pm_book.specs.declared.steps.Step.{Step}
 use Rattle.pm_book.specs.declared.steps.Step.TheVariants as step
-use Rattle.pm_book.specs.Pages.{Adds, Pages, end_answer, end_by, has_written, is_full, moment_from, step_answer, step_by, world_of}
+use Rattle.pm_book.specs.Pages.{Adds, Pages, by_move, by_running, by_stage, end_answer, end_by, has_written, is_full, moment_from, step_answer, world_of, written as answer_to}
 use Rattle.pm_serial.specs.Ends.{HasTime, IsTurn, Writes}
 use Rattle.pm_serial.proofs.WholeLemmas.{has_room}
 
@@ -145,24 +144,24 @@ none_is p (Some turn) is ends = tt
 
 -- a step of whose turn it is writes its line
 writes_at : (plan : Plan) (v : Views) (t : ℕ) (o : Option Stage) (e : Event) (c : Change) (next : Then) → option_and_then (λ s. move plan v s t) o ≡ Some (Write e c next) → runs_at plan o ≡ false
-    → has_written (step_by v (by_stage plan v t o)) ≡ true
+    → has_written (by_stage plan v t o) ≡ true
 writes_at plan v t None e c next gives rests = cc gives
 writes_at plan v t (Some s) e c next gives rests = go (running_due plan s) rests
   where
-    wrote : (e : Event) → has_written (step_by v (turn.Writes s e c next)) ≡ true
+    wrote : (e : Event) → has_written (answer_to v e) ≡ true
     wrote (event.Begin d k) = refl
     wrote _ = refl
 
-    go : (o : Option ℕ) → is_some o ≡ false → has_written (step_by v (by_running o (by_move s (move plan v s t)))) ≡ true
+    go : (o : Option ℕ) → is_some o ≡ false → has_written (by_running o (by_move v (move plan v s t))) ≡ true
     go (Some at) rests = absurd (false≢true (sym rests))
-    go None rests = ap (λ m. has_written (step_by v (by_move s m))) gives ∙ wrote e
+    go None rests = ap (λ m. has_written (by_move v m)) gives ∙ wrote e
 
 step_wrote : (p : Pages) (a : ActorId) (now : ℕ) → next_turn p.plan p.lines ≡ Some (a, now) → is_full p ≡ false → is_running p.plan (world_of p) a ≡ false → moment_from p.lines now ≡ now
     → has_written (step_answer p a now) ≡ true
 step_wrote p a now is free rests at =
     let n = turn_writes p.plan p.lines (a, now) is in
-    ap (λ b. has_written (if b then step.AtLimit else step_by (world_of p).views (turn_of p.plan (world_of p) a (moment_from p.lines now)))) free
-    ∙ ap (λ t. has_written (step_by (world_of p).views (turn_of p.plan (world_of p) a t))) at
+    ap (λ b. has_written (if b then step.AtLimit else by_stage p.plan (world_of p).views (moment_from p.lines now) (stage_at p.plan (world_of p) a))) free
+    ∙ ap (λ t. has_written (by_stage p.plan (world_of p).views t (stage_at p.plan (world_of p) a))) at
     ∙ writes_at p.plan (world_of p).views now (stage_at p.plan (world_of p) a) n.event n.change n.next n.gives rests
 
 -- and so does the end of its callback
@@ -199,8 +198,7 @@ adds_next old new a now is at adds =
       line = line;
       next = line_next old.plan old.lines (line.actor, line.time) its (record { event = line.event; change = p.change; next = p.next; gives = gives });
       soon = let soon = is.soon in omega (arith, soon, at, adds.time_is);
-      plan_is = ap (λ (q : Pages). q.plan) adds.added;
-      lines_are = ap (λ (q : Pages). q.lines) adds.added;
+      added = adds.added;
     }
 
 pub step_writes : (old new : Pages) (a : ActorId) (now : ℕ) (answer : Step) → IsTurn old a now → is_full old ≡ false → HasTime old.plan old.lines → is_running old.plan (world_of old) a ≡ false

@@ -15,7 +15,7 @@ use Rattle.pm_model.specs.World.{world}
 use Rattle.pm_book.specs.Pages.{Pages, is_full}
 use Rattle.pm_serial.specs.declared.running.End.{End}
 use Rattle.pm_serial.specs.declared.running.End.TheVariants as end
-use Rattle.pm_serial.specs.Ends.{GoesOn, HasTime, IsEnd, IsSerialEnd, Writes, whole}
+use Rattle.pm_serial.specs.Ends.{GoesOn, HasMemory, HasTime, IsEnd, IsSerialEnd, Writes, whole}
 
 pub has_room : (p : Pages) → is_full p ≡ false → length p.lines < p.plan.lines
 has_room p free = grind (arith, nat_tests)
@@ -65,11 +65,11 @@ goes_one old new free in_time wrote =
     let room = has_room old free in
     let less = time_less (last_time old.lines) line.time (length old.lines) old.plan.lines wrote.soon room in_time in
     record {
-      plan_is = wrote.plan_is;
+      plan_is = wrote.added.plan;
       more = line ∷ [];
-      lines_are = wrote.lines_are;
-      whole_is = on_pages (λ q l. whole q l ≡ whole old.plan old.lines) new old.plan (line ∷ old.lines) wrote.plan_is wrote.lines_are (whole_one old.plan old.lines line room wrote.next);
-      in_time = on_pages HasTime new old.plan (line ∷ old.lines) wrote.plan_is wrote.lines_are less;
+      lines_are = wrote.added.lines;
+      whole_is = on_pages (λ q l. whole q l ≡ whole old.plan old.lines) new old.plan (line ∷ old.lines) wrote.added.plan wrote.added.lines (whole_one old.plan old.lines line room wrote.next);
+      in_time = on_pages HasTime new old.plan (line ∷ old.lines) wrote.added.plan wrote.added.lines less;
     }
 
 pub goes_further : (a b c : Pages) → GoesOn a b → GoesOn b c → GoesOn a c
@@ -88,9 +88,20 @@ writes_further a b c first free wrote = goes_further a b c first (goes_one b c f
 pub writes_nearer : (old new : Pages) → is_full old ≡ false → Writes old new → new.plan.lines - length new.lines < old.plan.lines - length old.lines
 writes_nearer old new free wrote =
     let room = has_room old free in
-    let most : new.plan.lines ≡ old.plan.lines = ap (λ (q : Plan). q.lines) wrote.plan_is in
-    let more : length new.lines ≡ suc (length old.lines) = ap (λ (l : List Line). length l) wrote.lines_are in
+    let most : new.plan.lines ≡ old.plan.lines = ap (λ (q : Plan). q.lines) wrote.added.plan in
+    let more : length new.lines ≡ suc (length old.lines) = ap (λ (l : List Line). length l) wrote.added.lines in
     omega (arith, room, most, more)
+
+-- where memory is kept for all lines there is some for the next one, and after it for all others
+pub spare_next : (p : Pages) → HasMemory p → is_full p ≡ false → 0 < p.spare
+spare_next p memory free = let room = has_room p free in omega (arith, room, memory)
+
+pub keeps_memory : (old new : Pages) → HasMemory old → Writes old new → HasMemory new
+keeps_memory old new memory wrote =
+    let most : new.plan.lines ≡ old.plan.lines = ap (λ (q : Plan). q.lines) wrote.added.plan in
+    let more : length new.lines ≡ suc (length old.lines) = ap (λ (l : List Line). length l) wrote.added.lines in
+    let spare = wrote.added.spare in
+    omega (arith, memory, most, more, spare)
 
 -- where it goes no further
 nowhere : (plan : Plan) (n : ℕ) (h : History) → next_line plan h ≡ None → goes_on plan n h ≡ h

@@ -1,5 +1,5 @@
 -- How a run on one thread goes on and ends (this project's own).
-use Rattle.std.specs.Prelude.{◌≡◌, ◌+◌, ◌++◌, ◌*◌, ◌-◌, ◌≤◌, ◌^◌, ℕ, false, true, List, ◌∷◌, Some, length, reverse}
+use Rattle.std.specs.Prelude.{◌≡◌, ◌+◌, ◌++◌, ◌*◌, ◌-◌, ◌≤◌, ◌^◌, ℕ, false, true, List, Some, length, reverse}
 use Rattle.pm_base.specs.declared.ActorId.{ActorId}
 use Rattle.pm_model.specs.declared.event.Line.{Line}
 use Rattle.pm_model.specs.declared.plan.Plan.{Plan}
@@ -8,7 +8,7 @@ use Rattle.pm_model.specs.Lawful.{IsFinished, is_finished, last_time}
 use Rattle.pm_model.specs.Serial.{goes_on, next_line, next_turn, serial}
 use Rattle.pm_model.specs.World.{world}
 use Rattle.pm_state.specs.Standing.{IsActor}
-use Rattle.pm_book.specs.Pages.{Pages, is_full, world_of}
+use Rattle.pm_book.specs.Pages.{Longer, Pages, is_full, world_of}
 use Rattle.pm_serial.specs.declared.running.End.{End}
 use Rattle.pm_serial.specs.declared.running.End.TheVariants as end
 
@@ -20,6 +20,10 @@ whole plan h = goes_on plan (plan.lines - length h) h
 -- the one before it
 abbrev pub HasTime : Plan → History → Type 0
 HasTime plan h = last_time h + 1000000 * (plan.lines - length h) ≤ 2 ^ 62
+
+-- all the lines that the plan still allows can be written without taking memory
+abbrev pub HasMemory : Pages → Type 0
+HasMemory p = p.plan.lines - length p.lines ≤ p.spare
 
 -- some lines more, the newest first, on the way to the same whole run, and there is time for the rest of it
 pub record GoesOn (old new : Pages) : Type 0 where
@@ -51,5 +55,4 @@ pub record Writes (old new : Pages) : Type 0 where
   pub line : Line
   pub next : next_line old.plan old.lines ≡ Some line
   pub soon : line.time ≤ last_time old.lines + 1000000
-  pub plan_is : new.plan ≡ old.plan
-  pub lines_are : new.lines ≡ line ∷ old.lines
+  pub added : Longer old new line

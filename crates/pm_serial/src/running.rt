@@ -1,11 +1,11 @@
 //! Draining a book.
 
-ghost use Rattle.std.specs.Prelude.{◌≡◌, [], false, reverse, IfNone, IfOk, IfSome, OnErr, OnOk};
+ghost use Rattle.std.specs.Prelude.{◌≡◌, ◌<◌, [], false, reverse, IfNone, IfOk, IfSome, IsOk, OnErr, OnOk};
 ghost use Rattle.pm_book.specs.Pages.{is_full};
 ghost use Rattle.pm_model.specs.declared.plan.Plan.{Plan};
 ghost use Rattle.pm_model.specs.Lawful.{IsFinished};
 ghost use Rattle.pm_model.specs.Serial.{serial};
-ghost use Rattle.pm_serial.specs.Ends.{GoesOn, HasTime, IsEnd, IsSerialEnd, IsTurn, Writes, whole};
+ghost use Rattle.pm_serial.specs.Ends.{GoesOn, HasMemory, HasTime, IsEnd, IsSerialEnd, IsTurn, Writes, whole};
 
 use pm_base::{ActorId, NoMemory};
 use pm_book::Book;
@@ -38,6 +38,7 @@ fn write(book: &mut Book, actor: ActorId, now: u64) -> Result<(), NoMemory>
     requires room { is_full book.old ≡ false }
     requires in_time { HasTime book.old.plan book.old.lines }
     ensures ok { OnOk result (Writes book.old book.new) }
+    ensures memory { 0 < book.old.spare → IsOk result }
     ensures err { OnErr result (GoesOn book.old book.new) }
 {
     if book.running(actor) {
@@ -62,7 +63,8 @@ pub fn fresh_books_have_time()
 /// The time of the last line, in milliseconds of the run, and 1,000,000 for each line that the plan
 /// still allows are together at most 2^62, as they are for a book without lines.
 ///
-/// After `NoMemory` the book holds the lines written so far, and this may be called again.
+/// After `NoMemory` the book holds the lines written so far, and this may be called again. It comes only
+/// where the book has no memory for all the lines that the plan still allows.
 pub fn drain(book: &mut Book) -> Result<End, NoMemory>
     requires { HasTime book.old.plan book.old.lines }
     ensures goes_on { GoesOn book.old book.new }
@@ -71,6 +73,7 @@ pub fn drain(book: &mut Book) -> Result<End, NoMemory>
     ensures serial { book.old.lines ≡ []
         → IfOk result (λ _. reverse book.new.lines ≡ serial book.old.plan) }
     ensures serial_end { book.old.lines ≡ [] → IfOk result (IsSerialEnd book.old.plan) }
+    ensures memory { HasMemory book.old → IsOk result }
 {
     serial_stops();
     serial_ends();
