@@ -6,7 +6,7 @@ use crate::inspecting::inspect;
 use pm_base::DevId;
 use pm_book::Book;
 use pm_planread::read_plan;
-use pm_serial::drain;
+use pm_serial::{drain, fresh_books_have_time};
 use std::alloc::{AllocError, Global};
 use std::test::Fail;
 
@@ -195,6 +195,7 @@ fn book_after(alloc: Global, cut: &Cut) -> Result<Book, Fail> {
         Ok(book) => book,
         Err((_plan, error)) => return Err(Fail::from(error)),
     };
+    fresh_books_have_time();
     drain(&mut book)?;
     Ok(book)
 }

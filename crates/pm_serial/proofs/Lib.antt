@@ -1,2 +1,2 @@
-pub mod EndLemmas
 pub mod TurnLemmas
+pub mod WholeLemmas

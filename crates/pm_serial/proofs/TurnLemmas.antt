@@ -1,12 +1,12 @@
 -- Whose turn it is writes its line, at the moment of its turn.
-use Rattle.std.proofs.Common.{◌≡◌, ◌∙◌, ◌+◌, ◌*◌, ◌≤◌, ℕ, Bool, true, false, List, [], ◌∷◌, Option, Some, None, Result, Ok, Err, IfOk, is_some, length, min, nat_le, nat_lt, option_map, unwrap_or, if◌then◌else◌, ap, arith, inr, refl, sym}
+use Rattle.std.proofs.Common.{◌≡◌, ◌∙◌, ◌+◌, ◌*◌, ◌-◌, ◌<◌, ◌≤◌, ◌^◌, ℕ, Bool, true, false, List, [], ◌∷◌, Option, Some, None, is_some, length, max, min, nat_le, nat_lt, option_map, unwrap_or, if◌then◌else◌, ap, arith, refl, sym}
+use Rattle.std.specs.Prelude.{IfNone, IfSome}
 use Rattle.std.specs.List.{cons_option, filter_map}
 use Rattle.std.specs.Option.{option_and_then, option_map_or}
-use Rattle.std.proofs.lemmas.Bool.{false≢true}
+use Rattle.std.proofs.lemmas.Bool.{false_from_ne_true, false≢true}
 use Rattle.std.proofs.lemmas.Bool.Decides.{nat_tests}
 use Rattle.std.proofs.lemmas.Option.{same_Some}
 use Rattle.pm_base.specs.declared.ActorId.{ActorId}
-use Rattle.pm_base.specs.declared.limits.TheConstants.{MAX_LINES}
 use Rattle.pm_model.specs.declared.event.Event.{Event}
 use Rattle.pm_model.specs.declared.event.Event.TheVariants as event
 use Rattle.pm_model.specs.declared.plan.Plan.{Plan}
@@ -20,21 +20,24 @@ use Rattle.pm_model.specs.declared.stage.Stage.TheVariants as stage
 use Rattle.pm_model.specs.declared.stage.SuspendStage.TheVariants as suspend
 use Rattle.pm_model.specs.declared.stage.Then.{Then}
 use Rattle.pm_model.specs.History.{History}
-use Rattle.pm_model.specs.Lawful.{last_time}
+use Rattle.pm_model.specs.Lawful.{IsFinished, last_time}
 use Rattle.pm_model.specs.Serial.{least, move_at, next_line, next_turn, round, writes_line, written}
 use Rattle.pm_model.specs.Views.{Views}
 use Rattle.pm_model.specs.World.{due, move, stage_at, world}
 use Rattle.pm_idling.specs.Blocks.{blocks}
 use Rattle.pm_model.proofs.SerialLemmas.{permits_next}
-use Rattle.pm_state.specs.declared.acting.Turn.TheVariants as turn
-use Rattle.pm_state.specs.Turns.{by_move, by_running, by_stage, end_due, is_running, running_due, runs_at, turn_of}
+use Rattle.pm_state.specs.Standing.{IsActor}
+use Rattle.pm_state.specs.Turns.{end_due, is_running, running_due, runs_at}
 use Rattle.pm_waking.specs.Wakes.{first_awake, is_within, or_least, turn_by, wakes, wakes_at}
 use Rattle.pm_waking.proofs.Turning.{next_is, turn_awake}
 use Rattle.pm_waking.proofs.Waking.{actor_timed}
+use Rattle.pm_book.specs.declared.steps.EndStep.{EndStep}
 use Rattle.pm_book.specs.declared.steps.EndStep.TheVariants as end
+use Rattle.pm_book.specs.declared.steps.Step.{Step}
 use Rattle.pm_book.specs.declared.steps.Step.TheVariants as step
-use Rattle.pm_book.specs.Pages.{Adds, Pages, end_answer, end_by, has_written, is_full, moment_from, step_answer, step_by, world_of}
-use Rattle.pm_serial.specs.Ends.{IsOver, IsTimely, IsTurn, Stepped, Writes}
+use Rattle.pm_book.specs.Pages.{Adds, Pages, by_move, by_running, by_stage, end_answer, end_by, has_written, is_full, moment_from, step_answer, world_of, written as answer_to}
+use Rattle.pm_serial.specs.Ends.{HasTime, IsTurn, Writes}
+use Rattle.pm_serial.proofs.WholeLemmas.{has_room}
 
 -- a turn comes no later than the last line or the latest moment that is awaited
 least_below : {A : Type 0} (wake : A → Option ℕ) (b : ℕ) → ((x : A) (m : ℕ) → wake x ≡ Some m → m ≤ b) → (xs : List A) (m : ℕ) → least (filter_map wake xs) ≡ Some m → m ≤ b
@@ -111,58 +114,54 @@ line_next : (plan : Plan) (h : History) (turn : ActorId × ℕ) → next_turn pl
 line_next plan h turn is n =
     ap (option_and_then (λ (x : ActorId × ℕ). option_and_then (written x.0 x.1) (move_at plan (world plan h) x.1 x.0))) is ∙ ap (option_and_then (written turn.0 turn.1)) n.gives
 
--- no clock counts as less than the moment of a turn
+-- it comes soon after the last line, so while there is time for it no clock counts as less
 turn_soon : (plan : Plan) (h : History) (turn : ActorId × ℕ) → AreDue plan h → next_turn plan h ≡ Some turn → turn.1 ≤ last_time h + 1000000
 turn_soon plan h turn are is =
     turn_below (wakes plan (world plan h)) (last_time h + 1000000) (wake_early plan h are) (round plan h) (last_time h) turn (omega arith) (sym (next_is plan h) ∙ is)
 
-turn_in_time : (plan : Plan) (h : History) (turn : ActorId × ℕ) → AreDue plan h → length h ≤ MAX_LINES → last_time h ≤ 1000000 * length h → next_turn plan h ≡ Some turn
-    → moment_from h turn.1 ≡ turn.1
-turn_in_time plan h turn are few timely is =
-    let below = turn_soon plan h turn are is in
-    let line = line_next plan h turn is (turn_writes plan h turn is) in
-    let above : last_time h ≤ turn.1 = (permits_next plan h _ line).in_time in
-    omega (arith, below, above, few, timely)
+as_it_is : (last now len most : ℕ) → last ≤ now → now ≤ last + 1000000 → len < most → last + 1000000 * (most - len) ≤ 2 ^ 62 → max last (min now (2 ^ 62)) ≡ now
+as_it_is last now len most later soon room in_time = omega arith
 
-pub is_turn : (p : Pages) (a : ActorId) (now : ℕ) → AreDue p.plan p.lines → length p.lines ≤ MAX_LINES → next_turn p.plan p.lines ≡ Some (a, now) → is_full p ≡ false → IsTimely p → IsTurn p a now
-is_turn p a now are few is free timely = record {
-  turn = is;
-  room = free;
-  at = turn_in_time p.plan p.lines (a, now) are few timely is;
-  soon = turn_soon p.plan p.lines (a, now) are is;
+turn_in_time : (p : Pages) (a : ActorId) (now : ℕ) → IsTurn p a now → is_full p ≡ false → HasTime p.plan p.lines → moment_from p.lines now ≡ now
+turn_in_time p a now is free in_time =
+    let line = line_next p.plan p.lines (a, now) is.turn (turn_writes p.plan p.lines (a, now) is.turn) in
+    as_it_is (last_time p.lines) now (length p.lines) p.plan.lines (permits_next p.plan p.lines _ line).in_time is.soon (has_room p free) in_time
+
+-- what is known of a turn, and that it is nobody's where the run is finished
+pub turn_is : (p : Pages) (o : Option (ActorId × ℕ)) → o ≡ next_turn p.plan p.lines → IfSome o (λ turn. IsActor p.plan turn.0) → AreDue p.plan p.lines
+    → (IsFinished p.plan p.lines → next_turn p.plan p.lines ≡ None) → IfSome o (λ turn. IsTurn p turn.0 turn.1)
+turn_is p None is in_range are stops = tt
+turn_is p (Some turn) is in_range are stops = record {
+  turn = sym is;
+  in_range = in_range;
+  soon = turn_soon p.plan p.lines turn are (sym is);
+  unfinished = false_from_ne_true _ (λ done. let none : Some turn ≡ None = is ∙ stops done in cc none);
 }
 
-pub stepped : (old new : Pages) (b : Bool) → (b ≡ true) × Writes old new → Stepped old new b
-stepped old new true is = is.1
-stepped old new false is = absurd (false≢true is.0)
-
-pub if_stepped : {E : Type 0} (old new : Pages) (r : Result Bool E) → IfOk r (λ b. (b ≡ true) × Writes old new) → IfOk r (Stepped old new)
-if_stepped old new (Ok b) is = stepped old new b is
-if_stepped old new (Err e) is = tt
-
-pub over_none : (p : Pages) → next_turn p.plan p.lines ≡ None → IsOver p
-over_none p is = inr (ap (option_and_then (λ (x : ActorId × ℕ). option_and_then (written x.0 x.1) (move_at p.plan (world p.plan p.lines) x.1 x.0))) is)
+pub none_is : (p : Pages) (o : Option (ActorId × ℕ)) → o ≡ next_turn p.plan p.lines → (next_turn p.plan p.lines ≡ None → IsFinished p.plan p.lines) → IfNone o (IsFinished p.plan p.lines)
+none_is p None is ends = ends (sym is)
+none_is p (Some turn) is ends = tt
 
 -- a step of whose turn it is writes its line
 writes_at : (plan : Plan) (v : Views) (t : ℕ) (o : Option Stage) (e : Event) (c : Change) (next : Then) → option_and_then (λ s. move plan v s t) o ≡ Some (Write e c next) → runs_at plan o ≡ false
-    → has_written (step_by v (by_stage plan v t o)) ≡ true
+    → has_written (by_stage plan v t o) ≡ true
 writes_at plan v t None e c next gives rests = cc gives
 writes_at plan v t (Some s) e c next gives rests = go (running_due plan s) rests
   where
-    wrote : (e : Event) → has_written (step_by v (turn.Writes s e c next)) ≡ true
+    wrote : (e : Event) → has_written (answer_to v e) ≡ true
     wrote (event.Begin d k) = refl
     wrote _ = refl
 
-    go : (o : Option ℕ) → is_some o ≡ false → has_written (step_by v (by_running o (by_move s (move plan v s t)))) ≡ true
+    go : (o : Option ℕ) → is_some o ≡ false → has_written (by_running o (by_move v (move plan v s t))) ≡ true
     go (Some at) rests = absurd (false≢true (sym rests))
-    go None rests = ap (λ m. has_written (step_by v (by_move s m))) gives ∙ wrote e
+    go None rests = ap (λ m. has_written (by_move v m)) gives ∙ wrote e
 
-pub step_wrote : (p : Pages) (a : ActorId) (now : ℕ) → next_turn p.plan p.lines ≡ Some (a, now) → is_full p ≡ false → is_running p.plan (world_of p) a ≡ false → moment_from p.lines now ≡ now
+step_wrote : (p : Pages) (a : ActorId) (now : ℕ) → next_turn p.plan p.lines ≡ Some (a, now) → is_full p ≡ false → is_running p.plan (world_of p) a ≡ false → moment_from p.lines now ≡ now
     → has_written (step_answer p a now) ≡ true
 step_wrote p a now is free rests at =
     let n = turn_writes p.plan p.lines (a, now) is in
-    ap (λ b. has_written (if b then step.AtLimit else step_by (world_of p).views (turn_of p.plan (world_of p) a (moment_from p.lines now)))) free
-    ∙ ap (λ t. has_written (step_by (world_of p).views (turn_of p.plan (world_of p) a t))) at
+    ap (λ b. has_written (if b then step.AtLimit else by_stage p.plan (world_of p).views (moment_from p.lines now) (stage_at p.plan (world_of p) a))) free
+    ∙ ap (λ t. has_written (by_stage p.plan (world_of p).views t (stage_at p.plan (world_of p) a))) at
     ∙ writes_at p.plan (world_of p).views now (stage_at p.plan (world_of p) a) n.event n.change n.next n.gives rests
 
 -- and so does the end of its callback
@@ -180,7 +179,7 @@ ends_where : (plan : Plan) (v : Views) (t : ℕ) (o : Option Stage) → runs_at 
 ends_where plan v t None runs within = absurd (false≢true runs)
 ends_where plan v t (Some s) runs within = ends_at plan v t s runs within
 
-pub end_wrote : (p : Pages) (a : ActorId) (now : ℕ) → next_turn p.plan p.lines ≡ Some (a, now) → is_full p ≡ false → is_running p.plan (world_of p) a ≡ true → moment_from p.lines now ≡ now
+end_wrote : (p : Pages) (a : ActorId) (now : ℕ) → next_turn p.plan p.lines ≡ Some (a, now) → is_full p ≡ false → is_running p.plan (world_of p) a ≡ true → moment_from p.lines now ≡ now
     → end_answer p a now ≡ end.Wrote
 end_wrote p a now is free runs at =
     let late = ends_where p.plan (world_of p).views now (stage_at p.plan (world_of p) a) runs (awake p.plan p.lines (a, now) is) in
@@ -188,21 +187,28 @@ end_wrote p a now is free runs at =
     ap (λ b. if b then end.AtLimit else end_by (moment_from p.lines now) ending) free ∙ ap (λ t. end_by t ending) at ∙ ap (λ b. if b then end.Early ending else end.Wrote) late
 
 -- the line that was added is the next
-pub adds_next : (old new : Pages) (a : ActorId) (t m : ℕ) → next_turn old.plan old.lines ≡ Some (a, t) → m ≡ t → t ≤ last_time old.lines + 1000000 → Adds old new a m → Writes old new
-adds_next old new a t m is at soon adds =
+adds_next : (old new : Pages) (a : ActorId) (now : ℕ) → IsTurn old a now → moment_from old.lines now ≡ now → Adds old new a (moment_from old.lines now) → Writes old new
+adds_next old new a now is at adds =
     let line = adds.line in
     let w = world old.plan old.lines in
     let p = adds.permits in
     let gives : move_at old.plan w line.time line.actor ≡ Some (Write line.event p.change p.next) = ap (option_and_then (λ s. move old.plan w.views s line.time)) p.stands ∙ p.gives in
-    let its : next_turn old.plan old.lines ≡ Some (line.actor, line.time) = is ∙ ap (λ x. Some (a, x)) (sym (adds.time_is ∙ at)) ∙ ap (λ y. Some (y, line.time)) (sym adds.actor_is) in
+    let its : next_turn old.plan old.lines ≡ Some (line.actor, line.time) = is.turn ∙ ap (λ x. Some (a, x)) (sym (adds.time_is ∙ at)) ∙ ap (λ y. Some (y, line.time)) (sym adds.actor_is) in
     record {
       line = line;
       next = line_next old.plan old.lines (line.actor, line.time) its (record { event = line.event; change = p.change; next = p.next; gives = gives });
-      soon = omega (arith, soon, at, adds.time_is);
+      soon = let soon = is.soon in omega (arith, soon, at, adds.time_is);
       added = adds.added;
     }
 
--- a test that is not false is true
-pub when_true : (b : Bool) → (b ≡ false → ⊥) → b ≡ true
-when_true true f = refl
-when_true false f = absurd (f refl)
+pub step_writes : (old new : Pages) (a : ActorId) (now : ℕ) (answer : Step) → IsTurn old a now → is_full old ≡ false → HasTime old.plan old.lines → is_running old.plan (world_of old) a ≡ false
+    → answer ≡ step_answer old a now → (has_written answer ≡ true → Adds old new a (moment_from old.lines now)) → Writes old new
+step_writes old new a now answer is free in_time rests answers writes =
+    let at = turn_in_time old a now is free in_time in
+    adds_next old new a now is at (writes (ap has_written answers ∙ step_wrote old a now is.turn free rests at))
+
+pub end_writes : (old new : Pages) (a : ActorId) (now : ℕ) (answer : EndStep) → IsTurn old a now → is_full old ≡ false → HasTime old.plan old.lines → is_running old.plan (world_of old) a ≡ true
+    → answer ≡ end_answer old a now → (answer ≡ end.Wrote → Adds old new a (moment_from old.lines now)) → Writes old new
+end_writes old new a now answer is free in_time runs answers writes =
+    let at = turn_in_time old a now is free in_time in
+    adds_next old new a now is at (writes (answers ∙ end_wrote old a now is.turn free runs at))

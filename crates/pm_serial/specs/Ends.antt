@@ -1,47 +1,58 @@
 -- How a run on one thread goes on and ends (this project's own).
-use Rattle.std.specs.Prelude.{◌≡◌, ◌+◌, ◌++◌, ◌*◌, ◌≤◌, ◌⊎◌, ℕ, Bool, true, false, List, ◌∷◌, Some, None, length}
+use Rattle.std.specs.Prelude.{◌≡◌, ◌+◌, ◌++◌, ◌*◌, ◌-◌, ◌≤◌, ◌^◌, ℕ, false, true, List, Some, length, reverse}
 use Rattle.pm_base.specs.declared.ActorId.{ActorId}
 use Rattle.pm_model.specs.declared.event.Line.{Line}
-use Rattle.pm_model.specs.Lawful.{is_finished, last_time}
-use Rattle.pm_model.specs.Serial.{next_line, next_turn}
-use Rattle.pm_book.specs.Pages.{Pages, is_full, moment_from, world_of}
+use Rattle.pm_model.specs.declared.plan.Plan.{Plan}
+use Rattle.pm_model.specs.History.{History}
+use Rattle.pm_model.specs.Lawful.{IsFinished, is_finished, last_time}
+use Rattle.pm_model.specs.Serial.{goes_on, next_line, next_turn, serial}
+use Rattle.pm_model.specs.World.{world}
+use Rattle.pm_state.specs.Standing.{IsActor}
+use Rattle.pm_book.specs.Pages.{Longer, Pages, is_full, world_of}
 use Rattle.pm_serial.specs.declared.running.End.{End}
 use Rattle.pm_serial.specs.declared.running.End.TheVariants as end
 
--- some lines more, the newest first
-pub record GoesOn (old new : Pages) : Type 0 where
-  pub more : List Line
-  pub added : new ≡ record old { lines = more ++ old.lines }
+-- the lines of the whole run to which one thread goes on from these, the newest first
+abbrev pub whole : Plan → History → History
+whole plan h = goes_on plan (plan.lines - length h) h
 
--- the run is finished; or it isn't, and the list has all the lines that its plan allows, or has room
+-- there is time for every line that the plan still allows: on one thread each comes at most 1,000,000 milliseconds after
+-- the one before it
+abbrev pub HasTime : Plan → History → Type 0
+HasTime plan h = last_time h + 1000000 * (plan.lines - length h) ≤ 2 ^ 62
+
+-- all the lines that the plan still allows can be written without taking memory
+abbrev pub HasMemory : Pages → Type 0
+HasMemory p = p.plan.lines - length p.lines ≤ p.spare
+
+-- some lines more, the newest first, on the way to the same whole run, and there is time for the rest of it
+pub record GoesOn (old new : Pages) : Type 0 where
+  pub plan_is : new.plan ≡ old.plan
+  pub more : List Line
+  pub lines_are : new.lines ≡ more ++ old.lines
+  pub whole_is : whole new.plan new.lines ≡ whole old.plan old.lines
+  pub in_time : HasTime new.plan new.lines
+
+-- the run is finished; or it isn't, and the list has all the lines that its plan allows
 abbrev pub IsEnd : Pages → End → Type 0
 IsEnd p end.Finished = is_finished p.plan (world_of p) ≡ true
 IsEnd p end.AtLimit = (is_full p ≡ true) × (is_finished p.plan (world_of p) ≡ false)
-IsEnd p end.Stuck = (is_full p ≡ false) × (is_finished p.plan (world_of p) ≡ false)
 
--- no more time has passed than one thread takes: at most 1,000,000 milliseconds for each line
-abbrev pub IsTimely : Pages → Type 0
-IsTimely p = last_time p.lines ≤ 1000000 * length p.lines
+-- the run that one thread makes of the plan is finished; or it isn't, and has all the lines that the plan allows
+abbrev pub IsSerialEnd : Plan → End → Type 0
+IsSerialEnd plan end.Finished = IsFinished plan (reverse (serial plan))
+IsSerialEnd plan end.AtLimit = (length (serial plan) ≡ plan.lines) × (is_finished plan (world plan (reverse (serial plan))) ≡ false)
 
--- the list is full, or no line comes next
-abbrev pub IsOver : Pages → Type 0
-IsOver p = (is_full p ≡ true) ⊎ (next_line p.plan p.lines ≡ None)
-
--- it is this actor's turn at this moment, there is room, the moment counts as it is, and comes soon after the last line
+-- it is this actor's turn at this moment, which comes soon after the last line, and the run isn't finished
 pub record IsTurn (p : Pages) (actor : ActorId) (now : ℕ) : Type 0 where
   pub turn : next_turn p.plan p.lines ≡ Some (actor, now)
-  pub room : is_full p ≡ false
-  pub at : moment_from p.lines now ≡ now
+  pub in_range : IsActor p.plan actor
   pub soon : now ≤ last_time p.lines + 1000000
+  pub unfinished : is_finished p.plan (world_of p) ≡ false
 
 -- the line that comes next on one thread is added
 pub record Writes (old new : Pages) : Type 0 where
   pub line : Line
   pub next : next_line old.plan old.lines ≡ Some line
   pub soon : line.time ≤ last_time old.lines + 1000000
-  pub added : new ≡ record old { lines = line ∷ old.lines }
-
--- a line is written exactly where one comes next and there is room
-abbrev pub Stepped : Pages → Pages → Bool → Type 0
-Stepped old new true = Writes old new
-Stepped old new false = (new ≡ old) × IsOver old
+  pub added : Longer old new line

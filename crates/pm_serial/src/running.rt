@@ -1,117 +1,87 @@
 //! Draining a book.
 
-ghost use Rattle.std.specs.Prelude.{◌≡◌, ◌≢◌, false, true, IfOk};
-ghost use Rattle.pm_book.specs.Pages.{has_written, world_of};
-ghost use Rattle.pm_state.specs.Standing.{IsActor};
-ghost use Rattle.pm_state.specs.Turns.{is_running};
-ghost use Rattle.pm_serial.specs.Ends.{GoesOn, IsEnd, IsTimely, IsTurn, Stepped, Writes};
+ghost use Rattle.std.specs.Prelude.{◌≡◌, ◌<◌, [], false, reverse, IfNone, IfOk, IfSome, IsOk, OnErr, OnOk};
+ghost use Rattle.pm_book.specs.Pages.{is_full};
+ghost use Rattle.pm_model.specs.declared.plan.Plan.{Plan};
+ghost use Rattle.pm_model.specs.Lawful.{IsFinished};
+ghost use Rattle.pm_model.specs.Serial.{serial};
+ghost use Rattle.pm_serial.specs.Ends.{GoesOn, HasMemory, HasTime, IsEnd, IsSerialEnd, IsTurn, Writes, whole};
 
 use pm_base::{ActorId, NoMemory};
-use pm_book::{Book, EndStep, Step};
-use pm_bounds::{due_moments, lines_are_bounded};
+use pm_book::Book;
+use pm_bounds::due_moments;
+use pm_stuck::{serial_ends, serial_stops};
 
-/// How a run ended.
+/// How a run on one thread ended (this project's own).
 #[derive(Clone, Copy, Debug, PartialEq, Eq)]
 pub enum End {
     /// The run is finished.
     Finished,
     /// The list has all the lines that the plan allows, and the run isn't finished.
     AtLimit,
-    /// The run isn't finished, the list has room, and the order of turns names nobody, or an actor that
-    /// writes nothing: no contract rules it out as yet. No known run ends so.
-    Stuck,
 }
 
-// Whether a step wrote a line.
-fn has_written(step: Step) -> bool
-    ensures { result ≡ has_written step }
+// Whose turn it is, and when; nobody's where the run is finished.
+fn next_turn(book: &Book) -> Option<(ActorId, u64)>
+    ensures none { IfNone result (IsFinished book.now.plan book.now.lines) }
+    ensures some { IfSome result (λ turn. IsTurn book.now turn.0 turn.1) }
 {
-    matches!(step, Step::Wrote | Step::Begun(..))
-}
-
-// Whether an end was written.
-fn has_ended(step: EndStep) -> bool
-    ensures yes { result ≡ true → step ≡ EndStep.Wrote }
-    ensures no { result ≡ false → step ≢ EndStep.Wrote }
-{
-    matches!(step, EndStep::Wrote)
-}
-
-// Lets an actor write its line; false where it can't.
-fn write(book: &mut Book, actor: ActorId, now: u64) -> Result<bool, NoMemory>
-    requires { IsActor book.old.plan actor }
-    ensures goes { GoesOn book.old book.new }
-    ensures next { IsTurn book.old actor now → is_running book.old.plan (world_of book.old) actor ≡ false → IfOk result (λ wrote. (wrote ≡ true) × Writes book.old book.new) }
-{
-    let step = book.step(actor, now)?;
-    Ok(has_written(step))
-}
-
-// Lets a callback end that the actor began; false where it can't.
-fn write_end(book: &mut Book, actor: ActorId, now: u64) -> bool
-    requires in_range { IsActor book.old.plan actor }
-    requires running { is_running book.old.plan (world_of book.old) actor ≡ true }
-    ensures goes { GoesOn book.old book.new }
-    ensures next { IsTurn book.old actor now → (result ≡ true) × Writes book.old book.new }
-{
-    let step = book.end_callback(actor, now);
-    has_ended(step)
-}
-
-// Writes the next line by the order of turns; false where it can't be written.
-#[tactic(auto, using(crate::proofs::EndLemmas::goes_nowhere))]
-fn go_on(book: &mut Book) -> Result<bool, NoMemory>
-    ensures goes { GoesOn book.old book.new }
-    ensures next { IsTimely book.old → IfOk result (Stepped book.old book.new) }
-{
-    if book.is_full() {
-        return Ok(false);
-    }
     due_moments();
-    lines_are_bounded();
+    serial_stops();
     let _ = book.lines();
-    let Some((actor, now)) = book.next_turn() else {
-        return Ok(false);
-    };
-    if book.running(actor) {
-        return Ok(write_end(book, actor, now));
-    }
-    write(book, actor, now)
+    book.next_turn()
 }
 
-// Writes lines until none can be written, or there are as many as the plan allows.
-fn run(book: &mut Book) -> Result<(), NoMemory>
-    ensures { GoesOn book.old book.new }
+// Writes the line of the actor whose turn it is.
+fn write(book: &mut Book, actor: ActorId, now: u64) -> Result<(), NoMemory>
+    requires turn { IsTurn book.old actor now }
+    requires room { is_full book.old ≡ false }
+    requires in_time { HasTime book.old.plan book.old.lines }
+    ensures ok { OnOk result (Writes book.old book.new) }
+    ensures memory { 0 < book.old.spare → IsOk result }
+    ensures err { OnErr result (GoesOn book.old book.new) }
 {
-    for _ in 0..book.plan().lines {
-        if !go_on(book)? {
-            return Ok(());
-        }
+    if book.running(actor) {
+        book.end_callback(actor, now);
+        return Ok(());
     }
+    book.step(actor, now)?;
     Ok(())
 }
 
-// How the run ended.
-fn end_of(book: &Book) -> End
-    ensures { IsEnd book.now result }
-{
-    if book.finished() {
-        End::Finished
-    } else if book.is_full() {
-        End::AtLimit
-    } else {
-        End::Stuck
-    }
-}
+/// A book without lines has time for all lines of its plan, of which there are at most 200,000: the
+/// condition of `drain` (this project's own).
+pub fn fresh_books_have_time()
+    ensures { (plan : Plan) → HasTime plan [] }
+{}
 
-/// Lets the run of a book go on by the order of turns, until it is finished or has all the lines that
-/// its plan allows. `Finished` comes exactly where the run is finished in the end, `AtLimit` exactly
-/// where it isn't and the list is full. After `NoMemory` the book holds the lines written so far, and this may be called
-/// again.
+/// Lets the run of a book go on by the order of turns on one thread, until it is finished or has all the
+/// lines that its plan allows (this project's own). `Finished` comes exactly where the run is finished,
+/// `AtLimit` exactly where the list is full and the run isn't finished. From a book without lines the
+/// lines are those of `serial`.
+///
+/// The time of the last line, in milliseconds of the run, and 1,000,000 for each line that the plan
+/// still allows are together at most 2^62, as they are for a book without lines.
+///
+/// After `NoMemory` the book holds the lines written so far, and this may be called again. It comes only
+/// where the book has no memory for all the lines that the plan still allows.
 pub fn drain(book: &mut Book) -> Result<End, NoMemory>
+    requires { HasTime book.old.plan book.old.lines }
     ensures goes_on { GoesOn book.old book.new }
+    ensures whole { IfOk result (λ _. book.new.lines ≡ whole book.old.plan book.old.lines) }
     ensures end { IfOk result (IsEnd book.new) }
+    ensures serial { book.old.lines ≡ []
+        → IfOk result (λ _. reverse book.new.lines ≡ serial book.old.plan) }
+    ensures serial_end { book.old.lines ≡ [] → IfOk result (IsSerialEnd book.old.plan) }
+    ensures memory { HasMemory book.old → IsOk result }
 {
-    run(book)?;
-    Ok(end_of(book))
+    serial_stops();
+    serial_ends();
+    while let Some((actor, now)) = next_turn(book) {
+        if book.is_full() {
+            return Ok(End::AtLimit);
+        }
+        write(book, actor, now)?;
+    }
+    Ok(End::Finished)
 }
