@@ -5,7 +5,10 @@ ghost use Rattle.pm_islands.specs.SmallPlan.{caller_row, delaying, device_row, e
 
 use super::*;
 use pm_base::{ActorId, DevId, DomId, NoMemory};
-use pm_model::{CallerRow, Command, DeviceRow, DomainRow, Helper, Items, LinkRow, NamedList, Plan};
+use pm_model::{
+    CallerList, CallerRow, Command, DeviceList, DeviceRow, DomainList, DomainRow, Helper, Items,
+    LinkList, LinkRow, NamedList, Plan,
+};
 use std::alloc::Global;
 use std::test::Fail;
 
@@ -62,8 +65,8 @@ fn delay() -> Command
     }
 }
 
-fn domains(alloc: Global) -> Result<Vec<DomainRow>, NoMemory>
-    ensures { IfOk result (λ rows. rows.items ≡ the_domains) }
+fn domains(alloc: Global) -> Result<DomainList, NoMemory>
+    ensures { IfOk result (λ rows. rows ≡ the_domains) }
 {
     let mut rows = Vec::new(alloc);
     rows.push(DomainRow {
@@ -71,11 +74,11 @@ fn domains(alloc: Global) -> Result<Vec<DomainRow>, NoMemory>
         parent: None,
         always_on: false,
     })?;
-    Ok(rows)
+    Ok(NamedList::new(alloc, rows)?)
 }
 
-fn devices(alloc: Global) -> Result<Vec<DeviceRow>, NoMemory>
-    ensures { IfOk result (λ rows. rows.items ≡ the_devices) }
+fn devices(alloc: Global) -> Result<DeviceList, NoMemory>
+    ensures { IfOk result (λ rows. rows ≡ the_devices) }
 {
     let mut rows = Vec::new(alloc);
     rows.push(device(alloc, b'x', None, None)?)?;
@@ -83,11 +86,11 @@ fn devices(alloc: Global) -> Result<Vec<DeviceRow>, NoMemory>
     rows.push(device(alloc, b's', None, Some(DomId(0)))?)?;
     rows.push(device(alloc, b'k', Some(DevId(1)), Some(DomId(0)))?)?;
     rows.push(device(alloc, b'a', None, None)?)?;
-    Ok(rows)
+    Ok(NamedList::new(alloc, rows)?)
 }
 
-fn links(alloc: Global) -> Result<Vec<LinkRow>, NoMemory>
-    ensures { IfOk result (λ rows. rows.items ≡ the_links) }
+fn links(alloc: Global) -> Result<LinkList, NoMemory>
+    ensures { IfOk result (λ rows. rows ≡ the_links) }
 {
     let link = LinkRow {
         consumer: DevId(4),
@@ -95,17 +98,17 @@ fn links(alloc: Global) -> Result<Vec<LinkRow>, NoMemory>
         pm_runtime: false,
         later: false,
     };
-    Ok(Vec::from_slice(alloc, &[link])?)
+    Ok(Items::new(Vec::from_slice(alloc, &[link])?))
 }
 
-fn callers(alloc: Global) -> Result<Vec<CallerRow>, NoMemory>
-    ensures { IfOk result (λ rows. rows.items ≡ the_callers) }
+fn callers(alloc: Global) -> Result<CallerList, NoMemory>
+    ensures { IfOk result (λ rows. rows ≡ the_callers) }
 {
     let mut rows = Vec::new(alloc);
     rows.push(caller(alloc, b'n', &[delay()])?)?;
     rows.push(caller(alloc, b'e', &[enable(4)])?)?;
     rows.push(caller(alloc, b'c', &[delay(), enable(3)])?)?;
-    Ok(rows)
+    Ok(NamedList::new(alloc, rows)?)
 }
 
 // Device k has the parent p, and s is in its domain; nobody asks for x, and the link from a to p is no
@@ -120,10 +123,10 @@ fn small(alloc: Global) -> Result<Plan, NoMemory>
     Ok(Plan {
         lines: 20,
         trace: 1,
-        domains: NamedList::new(alloc, domains)?,
-        devices: NamedList::new(alloc, devices)?,
-        links: Items::new(links),
-        callers: NamedList::new(alloc, callers)?,
+        domains,
+        devices,
+        links,
+        callers,
     })
 }
 
