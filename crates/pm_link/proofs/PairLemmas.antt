@@ -1,6 +1,6 @@
 -- In a plan no two links are of one pair, so that what is said of a pair is said of one link; and what is said of a
 -- consumer is said of its own links.
-use Rattle.std.proofs.Common.{◌≡◌, ℕ, zero, suc, ◌+◌, ◌<◌, Bool, true, false, not, ◌&&◌, cond, List, [], ◌∷◌, Option, Some, None, map, length, get_or, set, refl, sym, ap, ◌∙◌, inl, inr, arith, get_or-set_other}
+use Rattle.std.proofs.Common.{◌≡◌, ℕ, zero, suc, ◌<◌, Bool, true, false, not, ◌&&◌, cond, List, [], ◌∷◌, Option, Some, None, map, length, get_or, set, refl, sym, ap, ◌∙◌, inl, inr, arith, get_or-set_other}
 use Rattle.std.specs.Prelude.{All, IfSome, nat_eq}
 use Rattle.std.specs.List.{count_by, list_all, list_any, zip}
 use Rattle.std.specs.Option.{option_map_or}

@@ -9,7 +9,6 @@ use Rattle.pm_model.specs.declared.rows.LinkRow.{LinkRow}
 use Rattle.pm_model.specs.Derived.{is_above}
 use Rattle.pm_bits.specs.Marks.{is_marked}
 use Rattle.pm_link.specs.declared.marks.Marks.{Marks}
-use Rattle.pm_link.specs.declared.search.Want.{Want}
 use Rattle.pm_link.specs.declared.search.Want.TheVariants.{Held, Free, Above, To, Taken}
 use Rattle.pm_link.specs.Links.{bit_at, row_at}
 use Rattle.pm_link.specs.LinkOrder.{IsCountBelow, IsFirst, IsFirstIn, IsOwn, IsOwnAt, IsRisingBy, consumer_at, supplier_at}

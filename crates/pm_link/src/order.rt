@@ -127,12 +127,7 @@ pub fn start(starts: &[usize], order: &[u32], device: usize) -> usize
 }
 
 /// The links of a consumer, that of the least supplier first.
-pub fn own<'a>(
-    rows: &[LinkRow],
-    starts: &[usize],
-    order: &'a [u32],
-    consumer: DevId,
-) -> &'a [u32]
+pub fn own<'a>(rows: &[LinkRow], starts: &[usize], order: &'a [u32], consumer: DevId) -> &'a [u32]
     requires ordered { IsLinkOrder rows.now order.now }
     requires started { AreStarts rows.now order.now starts.now }
     ensures { IsOwnAt rows.now order.now consumer (slice_index_or starts.now consumer.0 (length order.now)) result.now }

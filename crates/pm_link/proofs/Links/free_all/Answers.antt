@@ -1,4 +1,4 @@
-use Rattle.std.proofs.Common.{◌∙◌, ap, length, sym, arith}
+use Rattle.std.proofs.Common.{◌∙◌, ap, sym}
 use Rattle.pm_link.proofs.PairLemmas.{freed, freed-given, freed-none, freed_is}
 use Rattle.pm_link.proofs.Links.free_all.Goals as goal
 

@@ -1,5 +1,4 @@
 use Rattle.std.proofs.Common.{◌≡◌}
-use Rattle.pm_link.specs.Links.{LinkViews}
 use Rattle.pm_link.proofs.PairLemmas.{freed, held_count}
 use Rattle.pm_link.proofs.Links.free_all.Given as goal
 

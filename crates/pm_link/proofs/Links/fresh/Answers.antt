@@ -1,4 +1,4 @@
-use Rattle.std.proofs.Common.{false, length, not}
+use Rattle.std.proofs.Common.{false, not}
 use Rattle.std.proofs.lemmas.List.{length-map}
 use Rattle.pm_model.specs.declared.rows.LinkRow.{LinkRow}
 use Rattle.pm_link.proofs.Links.fresh.Goals as goal

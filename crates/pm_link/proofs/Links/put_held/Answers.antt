@@ -1,8 +1,8 @@
-use Rattle.std.proofs.Common.{◌≡◌, ◌<◌, ◌∙◌, Bool, false, ap, get_or, length, refl, set, subst, sym, arith}
+use Rattle.std.proofs.Common.{◌<◌, ◌∙◌, false, ap, get_or, length, refl, set, sym, arith}
 use Rattle.std.proofs.lemmas.List.{get_or_default, get_or-set_other, get_or-set_same, length-set}
 use Rattle.pm_link.specs.Links.{LinkViews, no_link}
-use Rattle.pm_link.specs.Marked.{AreMarks, is_live, noted}
-use Rattle.pm_link.proofs.MarkLemmas.{noted_as, noted_marks, rank_in_marks, sized_marks}
+use Rattle.pm_link.specs.Marked.{is_live}
+use Rattle.pm_link.proofs.MarkLemmas.{noted_as, noted_marks, rank_in_marks}
 use Rattle.pm_link.proofs.OrderLemmas.{length_order}
 use Rattle.pm_link.proofs.Links.put_held.Goals as goal
 

@@ -1,4 +1,4 @@
-use Rattle.std.proofs.Common.{◌≡◌, ◌<◌, ◌∙◌, Bool, false, ap, get_or, length, refl, set, sym, arith}
+use Rattle.std.proofs.Common.{◌<◌, ◌∙◌, false, ap, get_or, length, refl, set, sym, arith}
 use Rattle.std.proofs.lemmas.List.{get_or_default, get_or-set_other, get_or-set_same, length-set}
 use Rattle.pm_link.specs.Links.{LinkViews, no_link}
 use Rattle.pm_link.specs.Marked.{is_live}

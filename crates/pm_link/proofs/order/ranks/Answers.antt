@@ -1,4 +1,4 @@
-use Rattle.std.proofs.Common.{◌∙◌, get_or, length, arith}
+use Rattle.std.proofs.Common.{◌∙◌, get_or, arith}
 use Rattle.std.proofs.lemmas.List.{length-set}
 use Rattle.pm_link.proofs.OrderLemmas.{below_rows, length_order, rank_more}
 use Rattle.pm_link.proofs.order.ranks.Goals as goal
