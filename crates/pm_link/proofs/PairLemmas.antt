@@ -1,13 +1,14 @@
 -- In a plan no two links are of one pair, so that what is said of a pair is said of one link; and what is said of a
 -- consumer is said of its own links.
 use Rattle.std.proofs.Common.{◌≡◌, ℕ, zero, suc, ◌<◌, Bool, true, false, not, ◌&&◌, cond, List, [], ◌∷◌, Option, Some, None, map, length, get_or, set, refl, sym, ap, ◌∙◌, inl, inr, arith, get_or-set_other}
-use Rattle.std.specs.Prelude.{IfSome, nat_eq}
-use Rattle.std.specs.List.{list_any, zip}
+use Rattle.std.specs.Prelude.{All, IfSome, nat_eq}
+use Rattle.std.specs.List.{count_by, list_all, list_any, zip}
 use Rattle.std.specs.Option.{option_map_or}
-use Rattle.std.proofs.lemmas.Bool.{and_from, and_left, and_parts, and_right, cases_Bool, cases_eq, cases_order, cond-false, cond-true, eq-eqb, eqb-true, false_from_ne_true, ne_eqb, not-true, true≢false}
+use Rattle.std.proofs.lemmas.Bool.{and_from, and_left, and_parts, and_right, cases_Bool, cases_eq, cases_order, cond-false, cond-true, eq-eqb, eqb-true, false_from_ne_true, ltb-true, not-true, true≢false}
 use Rattle.std.proofs.lemmas.List.{get_or_default, length-set, same_lists}
-use Rattle.std.proofs.lemmas.Grind.{get_or-set_at}
+use Rattle.std.proofs.lemmas.Grind.{common_steps, get_or-set_at}
 use Rattle.std.proofs.lemmas.List.Folds.{list_any_at, list_any_none}
+use Rattle.std.proofs.lemmas.List.Sums.{sum_by-set}
 use Rattle.std.proofs.lemmas.Slice.Zip.{get_or-zip, length-zip}
 use Rattle.pm_base.specs.declared.DevId.{DevId}
 use Rattle.pm_model.specs.declared.plan.Plan.{Plan}
@@ -16,11 +17,14 @@ use Rattle.pm_model.specs.Changes.{at_pair}
 use Rattle.pm_model.specs.ControlTable.{is_pair_in, may_be_absent}
 use Rattle.pm_model.specs.Events.{frees_links}
 use Rattle.pm_model.specs.Views.{Views}
-use Rattle.pm_model.specs.IsPlan.{are_distinct, is_same_pair}
+use Rattle.pm_model.specs.declared.rows.CallerRow.{CallerRow}
+use Rattle.pm_model.specs.declared.rows.DeviceRow.{DeviceRow}
+use Rattle.pm_model.specs.declared.rows.DomainRow.{DomainRow}
+use Rattle.pm_model.specs.IsPlan.{are_distinct, is_link, is_plan, is_same_pair}
 use Rattle.pm_model.specs.PlanRows.{is_of_pair}
 use Rattle.pm_link.specs.Links.{SetsPair, bit_at, no_link, row_at}
-use Rattle.pm_link.specs.LinkOrder.{IsFirst, IsOwn, consumer_at, supplier_at}
-use Rattle.pm_link.specs.Wanted.{free_each, is_wanted_at}
+use Rattle.pm_link.specs.LinkOrder.{IsFirst, consumer_at, supplier_at}
+use Rattle.pm_link.specs.Wanted.{is_taken_at, is_wanted_at}
 use Rattle.pm_link.specs.declared.search.Want.{Want}
 use Rattle.pm_link.specs.declared.search.Want.TheVariants.{Held, Free}
 use Rattle.pm_link.proofs.FirstLemmas.{is_wanted_own}
@@ -42,6 +46,20 @@ alike c s a b of_a of_b =
     and_from (nat_eq a.consumer.0 b.consumer.0) (nat_eq a.supplier.0 b.supplier.0)
     (eq-eqb a.consumer.0 b.consumer.0 (eqb-true a.consumer.0 c.0 ca ∙ sym (eqb-true b.consumer.0 c.0 cb)))
     (eq-eqb a.supplier.0 b.supplier.0 (eqb-true a.supplier.0 s.0 sa ∙ sym (eqb-true b.supplier.0 s.0 sb)))
+
+-- the consumer of a link is a device
+links_law : (lines trace : ℕ) (domains : List DomainRow) (devices : List DeviceRow) (links : List LinkRow) (callers : List CallerRow) → is_plan lines trace domains devices links callers ≡ true
+    → list_all (is_link devices) links ≡ true
+links_law lines trace domains devices links callers law = grind (arith, common_steps)
+
+consumers_in : (devices : List DeviceRow) (links : List LinkRow) → list_all (is_link devices) links ≡ true → All (λ (row : LinkRow). row.consumer.0 < length devices) links
+consumers_in devices [] all k d below = absurd (omega arith)
+consumers_in devices (row ∷ links) all zero d below =
+    ltb-true row.consumer.0 (length devices) (and_parts _ _ (and_parts _ _ (and_parts (is_link devices row) (list_all (is_link devices) links) all).0).0).0
+consumers_in devices (row ∷ links) all (suc k) d below = consumers_in devices links (and_parts (is_link devices row) (list_all (is_link devices) links) all).1 k d (omega arith)
+
+pub consumers_are_devices : (plan : Plan) → All (λ (row : LinkRow). row.consumer.0 < length plan.devices) plan.links
+consumers_are_devices plan = consumers_in plan.devices plan.links (links_law plan.lines plan.trace plan.domains plan.devices plan.links plan.callers plan.law)
 
 -- the links of a plan are of different pairs
 pairs_differ : (plan : Plan) → are_distinct is_same_pair plan.links ≡ true
@@ -153,47 +171,52 @@ pub free_of_first : (rows : List LinkRow) (d : DevId) (held present : List Bool)
 free_of_first rows d held present None first = tt
 free_of_first rows d held present (Some l) first = not-true (bit_at held l) (and_parts _ _ first.found.1).1
 
--- a link that is freed stays free
-free_stays : (own : List ℕ) (held : List Bool) (k : ℕ) (d : Bool) → k < length held → get_or held k d ≡ false → get_or (free_each held own) k d ≡ false
-free_stays [] held k d below free = free
-free_stays (x ∷ own) held k d below free =
-    free_stays own (set held x false) k d (omega (arith, length-set held x false)) (elim (cases_eq k x) [
-      | inl at ↦ get_or-set_at held x k false d at (omega arith)
-      | inr other ↦ get_or-set_other held x k false d other ∙ free
+-- the links of the consumer are free
+abbrev pub freed : DevId → List LinkRow → List Bool → List Bool
+freed d rows held = marked (λ row. nat_eq row.consumer.0 d.0) false rows held
+
+-- one of them is free already
+pub freed-given : (d : DevId) (rows : List LinkRow) (held : List Bool) (l : ℕ) → length held ≡ length rows → is_taken_at d rows held l ≡ true → freed d rows (set held l false) ≡ freed d rows held
+freed-given d rows held l long taken =
+    let mine : LinkRow → Bool = λ row. nat_eq row.consumer.0 d.0 in
+    let after : length (set held l false) ≡ length rows = length-set held l false ∙ long in
+    let len = length-marked mine false rows (set held l false) after in
+    let len_before = length-marked mine false rows held long in
+    same_lists (freed d rows (set held l false)) (freed d rows held) (omega (arith, len, len_before, after, long)) (λ k e below.
+    let lt : k < length held = omega (arith, len, length-set held l false) in
+    get_or-marked mine false rows (set held l false) k e after (omega (arith, length-set held l false))
+    ∙ elim (cases_eq k l) [
+      | inl at ↦
+          let is : mine (row_at rows k) ≡ true = ap (λ i. mine (row_at rows i)) at ∙ (and_parts _ _ taken).0 in
+          cond-true _ _ _ is ∙ sym (cond-true _ _ _ is)
+      | inr other ↦ ap (cond (mine (row_at rows k)) false) (get_or-set_other held l k false e other)
+    ]
+    ∙ sym (get_or-marked mine false rows held k e long lt))
+
+-- all of them are free already
+pub freed-none : (d : DevId) (rows : List LinkRow) (held : List Bool) → length held ≡ length rows → ((l : ℕ) → l < length rows → is_taken_at d rows held l ≡ false) → freed d rows held ≡ held
+freed-none d rows held long none =
+    let mine : LinkRow → Bool = λ row. nat_eq row.consumer.0 d.0 in
+    let len = length-marked mine false rows held long in
+    same_lists (freed d rows held) held len (λ k e below.
+    let lt : k < length held = omega (arith, len) in
+    get_or-marked mine false rows held k e long lt
+    ∙ elim (cases_Bool (mine (row_at rows k))) [
+      | inl is ↦ cond-true _ _ _ is ∙ sym (get_or_default held k e false lt ∙ sym (ap (λ c. c && bit_at held k) is) ∙ none k (omega arith))
+      | inr not ↦ cond-false _ _ _ not
     ])
 
--- each of these links is free
-freed_in : (own : List ℕ) (held : List Bool) (k m : ℕ) (d : Bool) → k < length held → m < length own → get_or own m 0 ≡ k → get_or (free_each held own) k d ≡ false
-freed_in [] held k m d below lt at = absurd (omega arith)
-freed_in (x ∷ own) held k zero d below lt at =
-    free_stays own (set held x false) k d (omega (arith, length-set held x false)) (get_or-set_at held x k false d (sym at) (omega arith))
-freed_in (x ∷ own) held k (suc m) d below lt at = freed_in own (set held x false) k m d (omega (arith, length-set held x false)) (omega arith) at
-
--- the others are as they were
-freed_out : (own : List ℕ) (held : List Bool) (k : ℕ) (d : Bool) → ((m : ℕ) → m < length own → get_or own m 0 ≡ k → ⊥) → get_or (free_each held own) k d ≡ get_or held k d
-freed_out [] held k d out = refl
-freed_out (x ∷ own) held k d out =
-    freed_out own (set held x false) k d (λ m lt at. out (suc m) (omega arith) at) ∙ get_or-set_other held x k false d (λ at. out 0 (omega arith) (sym at))
-
-length-free_each : (own : List ℕ) (held : List Bool) → length (free_each held own) ≡ length held
-length-free_each [] held = refl
-length-free_each (x ∷ own) held = length-free_each own (set held x false) ∙ length-set held x false
-
--- to free a consumer's own links is to free each link of which it is the consumer
-freed_at : (rows : List LinkRow) (d : DevId) (own : List ℕ) (held : List Bool) → IsOwn rows d own → (k : ℕ) (e : Bool) → k < length rows → k < length held → get_or (free_each held own) k e ≡ cond (nat_eq (consumer_at rows k) d.0) false (get_or held k e)
-freed_at rows d own held is k e below lt =
-    elim (cases_eq (consumer_at rows k) d.0) [
-      | inl mine ↦
-          let (m, lt_m, at) = is.every k below mine in
-          freed_in own held k m e lt lt_m (get_or_default own m 0 k lt_m ∙ at) ∙ sym (cond-true _ _ _ (eq-eqb (consumer_at rows k) d.0 mine))
-      | inr other ↦
-          freed_out own held k e (λ m lt_m at. other (sym (ap (consumer_at rows) at) ∙ (is.each m 0 lt_m).1)) ∙ sym (cond-false _ _ _ (ne_eqb (consumer_at rows k) d.0 other))
-    ]
-
-pub free_each_own : (plan : Plan) (d : DevId) (own : List ℕ) (v : Views) (held : List Bool) → IsOwn plan.links d own → v.held ≡ held → length held ≡ length plan.links → free_each held own ≡ (frees_links plan d v).held
+-- they are those that an event frees
+pub freed_is : (plan : Plan) (d : DevId) (v : Views) → (frees_links plan d v).held ≡ freed d plan.links v.held
 unfolding frees_links
-free_each_own plan d own v held is of long =
-    let mine : LinkRow → Bool = λ row. nat_eq row.consumer.0 d.0 in
-    rw of (same_lists (free_each held own) (marked mine false plan.links held) (length-free_each own held ∙ sym (length-marked mine false plan.links held long)) (λ k e below.
-    let lt : k < length held = omega (arith, length-free_each own held, below) in
-    freed_at plan.links d own held is k e (omega arith) lt ∙ sym (get_or-marked mine false plan.links held k e long lt)))
+freed_is plan d v = refl
+
+abbrev bit : Bool → ℕ
+bit b = cond b 1 0
+
+-- how many links are held
+abbrev pub held_count : List Bool → ℕ
+held_count held = count_by (λ b. b) held
+
+pub held_count-given : (held : List Bool) (l : ℕ) → l < length held → bit_at held l ≡ true → held_count (set held l false) < held_count held
+held_count-given held l below is = omega (arith, sum_by-set bit held l false false below, ap bit is)

@@ -1,3 +1,4 @@
 pub mod Links
 pub mod LinkOrder
+pub mod Marked
 pub mod Wanted

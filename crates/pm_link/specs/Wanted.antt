@@ -1,5 +1,5 @@
 -- Which link of a consumer is looked for.
-use Rattle.std.specs.Prelude.{ℕ, Bool, false, not, ◌&&◌, List, fold, nat_eq, slice_set}
+use Rattle.std.specs.Prelude.{ℕ, ◌+◌, Bool, not, ◌&&◌, List, Option, Some, None, nat_eq}
 use Rattle.pm_base.specs.declared.DevId.{DevId}
 use Rattle.pm_model.specs.declared.rows.LinkRow.{LinkRow}
 use Rattle.pm_model.specs.Derived.{is_above, is_link_of}
@@ -25,6 +25,7 @@ is_wanted Taken d row held present = is_taken d row held
 abbrev pub is_wanted_at : Want → DevId → List LinkRow → List Bool → List Bool → ℕ → Bool
 is_wanted_at want d rows held present link = is_wanted want d (row_at rows link) (bit_at held link) (bit_at present link)
 
--- these links are free
-abbrev pub free_each : List Bool → List ℕ → List Bool
-free_each held links = fold (λ bits link. slice_set bits link false) held links
+-- the number above the last supplier, and 0 where there is none
+abbrev pub bound_of : Option DevId → ℕ
+bound_of None = 0
+bound_of (Some last) = last.0 + 1

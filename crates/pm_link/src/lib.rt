@@ -13,15 +13,17 @@ ghost use Rattle.pm_link.specs.LinkOrder.{IsFirst};
 ghost use Rattle.pm_link.specs.Links.{IsPlace, SetsPair, bit_at, fresh_links, row_at, with_supplier};
 ghost use Rattle.pm_link.specs.Wanted.{is_taken_at, is_wanted_at};
 
+mod marks;
 mod order;
 mod search;
 #[cfg(test)]
 mod tests;
 
-use order::{link_order, own};
+use marks::{Marks, is_live};
+use order::{link_order, ranks, starts};
 use pm_base::{DevId, NoMemory};
 use pm_model::{LinkRow, Plan};
-use search::{Want, first_wanted, free_each};
+use search::{Want, first_wanted};
 use std::alloc::{AllocError, Global};
 use std::marker::Model;
 
@@ -32,19 +34,25 @@ pub struct Links {
     rows: Vec<LinkRow>,
     // The places of the links, sorted by consumer and then by supplier.
     order: Vec<u32>,
+    // Where the links of each device begin in that order.
+    starts: Vec<usize>,
+    // The place of each link in it.
+    ranks: Vec<usize>,
     held: Vec<bool>,
     present: Vec<bool>,
+    // The same by the order, in which the first one is found without a walk.
+    marks: Marks,
 }
 
 impl Model for Links {
     ghost use Rattle.pm_link.specs.Links.{LinkViews};
-    ghost use Rattle.pm_link.specs.LinkOrder.{IsKept};
+    ghost use Rattle.pm_link.specs.Marked.{IsKept};
 
     ghost Value = { LinkViews };
 
     ghost view = { λ l. record { rows = l.rows.items; held = l.held.items; present = l.present.items } };
 
-    ghost invariant = { λ l. IsKept l.rows.items l.order.items l.held.items l.present.items };
+    ghost invariant = { λ l. IsKept l.rows.items l.order.items l.starts.items l.ranks.items l.held.items l.present.items l.marks };
 }
 
 // No link is held.
@@ -67,11 +75,18 @@ impl Links {
         ensures { IfOk result (λ links. links ≡ fresh_links plan.now) }
     {
         let rows = plan.links.as_slice();
+        let order = link_order(alloc, rows)?;
+        let starts = starts(alloc, rows, &order, plan.devices.len())?;
+        let ranks = ranks(alloc, rows, &order)?;
+        let marks = Marks::fresh(alloc, rows, &order)?;
         Ok(Links {
             rows: Vec::from_slice(alloc, rows)?,
-            order: link_order(alloc, rows)?,
+            order,
+            starts,
+            ranks,
             held: all_free(alloc, rows)?,
             present: those_present(alloc, rows)?,
+            marks,
         })
     }
 
@@ -91,13 +106,33 @@ impl Links {
         self.present[link]
     }
 
+    // A link becomes held or free.
+    fn put_held(&mut self, link: usize, held: bool)
+        requires { link < length self.old.held }
+        ensures { self.new ≡ record self.old { held = slice_set self.old.held link held } }
+    {
+        self.held[link] = held;
+        let live = is_live(self.rows[link], self.present[link]);
+        self.marks.note(self.ranks[link], live, held);
+    }
+
+    // A link becomes present or absent.
+    fn put_present(&mut self, link: usize, present: bool)
+        requires { link < length self.old.present }
+        ensures { self.new ≡ record self.old { present = slice_set self.old.present link present } }
+    {
+        self.present[link] = present;
+        let live = is_live(self.rows[link], present);
+        self.marks.note(self.ranks[link], live, self.held[link]);
+    }
+
     /// Holds a link that is free.
     pub fn take(&mut self, link: usize)
         requires in_range { link < length self.old.held }
         requires free { bit_at self.old.held link ≡ false }
         ensures { self.new ≡ record self.old { held = slice_set self.old.held link true } }
     {
-        self.held[link] = true;
+        self.put_held(link, true);
     }
 
     /// Gives back a link that is held.
@@ -106,7 +141,7 @@ impl Links {
         requires held { bit_at self.old.held link ≡ true }
         ensures { self.new ≡ record self.old { held = slice_set self.old.held link false } }
     {
-        self.held[link] = false;
+        self.put_held(link, false);
     }
 
     /// Adds a link that isn't present.
@@ -115,7 +150,7 @@ impl Links {
         requires absent { bit_at self.old.present link ≡ false }
         ensures { self.new ≡ record self.old { present = slice_set self.old.present link true } }
     {
-        self.present[link] = true;
+        self.put_present(link, true);
     }
 
     /// Removes a link that is present and free.
@@ -125,7 +160,7 @@ impl Links {
         requires free { bit_at self.old.held link ≡ false }
         ensures { self.new ≡ record self.old { present = slice_set self.old.present link false } }
     {
-        self.present[link] = false;
+        self.put_present(link, false);
     }
 
     // The first link of a consumer that is looked for.
@@ -136,12 +171,11 @@ impl Links {
         ensures present_len { length self.now.present ≡ length plan.now.links }
     {
         let rows = plan.links.as_slice();
-        let links = own(rows, &self.order, dev);
-        first_wanted(want, dev, rows, &self.held, &self.present, links)
+        first_wanted(want, dev, rows, &self.order, &self.starts, &self.marks)
     }
 
     /// The held link of a consumer that has the least supplier, of those that are present and have
-    /// `DL_FLAG_PM_RUNTIME`. It looks at that consumer's links alone, as do the next four.
+    /// `DL_FLAG_PM_RUNTIME`. It looks at few of that consumer's links, as do the next four.
     pub fn first_held(&self, plan: &Plan, dev: DevId) -> Option<usize>
         requires made_for { self.now.rows ≡ plan.now.links }
         ensures in_range { IfSome result (IsPlace self.now) }
@@ -205,7 +239,7 @@ impl Links {
         ensures { self.new ≡ record self.old { held = at_pair plan.now consumer supplier held self.old.held } }
     {
         if let Some(link) = self.find(plan, consumer, supplier) {
-            self.held[link] = held;
+            self.put_held(link, held);
         }
     }
 
@@ -215,7 +249,7 @@ impl Links {
         ensures { self.new ≡ record self.old { present = at_pair plan.now consumer supplier present self.old.present } }
     {
         if let Some(link) = self.find(plan, consumer, supplier) {
-            self.present[link] = present;
+            self.put_present(link, present);
         }
     }
 
@@ -258,7 +292,8 @@ impl Links {
         ensures held_alone { self.new ≡ record self.old { held = self.new.held } }
         ensures freed { (v : Views) → v.held ≡ self.old.held → self.new.held ≡ (frees_links plan.now consumer v).held }
     {
-        let links = own(plan.links.as_slice(), &self.order, consumer);
-        free_each(&mut self.held, links);
+        while let Some(link) = self.first_taken(plan, consumer) {
+            self.put_held(link, false);
+        }
     }
 }

@@ -1,11 +1,16 @@
 //! The search for a link among those of a consumer.
 
-ghost use Rattle.std.specs.Prelude.{◌≡◌, ◌<◌, ℕ, length, All};
+ghost use Rattle.std.specs.Prelude.{◌≡◌, ◌+◌, ◌<◌, ◌≤◌, ◌&&◌, ◌^◌, ℕ, Bool, List, length, nat_eq, nat_le, slice_index};
+ghost use Rattle.pm_bits.specs.Marks.{is_marked};
 ghost use Rattle.pm_model.specs.Derived.{is_above};
-ghost use Rattle.pm_link.specs.LinkOrder.{IsFirst, IsOwn};
-ghost use Rattle.pm_link.specs.Wanted.{free_each, is_wanted, is_wanted_at};
+ghost use Rattle.pm_link.specs.LinkOrder.{AreStarts, IsCountBelow, IsFirst, IsFirstIn, IsLinkOrder, IsRisingBy, supplier_at};
+ghost use Rattle.pm_link.specs.Marked.{AreMarks, IsSized};
+ghost use Rattle.pm_link.specs.Wanted.{is_wanted_at, bound_of};
 
+use crate::marks::Marks;
+use crate::order::{own, start, supplier_at, suppliers_below};
 use pm_base::DevId;
+use pm_bits::Bits;
 use pm_model::LinkRow;
 
 /// Which link of a consumer is looked for.
@@ -19,80 +24,71 @@ pub enum Want {
     Above(Option<DevId>),
     /// One to this supplier, whatever it is.
     To(DevId),
-    /// One that is held, whatever it is.
+    /// A held one, whatever it is.
     Taken,
 }
 
-// Whether a device stands behind the last one.
-fn is_above(last: Option<DevId>, supplier: DevId) -> bool
-    ensures { result ≡ is_above last supplier }
+// How many of a consumer's links stand up to this supplier.
+fn count_up_to(rows: &[LinkRow], own: &[u32], last: Option<DevId>) -> usize
+    requires { IsRisingBy (supplier_at rows.now) own.now }
+    ensures { IsCountBelow (supplier_at rows.now) own.now (bound_of last) result }
 {
     match last {
-        Some(device) => device.0 < supplier.0,
-        None => true,
+        Some(device) => suppliers_below(rows, own, u64::from(device.0) + 1),
+        None => 0,
     }
 }
 
-// Whether a link is one of the device that is looked for.
-fn is_wanted(want: Want, dev: DevId, row: LinkRow, held: bool, present: bool) -> bool
-    ensures { result ≡ is_wanted want dev row held present }
+// The first of a consumer's links that has a mark, of those behind so many. Its own begin at `from`
+// in the order.
+fn first_marked(bits: &Bits, own: &[u32], from: usize, behind: usize) -> Option<usize>
+    requires within { from + length own.now ≤ length bits.now }
+    requires among { behind ≤ length own.now }
+    requires few { length bits.now < 2 ^ 32 }
+    ensures { IsFirstIn (λ k. nat_le behind k && is_marked bits.now (from + k)) own.now result }
 {
-    let is_link = row.consumer.0 == dev.0 && row.pm_runtime && present;
-    match want {
-        Want::Held => is_link && held,
-        Want::Free => is_link && !held,
-        Want::Above(last) => is_link && is_above(last, row.supplier),
-        Want::To(supplier) => row.consumer.0 == dev.0 && row.supplier.0 == supplier.0,
-        Want::Taken => row.consumer.0 == dev.0 && held,
+    let place = bits.first(from + behind)? - from;
+    if place < own.len() {
+        Some(own[place] as usize)
+    } else {
+        None
     }
 }
 
-// Whether the link at a place is.
-fn is_wanted_at(
-    want: Want,
-    dev: DevId,
-    rows: &[LinkRow],
-    held: &[bool],
-    present: &[bool],
-    link: usize,
-) -> bool
-    requires in_range { link < length rows.now }
-    requires held_len { length held.now ≡ length rows.now }
-    requires present_len { length present.now ≡ length rows.now }
-    ensures { result ≡ is_wanted_at want dev rows.now held.now present.now link }
+// That to this supplier.
+fn first_to(rows: &[LinkRow], own: &[u32], supplier: DevId) -> Option<usize>
+    requires { IsRisingBy (supplier_at rows.now) own.now }
+    ensures { IsFirstIn (λ k. nat_eq (supplier_at rows.now (slice_index own.now k)) supplier.0) own.now result }
 {
-    is_wanted(want, dev, rows[link], held[link], present[link])
+    let place = suppliers_below(rows, own, u64::from(supplier.0));
+    if place < own.len() && supplier_at(rows, own[place]) == supplier.0 {
+        Some(own[place] as usize)
+    } else {
+        None
+    }
 }
 
-/// The first of these links that is one of the device that is looked for.
+/// The first link of a consumer that is looked for. It looks at few of them.
 pub fn first_wanted(
     want: Want,
     dev: DevId,
     rows: &[LinkRow],
-    held: &[bool],
-    present: &[bool],
-    own: &[u32],
+    order: &[u32],
+    starts: &[usize],
+    marks: &Marks,
 ) -> Option<usize>
-    requires held_len { length held.now ≡ length rows.now }
-    requires present_len { length present.now ≡ length rows.now }
-    requires own { IsOwn rows.now dev own.now }
-    ensures { IsFirst (is_wanted_at want dev rows.now held.now present.now) rows.now result }
+    requires ordered { IsLinkOrder rows.now order.now }
+    requires started { AreStarts rows.now order.now starts.now }
+    requires sized { IsSized (length order.now) marks.now }
+    ensures { (held present : List Bool) → AreMarks rows.now order.now held present marks.now → IsFirst (is_wanted_at want dev rows.now held present) rows.now result }
 {
-    for link in own {
-        let link = *link as usize;
-        if is_wanted_at(want, dev, rows, held, present, link) {
-            return Some(link);
-        }
-    }
-    None
-}
-
-/// These links are free.
-pub fn free_each(held: &mut [bool], own: &[u32])
-    requires { All (λ link. link < length held.old) own.now }
-    ensures { held.new ≡ free_each held.old own.now }
-{
-    for link in own {
-        held[*link as usize] = false;
+    let from = start(starts, order, dev.0 as usize);
+    let own = own(rows, starts, order, dev);
+    match want {
+        Want::Held => first_marked(&marks.live_held, own, from, 0),
+        Want::Free => first_marked(&marks.live_free, own, from, 0),
+        Want::Above(last) => first_marked(&marks.live, own, from, count_up_to(rows, own, last)),
+        Want::To(supplier) => first_to(rows, own, supplier),
+        Want::Taken => first_marked(&marks.held, own, from, 0),
     }
 }

@@ -1,15 +1,23 @@
-use Rattle.std.proofs.Common.{◌≡◌, ◌∙◌, ap, length, sym, arith}
-use Rattle.std.proofs.lemmas.List.{with_items_is}
-use Rattle.pm_link.specs.Links.{LinkViews}
-use Rattle.pm_link.proofs.PairLemmas.{free_each_own}
+use Rattle.std.proofs.Common.{◌∙◌, ap, sym}
+use Rattle.pm_link.proofs.PairLemmas.{freed, freed-given, freed-none, freed_is}
 use Rattle.pm_link.proofs.Links.free_all.Goals as goal
 
+pub loop-link-preserved : goal.loop-link-preserved
+loop-link-preserved c =
+    let plan = c.args.plan.now in
+    let s = c.loop-link.self in
+    let first = c.in-Some.ensures.first in
+    rw c.put_held.ensures (record {
+      rows = c.loop-link.invariant.rows;
+      present = c.loop-link.invariant.present;
+      as_before = freed-given c.args.consumer plan.links s.held c.in-Some.link c.in-Some.ensures.held_len first.found.1 ∙ c.loop-link.invariant.as_before;
+    })
+
 pub returns-clause-freed : goal.returns-clause-freed
-returns-clause-freed c = λ v held.
-    let s = c.self.inside in
-    let own = rw c.as_slice.ensures at c.own-links.ensures in
-    let freed = rw c.deref_mut.ensures.value at c.free_each.ensures in
-    let was : c.args.self.now.held ≡ s.held.items = sym (ap (λ (l : LinkViews). l.held) c.self.view_is) in
-    let rows : s.rows.items ≡ c.args.plan.now.links = ap (λ (l : LinkViews). l.rows) c.self.view_is ∙ c.requires.made_for in
-    with_items_is s.held c.free_each.new.held (omega arith) ∙ freed
-    ∙ free_each_own c.args.plan.now c.args.consumer c.own-links.result.now v s.held.items own (held ∙ was) (c.self.invariant.held_len ∙ ap length rows)
+returns-clause-freed c = λ v was.
+    let plan = c.args.plan.now in
+    let s = c.loop-link.self in
+    let first = c.in_default.ensures.first in
+    sym (freed-none c.args.consumer plan.links s.held c.in_default.ensures.held_len first.missing)
+    ∙ c.loop-link.invariant.as_before
+    ∙ sym (freed_is plan c.args.consumer v ∙ ap (freed c.args.consumer plan.links) was)

@@ -1,6 +1,8 @@
+use Rattle.std.proofs.Common.{◌+◌, length, get_or}
 use Rattle.pm_link.proofs.OrderLemmas.{own_between}
 use Rattle.pm_link.proofs.order.own.Goals as goal
 
 pub returns : goal.returns
 returns c =
-    own_between _ _ c.args.consumer _ _ c.requires (rw c.from.ensures at c.count_below-from.ensures) (rw c.from-2.ensures at c.count_below-to.ensures)
+    rw (c.start-from.ensures, c.start-to.ensures)
+    (own_between c.args.rows.now c.args.order.now c.args.consumer (get_or c.args.starts.now c.args.consumer.0 (length c.args.order.now)) (get_or c.args.starts.now (c.args.consumer.0 + 1) (length c.args.order.now)) c.requires.ordered (c.requires.started c.args.consumer.0) (c.requires.started (c.args.consumer.0 + 1)))
