@@ -1,25 +1,11 @@
 //! Runs a plan of `pm_runtime_*` calls and writes one trace line per atomic step.
 #![tactic(auto)]
 
-#[cfg(test)]
-mod drawn;
-mod ending;
-mod output;
-#[cfg(test)]
-mod runs;
-#[cfg(test)]
-mod tests;
-mod top;
-#[cfg(test)]
-mod views;
-mod words;
-
-use ending::{Fault, refuse_words};
+use pm_commands::{Fault, refuse_words, top};
 use pm_io::{DiskFiles, StdErr, StdOut};
 use std::process::ExitCode;
 use std::rt::Env;
 use std::{env, io};
-use top::top;
 
 fn main(rt: HostRuntime) -> ExitCode {
     let mut files = DiskFiles::new(&rt);

@@ -1,0 +1,5 @@
+pub mod EndLemmas
+pub mod Exactly
+pub mod OutputLemmas
+pub mod ReadLemmas
+pub mod RunLemmas

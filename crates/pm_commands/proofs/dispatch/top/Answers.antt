@@ -1,0 +1,30 @@
+use Rattle.std.proofs.Common.{ap, subst}
+use Rattle.std.specs.Prelude.{IfSome, option_and_then}
+use Rattle.std.specs.declared.option.Option.{Option}
+use Rattle.pm_io.specs.Faults.{Rose}
+use Rattle.pm_words.specs.Request.{Asked}
+use Rattle.pm_commands.specs.Commands.{AskedEnds, MakeEnds, here}
+use Rattle.pm_commands.specs.Ending.{Answered, taking}
+use Rattle.pm_commands.proofs.EndLemmas.{answered_unread}
+use Rattle.pm_commands.proofs.dispatch.top.Goals as goal
+
+pub returns-in-Some-Serial-clause-answer : goal.returns-in-Some-Serial-clause-answer
+returns-in-Some-Serial-clause-answer g c =
+    let files = g.F.Files in
+    let unread = Rose (files.faults c.args.files.now) (files.faults c.serial_top.new.files) in
+    let out = taking g.O.Sink.taken g.O.Sink.faults c.args.out.now c.serial_top.new.out in
+    let err = taking g.E.Sink.taken g.E.Sink.faults c.args.err.now c.serial_top.new.err in
+    let names = rw c.in-Some-Serial.field-0-is at c.in-Some-Serial.ensures.request in
+    subst (λ (o : Option Asked). IfSome o (λ asked. Answered (AskedEnds files.tells_all (files.told c.args.files.now) asked) c.serial_top.result unread out err))
+    (ap (option_and_then here) names) c.serial_top.ensures
+
+pub returns-in-Some-Make-clause-answer : goal.returns-in-Some-Make-clause-answer
+returns-in-Some-Make-clause-answer g c =
+    let files = g.F.Files in
+    let unread = Rose (files.faults c.args.files.now) (files.faults c.args.files.now) in
+    let out = taking g.O.Sink.taken g.O.Sink.faults c.args.out.now c.make_top.new.out in
+    let err = taking g.E.Sink.taken g.E.Sink.faults c.args.err.now c.make_top.new.err in
+    let names = rw c.in-Some-Make.field-0-is at c.in-Some-Make.ensures.request in
+    subst (λ (o : Option Asked). IfSome o (λ asked. Answered (AskedEnds files.tells_all (files.told c.args.files.now) asked) c.make_top.result unread out err))
+    (ap (option_and_then here) names)
+    (answered_unread (MakeEnds c.in-Some-Make.number c.in-Some-Make.devices) unread c.make_top.result out err c.make_top.ensures)

@@ -1,0 +1,65 @@
+-- What each command may come to: its own endings (this project's own). Those that it shares with the others stand in
+-- `Ending`, and what comes of a plan's file in `Reading`.
+use Rattle.std.specs.Prelude.{◌≡◌, ℕ, Bool, true, false, Option, Some, None, List, reverse, option_and_then}
+use Rattle.pm_make.specs.Generator.{IsGenerated}
+use Rattle.pm_model.specs.declared.plan.Plan.{Plan}
+use Rattle.pm_model.specs.declared.event.Line.{Line}
+use Rattle.pm_model.specs.Lawful.{IsLawful}
+use Rattle.pm_model.specs.Promises.{gets_succeed, is_exclusive, is_kept, is_safe}
+use Rattle.pm_model.specs.Serial.{serial}
+use Rattle.pm_model.specs.Text.{text}
+use Rattle.pm_report.specs.Report.{summary, summary_text}
+use Rattle.pm_serial.specs.declared.running.End.{End}
+use Rattle.pm_serial.specs.declared.running.End.TheVariants as end
+use Rattle.pm_serial.specs.Ends.{IsSerialEnd}
+use Rattle.pm_words.specs.Request.{Asked, Make, Serial, asked_by}
+use Rattle.pm_commands.specs.Ending.{AtLimit, Done, Ending}
+use Rattle.pm_commands.specs.Reading.{OfPlan}
+
+-- the promises of a run: it is safe, exclusive and kept, and where nothing disturbs its gets succeed
+unfoldable pub KeepsPromises : Plan → List Line → Type 0
+KeepsPromises plan h = (is_safe plan h ≡ true) × (is_exclusive plan h ≡ true) × (is_kept plan h ≡ true) × (gets_succeed plan h ≡ true)
+
+-- the run that one thread makes of a plan is lawful, keeps its promises, and ends so
+pub record IsRun (plan : Plan) (e : End) : Type 0 where
+  pub lawful : IsLawful plan (reverse (serial plan))
+  pub promises : KeepsPromises plan (reverse (serial plan))
+  pub ends : IsSerialEnd plan e
+
+-- the ending of a run that ends so, with this text
+abbrev pub run_ending : End → List ℕ → Ending
+run_ending end.Finished bytes = Done bytes
+run_ending end.AtLimit bytes = AtLimit bytes
+
+abbrev pub is_whole : End → Bool
+is_whole end.Finished = true
+is_whole end.AtLimit = false
+
+-- `serial PLAN`: the text of the run
+pub record SerialEnds (plan : Plan) (ending : Ending) : Type 0 where
+  pub end_of : End
+  pub run : IsRun plan end_of
+  pub is : ending ≡ run_ending end_of (text plan (serial plan))
+
+-- `make NUMBER DEVICES`: the summary of the run of the generator's plan
+pub record MakeEnds (number devices : ℕ) (ending : Ending) : Type 0 where
+  pub plan : Plan
+  pub generated : IsGenerated number devices plan
+  pub end_of : End
+  pub run : IsRun plan end_of
+  pub is : ending ≡ run_ending end_of (summary_text (summary plan (serial plan) (is_whole end_of)))
+
+-- the commands that are here; the others are answered as wrong words
+abbrev pub here : Asked → Option Asked
+here (Serial plan) = Some (Serial plan)
+here (Make number devices) = Some (Make number devices)
+here _ = None
+
+abbrev pub named : List (List ℕ) → Option Asked
+named words = option_and_then here (asked_by words)
+
+-- the endings of the command that is asked for, over files of which so much is told
+abbrev pub AskedEnds : Bool → (List ℕ → Option (List ℕ)) → Asked → Ending → Type 0
+AskedEnds all told (Serial plan) = OfPlan all (told plan) SerialEnds
+AskedEnds all told (Make number devices) = MakeEnds number devices
+AskedEnds all told _ = λ _. ⊥

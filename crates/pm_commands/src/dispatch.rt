@@ -1,0 +1,41 @@
+//! Which command the words name.
+
+ghost use Rattle.std.specs.Prelude.{◌≡◌, ◌↔◌, map, string_bytes, IfSome, IsNone};
+ghost use Rattle.pm_io.specs.Faults.{Rose};
+ghost use Rattle.pm_commands.specs.Commands.{AskedEnds, named};
+ghost use Rattle.pm_commands.specs.Ending.{Answered, Told, taking, usage};
+
+use crate::ending::{WRONG_WORDS, refuse_words};
+use crate::make::make_top;
+use crate::serial::serial_top;
+use pm_io::{Files, Sink};
+use pm_words::{Request, read_words};
+use std::alloc::Global;
+
+/// Runs the command that the words name: they are those after the program's name. The answer is the status
+/// that the program ends with. Wrong words are answered by the usage text, which goes to `err`.
+///
+/// `serial` and `make` are here as yet; the words of the other commands are answered as wrong ones.
+pub fn top<F: Files, O: Sink, E: Sink>(
+    alloc: Global,
+    words: &[String],
+    files: &mut F,
+    out: &mut O,
+    err: &mut E,
+) -> u8
+    ensures words { (result ≡ WRONG_WORDS) ↔ IsNone (named (map string_bytes words.now)) }
+    ensures untouched { result ≡ WRONG_WORDS → (files.new ≡ files.old) × (out.new ≡ out.old) }
+    ensures usage { result ≡ WRONG_WORDS → Told (taking E.taken E.faults err.old err.new) usage }
+
+    // Else the clause of the command that they name.
+    ensures answer { IfSome (named (map string_bytes words.now)) (λ asked.
+        Answered (AskedEnds F.tells_all (F.told files.old) asked) result
+        (Rose (F.faults files.old) (F.faults files.new))
+        (taking O.taken O.faults out.old out.new) (taking E.taken E.faults err.old err.new)) }
+{
+    match read_words(words) {
+        Some(Request::Serial { plan }) => serial_top(alloc, plan, files, out, err),
+        Some(Request::Make { number, devices }) => make_top(alloc, number, devices, out, err),
+        _ => refuse_words(err),
+    }
+}

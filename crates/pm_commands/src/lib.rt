@@ -1,0 +1,22 @@
+//! The commands of the program, over files and sinks that are handed in (this project's own).
+#![tactic(auto)]
+
+mod counts;
+mod dispatch;
+mod ending;
+mod laws;
+mod make;
+mod output;
+mod running;
+mod serial;
+#[cfg(test)]
+mod tests;
+
+pub use counts::counts_text;
+pub use dispatch::top;
+pub use ending::{
+    AT_LIMIT, DONE, Fault, NO_MEMORY, READ_FAILED, REFUSED, WRITE_FAILED, WRONG_WORDS, refuse_words,
+};
+pub use laws::serial_answers_exactly;
+pub use make::make_top;
+pub use serial::serial_top;

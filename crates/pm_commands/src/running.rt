@@ -1,0 +1,81 @@
+//! Plans that are read from their files, and their runs on one thread.
+
+ghost use Rattle.std.specs.Prelude.{◌≡◌, [], reverse, IfErr, IfOk};
+ghost use Rattle.pm_io.specs.Faults.{Rose};
+ghost use Rattle.pm_model.specs.Serial.{serial};
+ghost use Rattle.pm_commands.specs.Coming.{IsUnread, ended};
+ghost use Rattle.pm_commands.specs.Commands.{IsRun, is_whole};
+ghost use Rattle.pm_commands.specs.Reading.{IsRead};
+
+use crate::ending::Fault;
+use pm_base::{NoMemory, PLAN_BYTES};
+use pm_book::Book;
+use pm_io::{Files, read_all};
+use pm_kept::kept;
+use pm_model::Plan;
+use pm_planread::read_plan;
+use pm_running::{runs_are_exclusive, runs_are_safe};
+use pm_serial::{End, drain, fresh_books_have_time};
+use pm_succeed::gets_succeed;
+use std::alloc::Global;
+
+/// Reads the plan from its file.
+pub(crate) fn load<F: Files>(alloc: Global, plan: &str, files: &mut F) -> Result<Plan, Fault>
+    ensures read { IfOk result (IsRead F.tells_all (F.told files.old plan.now)) }
+    ensures unread { IfErr result (IsUnread F.tells_all (F.told files.old plan.now)
+        (Rose (F.faults files.old) (F.faults files.new))) }
+{
+    let bytes = read_all(alloc, files, plan, PLAN_BYTES)?;
+    Ok(read_plan(alloc, &bytes)?)
+}
+
+/// A plan's run on one thread, and how it ended.
+#[derive(Drop)]
+pub(crate) struct Ran {
+    pub(crate) book: Book,
+    pub(crate) end: End,
+}
+
+/// The run of the plan on one thread.
+pub(crate) fn run(alloc: Global, plan: Plan) -> Result<Ran, NoMemory>
+    ensures plan { IfOk result (λ ran. ran.book.plan ≡ plan) }
+    ensures lines { IfOk result (λ ran. reverse ran.book.lines ≡ serial plan) }
+    ensures run { IfOk result (λ ran. IsRun plan ran.end) }
+{
+    runs_are_safe();
+    runs_are_exclusive();
+    kept();
+    gets_succeed();
+    fresh_books_have_time();
+    let mut book = start(alloc, plan)?;
+    let end = drain(&mut book)?;
+    Ok(Ran { book, end })
+}
+
+/// The book of the plan, with no lines.
+fn start(alloc: Global, plan: Plan) -> Result<Book, NoMemory>
+    ensures plan { IfOk result (λ book. book.plan ≡ plan) }
+    ensures lines { IfOk result (λ book. book.lines ≡ []) }
+{
+    match Book::start(alloc, plan) {
+        Ok(book) => Ok(book),
+        Err((_plan, error)) => Err(error),
+    }
+}
+
+/// Whether the run is finished. Else it has all the lines that its plan allows.
+pub(crate) fn is_whole(end: End) -> bool
+    ensures { result ≡ is_whole end }
+{
+    matches!(end, End::Finished)
+}
+
+/// How the work of a command is done whose run ended so, and was written.
+pub(crate) fn ended(end: End) -> Result<(), Fault>
+    ensures { result ≡ ended end }
+{
+    match end {
+        End::Finished => Ok(()),
+        End::AtLimit => Err(Fault::AtLimit),
+    }
+}

@@ -1,0 +1,70 @@
+//! `serial PLAN`: runs the plan on one thread.
+
+ghost use Rattle.std.specs.Prelude.{reverse};
+ghost use Rattle.pm_io.specs.Faults.{Rose};
+ghost use Rattle.pm_model.specs.Text.{text};
+ghost use Rattle.pm_commands.specs.Coming.{Came, Wrote};
+ghost use Rattle.pm_commands.specs.Commands.{SerialEnds};
+ghost use Rattle.pm_commands.specs.Ending.{Answered, taking};
+ghost use Rattle.pm_commands.specs.Reading.{OfPlan};
+
+use crate::ending::{Fault, finish};
+use crate::output::write_text;
+use crate::running::{ended, load, run};
+use pm_base::TEXT_BYTES;
+use pm_book::Book;
+use pm_io::{Files, Sink};
+use pm_model::Plan;
+use std::alloc::Global;
+
+/// Runs `serial PLAN`: reads the plan, runs it on one thread and writes its lines to `out`. A message
+/// goes to `err`, and the answer is the status that the program ends with.
+pub fn serial_top<F: Files, O: Sink, E: Sink>(
+    alloc: Global,
+    plan: &str,
+    files: &mut F,
+    out: &mut O,
+    err: &mut E,
+) -> u8
+    ensures { Answered (OfPlan F.tells_all (F.told files.old plan.now) SerialEnds) result
+        (Rose (F.faults files.old) (F.faults files.new))
+        (taking O.taken O.faults out.old out.new) (taking E.taken E.faults err.old err.new) }
+{
+    finish(run_serial(alloc, plan, files, out), err)
+}
+
+/// Reads the plan, runs it and writes the lines of its run.
+fn run_serial<F: Files, O: Sink>(
+    alloc: Global,
+    plan: &str,
+    files: &mut F,
+    out: &mut O,
+) -> Result<(), Fault>
+    ensures { Came (OfPlan F.tells_all (F.told files.old plan.now) SerialEnds) result
+        (Rose (F.faults files.old) (F.faults files.new))
+        (taking O.taken O.faults out.old out.new) }
+{
+    let plan = load(alloc, plan, files)?;
+    run_plan(alloc, plan, out)
+}
+
+/// Runs the plan on one thread and writes the lines of its run. Everything that takes memory comes
+/// before the first write.
+fn run_plan<O: Sink>(alloc: Global, plan: Plan, out: &mut O) -> Result<(), Fault>
+    ensures { Came (SerialEnds plan) result ⊥ (taking O.taken O.faults out.old out.new) }
+{
+    let ran = run(alloc, plan)?;
+    write_book(alloc, &ran.book, out)?;
+    ended(ran.end)
+}
+
+/// Writes the lines of a book.
+fn write_book<O: Sink>(alloc: Global, book: &Book, out: &mut O) -> Result<(), Fault>
+    ensures { Wrote (text book.now.plan (reverse book.now.lines)) result
+        (taking O.taken O.faults out.old out.new) }
+{
+    let lines = book.lines();
+    let mut piece = Vec::with_capacity(alloc, TEXT_BYTES + 1)?;
+    write_text(alloc, out, &mut piece, book.plan(), lines)?;
+    Ok(())
+}

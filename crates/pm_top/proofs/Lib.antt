@@ -1,3 +1,0 @@
-pub mod OutputLemmas
-pub mod TopLemmas
-pub mod WordLemmas

@@ -1,0 +1,4 @@
+pub mod Numbers
+pub mod Ordering
+pub mod Request
+pub mod Words
