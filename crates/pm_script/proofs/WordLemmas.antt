@@ -1,9 +1,8 @@
 -- What cutting at a space makes of the words.
-use Rattle.std.proofs.Common.{◌≡◌, ℕ, ◌+◌, ◌<◌, ◌≤◌, List, [], ◌∷◌, length, take, drop, filter, Some, None, position, slice_get, refl, length-drop, add-one, zero, suc, ap, arith}
+use Rattle.std.proofs.Common.{◌≡◌, ℕ, ◌+◌, ◌<◌, ◌≤◌, List, [], ◌∷◌, length, take, drop, filter, Some, None, position, slice_get, refl, add-one, zero, suc, sym, ap, ◌∙◌, arith}
 use Rattle.std.specs.List.{slice_split, position_or_len}
 use Rattle.std.proofs.lemmas.Bool.Decides.{nat_tests}
-use Rattle.std.proofs.lemmas.List.{drop_more}
-use Rattle.std.proofs.lemmas.Option.{slice_get-get_or, slice_get_past}
+use Rattle.std.proofs.lemmas.Option.{slice_get_past}
 use Rattle.std.proofs.lemmas.List.Splits.{slice_split_first, slice_split_none}
 use Rattle.std.proofs.lemmas.List.Sums.{fails_before_first}
 use Rattle.pm_script.specs.Words.{is_space, is_word, words_of}
@@ -38,13 +37,16 @@ pub no_word : (bytes part behind : List ℕ) → words_of bytes ≡ filter is_wo
 no_word bytes [] behind is none = is
 no_word bytes (c ∷ part) behind is none = absurd (omega arith)
 
--- the words behind the first ones
-pub words_behind : (words rest : List (List ℕ)) (word : List ℕ) (i : ℕ) → drop i words ≡ word ∷ rest → (drop (i + 1) words ≡ rest) × (slice_get words i ≡ Some word)
-words_behind words rest word i is =
-    let below : i < length words = omega (arith, length-drop i words, ap length is) in
-    let more = drop_more words i word below in
-    let there = slice_get-get_or words i word below in
-    (cc, cc)
+-- the words behind the first one
+behind_first : (words : List (List ℕ)) (i : ℕ) → slice_get (drop 1 words) i ≡ slice_get words (suc i)
+behind_first [] i = slice_get_past [] i (omega arith) ∙ sym (slice_get_past [] (suc i) (omega arith))
+behind_first (word ∷ words) i = refl
 
-pub words_ended : (words : List (List ℕ)) (i place : ℕ) → drop i words ≡ [] → i ≤ place → slice_get words place ≡ None
-words_ended words i place is within = slice_get_past words place (omega (arith, length-drop i words, ap length is))
+pub second_word : (words behind : List (List ℕ)) → behind ≡ drop 1 words → slice_get behind 0 ≡ slice_get words 1
+second_word words behind is = rw is (behind_first words 0)
+
+pub third_word : (words behind last : List (List ℕ)) → behind ≡ drop 1 words → last ≡ drop 1 behind → slice_get last 0 ≡ slice_get words 2
+third_word words behind last is more = second_word behind last more ∙ rw is (behind_first words 1)
+
+pub fourth_word : (words behind next last : List (List ℕ)) → behind ≡ drop 1 words → next ≡ drop 1 behind → last ≡ drop 1 next → slice_get last 0 ≡ slice_get words 3
+fourth_word words behind next last is more most = third_word behind next last more most ∙ rw is (behind_first words 2)

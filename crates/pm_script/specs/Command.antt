@@ -23,20 +23,20 @@ result_and_then next (Ok value) = next value
 unfoldable pub helper_named : List ℕ → Option Helper
 helper_named word = find (λ h. bytes_eq word (helper_word h)) all_helpers
 
--- the place of the device that the nth word names, counted from 0
-abbrev pub device_at : List (List ℕ) → List (List ℕ) → ℕ → Option ℕ
-device_at names words n = option_and_then (λ word. place_named word names) (slice_get words n)
+-- the place of the device that a word names
+abbrev pub device_named : List (List ℕ) → Option (List ℕ) → Option ℕ
+device_named names word = option_and_then (λ w. place_named w names) word
 
 abbrev pub dev_at : ℕ → DevId
 dev_at place = record { 0 = place }
 
 -- Word: there is no first word, or it isn't a helper
-abbrev pub helper_in : List (List ℕ) → Result Helper ScriptFault
-helper_in words = ok_or (option_and_then helper_named (slice_get words 0)) Word
+abbrev pub helper_in : Option (List ℕ) → Result Helper ScriptFault
+helper_in word = ok_or (option_and_then helper_named word) Word
 
 -- Device: the helper takes a device, and the next word is missing or names none. `delay` takes none and has 0.
-abbrev pub device_in : List (List ℕ) → Helper → List (List ℕ) → Result DevId ScriptFault
-device_in names h words = if takes_device h then ok_or (option_map dev_at (device_at names words 1)) Device else Ok (dev_at 0)
+abbrev pub device_in : List (List ℕ) → Helper → Option (List ℕ) → Result DevId ScriptFault
+device_in names h word = if takes_device h then ok_or (option_map dev_at (device_named names word)) Device else Ok (dev_at 0)
 
 -- how many words there are up to the helper's device
 abbrev pub words_before_operand : Helper → ℕ
@@ -44,26 +44,31 @@ words_before_operand h = if takes_device h then 2 else 1
 
 -- Device: the helper takes a second device, and the word is missing or names none.
 -- Number: the helper takes a number, or on or off, and the word is missing or is no such number.
-abbrev pub operand_in : List (List ℕ) → Helper → Operand → List (List ℕ) → Result ℤ ScriptFault
-operand_in names h Nothing words = Ok (pos 0)
-operand_in names h Milliseconds words = ok_or (option_and_then (milliseconds_in h) (slice_get words (words_before_operand h))) Number
-operand_in names h Switch words = ok_or (option_and_then switch_in (slice_get words (words_before_operand h))) Number
-operand_in names h Supplier words = ok_or (option_map pos (device_at names words (words_before_operand h))) Device
+abbrev pub operand_in : List (List ℕ) → Helper → Operand → Option (List ℕ) → Result ℤ ScriptFault
+operand_in names h Nothing word = Ok (pos 0)
+operand_in names h Milliseconds word = ok_or (option_and_then (milliseconds_in h) word) Number
+operand_in names h Switch word = ok_or (option_and_then switch_in word) Number
+operand_in names h Supplier word = ok_or (option_map pos (device_named names word)) Device
 
 -- how many words a command of the helper has
 abbrev pub word_count : Helper → Operand → ℕ
 word_count h Nothing = words_before_operand h
 word_count h _ = words_before_operand h + 1
 
+-- the word at that count, of the second, the third and the fourth
+abbrev pub word_left : Helper → Operand → Option (List ℕ) → Option (List ℕ) → Option (List ℕ) → Option (List ℕ)
+word_left h Nothing second third fourth = if takes_device h then third else second
+word_left h _ second third fourth = if takes_device h then fourth else third
+
 -- Extra: words are left
-abbrev pub ended : Helper → List (List ℕ) → Command → Result Command ScriptFault
-ended h words command = if is_none (slice_get words (word_count h (operand_of h))) then Ok command else Err Extra
+abbrev pub ended : Option (List ℕ) → Command → Result Command ScriptFault
+ended word command = if is_none word then Ok command else Err Extra
 
 -- the command that these words are over devices of these names, or the first of its refusals
 abbrev pub command_in : List (List ℕ) → List (List ℕ) → Result Command ScriptFault
 command_in names words =
-    result_and_then (λ h. result_and_then (λ d. result_and_then (λ n. ended h words (record { helper = h; dev = d; number = n }))
-    (operand_in names h (operand_of h) words)) (device_in names h words)) (helper_in words)
+    result_and_then (λ h. result_and_then (λ d. result_and_then (λ n. ended (slice_get words (word_count h (operand_of h))) (record { helper = h; dev = d; number = n }))
+    (operand_in names h (operand_of h) (slice_get words (words_before_operand h)))) (device_in names h (slice_get words 1))) (helper_in (slice_get words 0))
 
 -- the command that these bytes are
 unfoldable pub command_of : List (List ℕ) → List ℕ → Result Command ScriptFault

@@ -1,6 +1,6 @@
 //! The words of a command.
 
-ghost use Rattle.std.specs.Prelude.{◌≡◌, ◌<◌, ◌∷◌, filter, length, option_map, position, slice_get};
+ghost use Rattle.std.specs.Prelude.{◌≡◌, ◌<◌, ◌∷◌, drop, filter, length, option_map, position, slice_get};
 ghost use Rattle.std.specs.List.{slice_split};
 ghost use Rattle.std.specs.Option.{option_copied};
 ghost use Rattle.pm_script.specs.Words.{is_space, is_word, words_of, words_from};
@@ -43,13 +43,42 @@ fn next_word(bytes: &[u8]) -> Option<(&[u8], &[u8])>
     None
 }
 
-/// The word at a place, counted from 0.
-pub fn word_at(bytes: &[u8], place: usize) -> Option<&[u8]>
-    ensures { option_copied result ≡ slice_get (words_of bytes.now) place }
+/// The first words of a command, as far as there are so many. No command has more than three.
+#[derive(Clone, Copy, Debug)]
+pub struct FirstWords<'a> {
+    pub first: Option<&'a [u8]>,
+    pub second: Option<&'a [u8]>,
+    pub third: Option<&'a [u8]>,
+    pub fourth: Option<&'a [u8]>,
+}
+
+/// The first words, for which the bytes are gone through once.
+#[tactic(auto, using(crate::proofs::WordLemmas::second_word, crate::proofs::WordLemmas::third_word, crate::proofs::WordLemmas::fourth_word))]
+pub fn first_words(bytes: &[u8]) -> FirstWords
+    ensures first { option_copied result.first ≡ slice_get (words_of bytes.now) 0 }
+    ensures second { option_copied result.second ≡ slice_get (words_of bytes.now) 1 }
+    ensures third { option_copied result.third ≡ slice_get (words_of bytes.now) 2 }
+    ensures fourth { option_copied result.fourth ≡ slice_get (words_of bytes.now) 3 }
 {
-    let mut rest = bytes;
-    for _skipped in 0..place {
-        rest = next_word(rest)?.1;
+    let (first, behind_first) = taken(bytes);
+    let (second, behind_second) = taken(behind_first);
+    let (third, behind_third) = taken(behind_second);
+    let (fourth, _) = taken(behind_third);
+    FirstWords {
+        first,
+        second,
+        third,
+        fourth,
     }
-    Some(next_word(rest)?.0)
+}
+
+/// The first word, where there is one, and what stands behind it.
+fn taken(bytes: &[u8]) -> (Option<&[u8]>, &[u8])
+    ensures word { option_copied result.0 ≡ slice_get (words_of bytes.now) 0 }
+    ensures behind { words_of result.1.now ≡ drop 1 (words_of bytes.now) }
+{
+    match next_word(bytes) {
+        Some((word, behind)) => (Some(word), behind),
+        None => (None, &[]),
+    }
 }
