@@ -1,0 +1,2 @@
+pub mod OpenGets
+pub mod Reasons
