@@ -88,9 +88,9 @@ begins_at_once plan v d t free =
 record Says (e : Event) (r : Row) : Type 0 where
   said : line_of r ≡ Some e
 
-skipped : {e : Event} {x y : Row} (b : Bool) → Says e (if b then x else y) → (line_of x ≡ Some e → ⊥) → (b ≡ false) × Says e y
-skipped true says none = absurd (none says.said)
-skipped false says none = (refl, says)
+skipped : {e : Event} (x y : Row) (b : Bool) → Says e (if b then x else y) → (line_of x ≡ Some e → ⊥) → (b ≡ false) × Says e y
+skipped x y true says none = absurd (none says.said)
+skipped x y false says none = (refl, says)
 
 no_return : (plan : Plan) (d : DevId) (c : ℤ) → Some (event.Return cb.Suspend d c) ≡ Some (suspend_line plan d) → ⊥
 no_return plan d c is = go (no_callbacks plan d) is
@@ -122,10 +122,10 @@ record Begins (plan : Plan) (v : Views) (d : DevId) : Type 0 where
 begun : (plan : Plan) (v : Views) (d : DevId) (t : ℕ) → Says (suspend_line plan d) (suspend_verdict plan v d 0 t) → Begins plan v d
 unfolding suspend_verdict has
 begun plan v d t says =
-    let first = skipped (not (int_eq (refusal plan v d) (pos 0))) says (no_return plan d (refusal plan v d)) in
-    let second = skipped (is_resuming v d && true) first.1 (no_return plan d EAGAIN) in
-    let third = skipped (is_suspending v d && false) second.1 (no_return plan d EINPROGRESS) in
-    let fourth = skipped (is_suspending v d) third.1 (no_wait plan d) in
+    let first = skipped _ _ (not (int_eq (refusal plan v d) (pos 0))) says (no_return plan d (refusal plan v d)) in
+    let second = skipped _ _ (is_resuming v d && true) first.1 (no_return plan d EAGAIN) in
+    let third = skipped _ _ (is_suspending v d && false) second.1 (no_return plan d EINPROGRESS) in
+    let fourth = skipped _ _ (is_suspending v d) third.1 (no_wait plan d) in
     record { refused = not_false _ first.0; resuming = and_true _ second.0; suspending = fourth.0 }
 
 free_where_it_begins : (plan : Plan) (v : Views) (d : DevId) (t : ℕ) → line_of (suspend_verdict plan v d 0 t) ≡ Some (suspend_line plan d) → IsFree plan v d
