@@ -9,7 +9,7 @@ use Rattle.pm_base.specs.declared.Why.{Why}
 use Rattle.pm_base.specs.declared.Why.TheVariants as why
 use Rattle.pm_model.specs.Counted.{is_same}
 use Rattle.pm_sums.specs.Sums.{one}
-use Rattle.pm_why.specs.declared.Count.{Count}
+use Rattle.pm_why.specs.declared.gets.Count.{Count}
 use Rattle.pm_why.specs.OpenGets.{is_why, is_for, without, without_earliest}
 
 pub same_device : (c d : DevId) → is_same c d ≡ true → c ≡ d

@@ -1,10 +1,11 @@
 -- Nothing keeps a device from suspending exactly where its suspend begins at once.
-use Rattle.std.proofs.Common.{ℕ, ◌≡◌, ◌+◌, ◌<◌, Bool, true, false, cond, not, ◌&&◌, ◌||◌, List, [], ◌∷◌, ◌++◌, Option, Some, None, ℤ, pos, length, length-append, map, nat_lt, if◌then◌else◌, ap, refl, sym, ◌∙◌, arith}
+use Rattle.std.proofs.Common.{ℕ, suc, ◌≡◌, ◌+◌, ◌<◌, Bool, true, false, cond, not, ◌&&◌, ◌||◌, List, [], ◌∷◌, ◌++◌, Option, Some, None, ℤ, pos, length, length-append, map, nat_lt, slice_get, slice_index_or, if◌then◌else◌, ap, refl, sym, ◌∙◌, arith}
 use Rattle.std.specs.List.{count_by, enumerate_from, filter, zip}
 use Rattle.std.specs.Ordering.{int_eq}
 use Rattle.std.proofs.lemmas.Bool.{false≢true, ltb-false}
 use Rattle.std.proofs.lemmas.List.{length-map}
 use Rattle.std.proofs.lemmas.List.Sums.{length-filter, sum_by-cons}
+use Rattle.std.proofs.lemmas.Option.{get_or_from_slice_get}
 use Rattle.pm_base.specs.declared.Cb.TheVariants as cb
 use Rattle.pm_base.specs.declared.DevId.{DevId}
 use Rattle.pm_base.specs.declared.Status.{Status}
@@ -19,17 +20,18 @@ use Rattle.pm_model.specs.declared.views.Device.{Device}
 use Rattle.pm_model.specs.Derived.{asks_resume, children, first_of, has, has_children, has_error, is_active, is_active_status, is_counted_child, is_disabled, is_in_use, is_resuming, is_resuming_status, is_suspended, is_suspended_status, is_suspending, is_suspending_status, refusal}
 use Rattle.pm_model.specs.History.{History}
 use Rattle.pm_model.specs.Lawful.{IsLawful}
-use Rattle.pm_model.specs.PlanRows.{no_callbacks}
+use Rattle.pm_model.specs.PlanRows.{no_callbacks, parent}
 use Rattle.pm_model.specs.Row.{Row}
 use Rattle.pm_model.specs.SuspendTable.{suspend_verdict}
-use Rattle.pm_model.specs.Views.{Views, device, pending_of}
+use Rattle.pm_model.specs.Views.{Views, device, fresh_device, pending_of}
 use Rattle.pm_model.specs.World.{world}
 use Rattle.pm_sums.specs.Sums.{one}
-use Rattle.pm_why.specs.declared.Count.{Count}
+use Rattle.pm_laws.proofs.Runs.{lawful_holds}
+use Rattle.pm_why.specs.declared.gets.Count.{Count}
 use Rattle.pm_why.specs.declared.Reason.{Reason}
 use Rattle.pm_why.specs.declared.Reason.TheVariants as reason
 use Rattle.pm_why.specs.OpenGets.{open_gets}
-use Rattle.pm_why.specs.Reasons.{child_reasons, count_reasons, counted_children, error_line, line_of, reasons, reasons_on, suspend_line, when}
+use Rattle.pm_why.specs.Reasons.{child_reasons, count_reasons, counted_children, devices_of, error_line, is_child, line_of, reasons, reasons_on, suspend_line, when}
 use Rattle.pm_why.proofs.UsageLemmas.{length_is}
 
 -- no test of the refusal holds, and the device is Active
@@ -175,17 +177,33 @@ lengths plan v h d =
     )
 
 -- the children that count
-enumerated : {A : Type 0} (test : A → Bool) (l : List A) (i : ℕ) → count_by (λ (p : ℕ × A). test p.1) (enumerate_from i l) ≡ count_by test l
-enumerated test [] i = refl
-enumerated {A} test (x ∷ l) i =
-    omega (arith, sum_by-cons (λ (p : ℕ × A). cond (test p.1) 1 0) (i, x) (enumerate_from (i + 1) l), sum_by-cons (λ (y : A). cond (test y) 1 0) x l, enumerated test l (i + 1))
+counted_at : (f : DevId → Bool) (t : DeviceRow × Device → Bool) (rows : List DeviceRow) (xs : List Device) (i : ℕ) → length rows ≡ length xs
+    → ((k : ℕ) (row : DeviceRow) (x : Device) → slice_get rows k ≡ Some row → slice_get xs k ≡ Some x → f (record { 0 = i + k }) ≡ t (row, x))
+    → count_by f (map (λ p. record { 0 = p.0 }) (enumerate_from i rows)) ≡ count_by t (zip rows xs)
+counted_at f t [] xs i same each = refl
+counted_at f t (row ∷ rows) [] i same each = absurd (omega arith)
+counted_at f t (row ∷ rows) (x ∷ xs) i same each =
+    let here : one (f (record { 0 = i })) ≡ one (t (row, x)) = ap (λ n. one (f (record { 0 = n }))) (omega arith) ∙ ap one (each 0 row x refl refl) in
+    let later = counted_at f t rows xs (i + 1) (omega arith) (λ k r y rows_k xs_k. ap (λ n. f (record { 0 = n })) (omega arith) ∙ each (suc k) r y rows_k xs_k) in
+    omega (
+      arith,
+      sum_by-cons (λ (c : DevId). cond (f c) 1 0) (record { 0 = i }) (map (λ (p : ℕ × DeviceRow). record { 0 = p.0 }) (enumerate_from (i + 1) rows)),
+      sum_by-cons (λ (q : DeviceRow × Device). cond (t q) 1 0) (row, x) (zip rows xs),
+    )
 
-counted : (plan : Plan) (v : Views) (d : DevId) → length (counted_children plan v d) ≡ children plan v d
+child_at : (plan : Plan) (v : Views) (d : DevId) (k : ℕ) (row : DeviceRow) (x : Device) → slice_get plan.devices k ≡ Some row → slice_get v.devices k ≡ Some x
+    → is_child plan v d (record { 0 = 0 + k }) ≡ is_counted_child d row x
+unfolding parent
+child_at plan v d k row x of_plan of_views =
+    let entry : slice_index_or v.devices k fresh_device ≡ x = get_or_from_slice_get v.devices k x fresh_device of_views in
+    let at_k : 0 + k ≡ k = omega arith in
+    rw (at_k, of_plan, entry) refl
+
+counted : (plan : Plan) (v : Views) (d : DevId) → length v.devices ≡ length plan.devices → length (counted_children plan v d) ≡ children plan v d
 unfolding children
-counted plan v d =
-    length-map (filter (λ (p : ℕ × (DeviceRow × Device)). is_counted_child d p.1.0 p.1.1) (enumerate_from 0 (zip plan.devices v.devices))) _
-    ∙ length-filter (λ (p : ℕ × (DeviceRow × Device)). is_counted_child d p.1.0 p.1.1) (enumerate_from 0 (zip plan.devices v.devices))
-    ∙ enumerated (λ (q : DeviceRow × Device). is_counted_child d q.0 q.1) (zip plan.devices v.devices) 0
+counted plan v d entries =
+    length-filter (is_child plan v d) (devices_of plan)
+    ∙ counted_at (is_child plan v d) (λ q. is_counted_child d q.0 q.1) plan.devices v.devices 0 (sym entries) (child_at plan v d)
 
 children_none : (ignores : Bool) (l : List DevId) (n : ℕ) → length l ≡ n → length (if ignores then [] else map reason.Child l) ≡ 0 → nat_lt 0 n && not ignores ≡ false
 children_none true l n is none = and_off (nat_lt 0 n)
@@ -212,6 +230,7 @@ empty (x ∷ l) e = absurd (omega arith)
 free_if_none : (plan : Plan) (h : History) (d : DevId) → IsLawful plan h → d.0 < length plan.devices → reasons plan h d ≡ [] → IsFree plan (world plan h).views d
 free_if_none plan h d lawful within none =
     let v = (world plan h).views in
+    let entries = (lawful_holds plan h lawful).entries.devices in
     let all = lengths plan v h d in
     let zero : length (reasons plan h d) ≡ 0 = ap length none in
     let unused : (device v d).usage ≡ 0 = omega (arith, length_is plan h d lawful within) in
@@ -219,7 +238,7 @@ free_if_none plan h d lawful within none =
       error = off_one (has_error v d) (omega arith);
       depth = off_one (is_disabled v d) (omega arith);
       usage = rw unused refl;
-      children = children_none (device v d).ignores (counted_children plan v d) (children plan v d) (counted plan v d) (omega arith);
+      children = children_none (device v d).ignores (counted_children plan v d) (children plan v d) (counted plan v d entries) (omega arith);
       deferred = off_one (is_suspending v d && (pending_of v d).deferred) (omega arith);
       request = off_one (asks_resume v d) (omega arith);
       active = not_false (is_active v d) (off_one (not (is_active v d)) (omega arith));
@@ -228,6 +247,7 @@ free_if_none plan h d lawful within none =
 none_if_free : (plan : Plan) (h : History) (d : DevId) → IsLawful plan h → d.0 < length plan.devices → IsFree plan (world plan h).views d → reasons plan h d ≡ []
 none_if_free plan h d lawful within free =
     let v = (world plan h).views in
+    let entries = (lawful_holds plan h lawful).entries.devices in
     let few = ltb-false 0 (device v d).usage free.usage in
     let active : one (not (is_active v d)) ≡ 0 = ap (λ b. one (not b)) free.active in
     empty (reasons plan h d) (
@@ -237,7 +257,7 @@ none_if_free plan h d lawful within free =
       length_is plan h d lawful within,
       ap one free.error,
       ap one free.depth,
-      none_children (device v d).ignores (counted_children plan v d) (children plan v d) (counted plan v d) free.children,
+      none_children (device v d).ignores (counted_children plan v d) (children plan v d) (counted plan v d entries) free.children,
       ap one free.deferred,
       ap one free.request,
     ))

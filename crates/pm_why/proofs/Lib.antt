@@ -6,3 +6,4 @@ pub mod Settings
 pub mod Moves
 pub mod UsageLemmas
 pub mod FreeLemmas
+pub mod GetLemmas

@@ -23,7 +23,7 @@ use Rattle.pm_sums.specs.Sums.{one}
 use Rattle.pm_laws.proofs.Links.{held_of, one_and_false}
 use Rattle.pm_laws.proofs.Runs.{start_tally, start_usage}
 use Rattle.pm_laws.proofs.Said.{usage_counted}
-use Rattle.pm_why.specs.declared.Count.{Count}
+use Rattle.pm_why.specs.declared.gets.Count.{Count}
 use Rattle.pm_why.specs.declared.Reason.{Reason}
 use Rattle.pm_why.specs.declared.Reason.TheVariants as reason
 use Rattle.pm_why.specs.OpenGets.{is_why, is_for, open_after, open_for, open_gets, without, without_earliest}

@@ -10,7 +10,7 @@ use Rattle.pm_model.specs.declared.event.Event.TheVariants as event
 use Rattle.pm_model.specs.declared.event.Word.TheVariants as word
 use Rattle.pm_model.specs.Counted.{is_same}
 use Rattle.pm_model.specs.History.{History}
-use Rattle.pm_why.specs.declared.Count.{Count}
+use Rattle.pm_why.specs.declared.gets.Count.{Count}
 
 -- whether two reasons for a count are the same
 abbrev pub is_why : Why → Why → Bool

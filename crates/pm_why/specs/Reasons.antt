@@ -1,7 +1,7 @@
 -- What keeps a device from suspending after a list of lines (this project's own; the rules: runtime_pm.rst, sections 2 to
 -- 5). Lists of lines have the newest line first; lines are counted from 1.
-use Rattle.std.specs.Prelude.{ℕ, ◌+◌, Bool, true, false, not, ◌&&◌, List, [], ◌∷◌, ◌++◌, Option, Some, None, pos, length, map, if◌then◌else◌}
-use Rattle.std.specs.List.{enumerate_from, filter, zip}
+use Rattle.std.specs.Prelude.{ℕ, ◌+◌, Bool, true, false, not, ◌&&◌, ◌||◌, List, [], ◌∷◌, ◌++◌, Option, Some, None, pos, length, map, nat_eq, if◌then◌else◌}
+use Rattle.std.specs.List.{enumerate_from, filter}
 use Rattle.std.specs.Option.{option_map_or}
 use Rattle.std.specs.Ordering.{int_eq}
 use Rattle.pm_base.specs.declared.Cb.TheVariants as cb
@@ -11,9 +11,9 @@ use Rattle.pm_model.specs.declared.event.Event.TheVariants as event
 use Rattle.pm_model.specs.declared.event.Word.TheVariants as word
 use Rattle.pm_model.specs.declared.plan.Plan.{Plan}
 use Rattle.pm_model.specs.Counted.{only_if, says_error}
-use Rattle.pm_model.specs.Derived.{asks_resume, has_error, is_active, is_counted_child, is_disabled, is_suspending}
+use Rattle.pm_model.specs.Derived.{asks_resume, has_error, is_active, is_disabled, is_suspending}
 use Rattle.pm_model.specs.History.{History, last_said}
-use Rattle.pm_model.specs.PlanRows.{no_callbacks}
+use Rattle.pm_model.specs.PlanRows.{no_callbacks, parent}
 use Rattle.pm_model.specs.Row.{Row, writes, waits}
 use Rattle.pm_model.specs.Views.{Views, device, pending_of}
 use Rattle.pm_model.specs.World.{world}
@@ -29,10 +29,18 @@ stores_error d e = option_map_or (λ code. not (int_eq code (pos 0))) (says_erro
 abbrev pub error_line : History → DevId → ℕ
 error_line h d = last_said (λ g line. only_if (stores_error d line.event) (length g + 1)) 0 h
 
--- the devices with parent d that are Active or Suspending, in the plan's order
+-- whether a device is a child of d that is Active or Suspending
+abbrev pub is_child : Plan → Views → DevId → DevId → Bool
+is_child plan v d child =
+    option_map_or (λ p. nat_eq p.0 d.0) (parent plan child) false && (is_active v child || is_suspending v child)
+
+-- the devices of the plan, in its order
+abbrev pub devices_of : Plan → List DevId
+devices_of plan = map (λ p. record { 0 = p.0 }) (enumerate_from 0 plan.devices)
+
+-- the children of d that are Active or Suspending, in the plan's order
 abbrev pub counted_children : Plan → Views → DevId → List DevId
-counted_children plan v d =
-    map (λ p. record { 0 = p.0 }) (filter (λ p. is_counted_child d p.1.0 p.1.1) (enumerate_from 0 (zip plan.devices v.devices)))
+counted_children plan v d = filter (is_child plan v d) (devices_of plan)
 
 -- a reason where it holds
 abbrev pub when : Bool → Reason → List Reason

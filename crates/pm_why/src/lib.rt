@@ -1,11 +1,25 @@
 //! What keeps a device from suspending.
 #![tactic(auto)]
 
+ghost use Rattle.std.specs.Prelude.{◌≡◌, ◌<◌, ◌^◌, ◌++◌, ◌∷◌, [], IfOk, OnOk, length, map, reverse};
+ghost use Rattle.pm_base.specs.declared.DevId.{DevId};
+ghost use Rattle.pm_model.specs.Lawful.{IsLawful};
+ghost use Rattle.pm_model.specs.World.{world};
+ghost use Rattle.pm_device.specs.Parts.{IsFor};
+ghost use Rattle.pm_why.specs.declared.Reason.TheVariants as reason;
+ghost use Rattle.pm_why.specs.Reasons.{child_reasons, is_child, reasons, reasons_on, when};
+
+mod gets;
 mod laws;
 mod shown;
 
+use gets::{Count, search};
 pub use laws::{counts_are_usage, free_devices_suspend, puts_close_gets};
-use pm_base::{DevId, Status, Why};
+use pm_base::{DevId, NoMemory, Req, Status, Why};
+use pm_book::Book;
+use pm_device::{Parts, parent};
+use pm_model::{Line, Plan};
+use std::alloc::Global;
 
 /// One thing that keeps a device from suspending (this project's own; the rules: `runtime_pm.rst`,
 /// sections 2 to 5). Lines are counted from 1.
@@ -27,9 +41,97 @@ pub enum Reason {
     State(Status),
 }
 
-/// A count on a device that wasn't given back: for what it was taken, and by which line.
-#[derive(Clone, Copy, Debug, PartialEq, Eq)]
-pub struct Count {
-    pub why: Why,
-    pub line: u32,
+// Appends a reason where it holds.
+fn push_if(all: &mut Vec<Reason>, holds: bool, reason: Reason) -> Result<(), NoMemory>
+    ensures { OnOk result (all.new.items ≡ all.old.items ++ when holds reason) }
+{
+    if holds {
+        all.push(reason)?;
+    }
+    Ok(())
+}
+
+// Appends the counts.
+fn push_counts(all: &mut Vec<Reason>, gets: &[Count]) -> Result<(), NoMemory>
+    ensures { OnOk result (all.new.items ≡ all.old.items ++ map (λ count. reason.Count count.why count.line) gets.now) }
+{
+    for get in gets {
+        all.push(Reason::Count {
+            why: get.why,
+            line: get.line,
+        })?;
+    }
+    Ok(())
+}
+
+// Whether a device is a child that counts.
+fn is_child(plan: &Plan, parts: &Parts, dev: DevId, child: DevId) -> bool
+    requires in_plan { child.0 < length plan.now.devices }
+    requires in_parts { child.0 < length parts.now.shape.parents }
+    ensures { result ≡ is_child plan.now parts.now.views dev child }
+{
+    match parent(plan, child) {
+        Some(found) if found.0 == dev.0 => matches!(parts.status(child), Status::Active | Status::Suspending),
+        _ => false,
+    }
+}
+
+// Appends the children that count, unless the device ignores them.
+fn push_children(all: &mut Vec<Reason>, plan: &Plan, parts: &Parts, dev: DevId) -> Result<(), NoMemory>
+    requires made_for { IsFor plan.now parts.now.shape }
+    requires in_range { dev.0 < length plan.now.devices }
+    ensures { OnOk result (all.new.items ≡ all.old.items ++ child_reasons plan.now parts.now.views dev) }
+{
+    if parts.device(dev).ignores {
+        return Ok(());
+    }
+    for place in 0..plan.devices.len() {
+        let child = DevId(place as u32);
+        push_if(all, is_child(plan, parts, dev, child), Reason::Child(child))?;
+    }
+    Ok(())
+}
+
+// What keeps a device from suspending after these lines, whose counters these are.
+fn reasons_of(
+    alloc: Global,
+    plan: &Plan,
+    parts: &Parts,
+    lines: &[Line],
+    dev: DevId,
+) -> Result<Vec<Reason>, NoMemory>
+    requires made_for { IsFor plan.now parts.now.shape }
+    requires few { length lines.now < 2 ^ 32 }
+    requires in_range { dev.0 < length plan.now.devices }
+    ensures { IfOk result (λ all. all.items ≡ reasons_on plan.now parts.now.views (reverse lines.now) dev) }
+{
+    let found = search(alloc, lines, dev)?;
+    let device = *parts.device(dev);
+    let pending = parts.pending(dev);
+    let mut all = Vec::new(alloc);
+    let error = Reason::Error {
+        code: device.error,
+        line: found.error_line,
+    };
+    push_if(&mut all, device.error != 0, error)?;
+    push_if(&mut all, device.depth > 0, Reason::Depth(device.depth))?;
+    push_counts(&mut all, &found.gets)?;
+    push_children(&mut all, plan, parts, dev)?;
+    let suspending = matches!(device.status, Status::Suspending);
+    push_if(&mut all, suspending && pending.deferred, Reason::Deferred)?;
+    let asked = matches!(pending.request, Req::Resume);
+    push_if(&mut all, asked, Reason::Request)?;
+    let active = matches!(device.status, Status::Active);
+    push_if(&mut all, !active, Reason::State(device.status))?;
+    Ok(all)
+}
+
+/// Everything that keeps a device from suspending after the lines of the book, in this order: its error, its depth, the
+/// counts on it by their lines, its children by their places, a deferred resume, a request and its status. It reads
+/// the lines once, and looks at each device once. Fails where memory runs out.
+pub fn reasons(alloc: Global, book: &Book, dev: DevId) -> Result<Vec<Reason>, NoMemory>
+    requires { dev.0 < length book.now.plan.devices }
+    ensures { IfOk result (λ all. all.items ≡ reasons book.now.plan book.now.lines dev) }
+{
+    reasons_of(alloc, book.plan(), book.parts(), book.lines(), dev)
 }
