@@ -1,11 +1,10 @@
 //! What keeps a device from suspending.
 #![tactic(auto)]
 
-ghost use Rattle.std.specs.Prelude.{◌≡◌, ◌<◌, ◌^◌, ◌++◌, ◌∷◌, [], IfOk, OnOk, length, map, reverse};
-ghost use Rattle.pm_base.specs.declared.DevId.{DevId};
-ghost use Rattle.pm_model.specs.Lawful.{IsLawful};
-ghost use Rattle.pm_model.specs.World.{world};
+ghost use Rattle.std.specs.Prelude.{◌≡◌, ◌<◌, ◌^◌, ◌&&◌, ◌++◌, IfOk, OnOk, length, map, not, reverse};
 ghost use Rattle.pm_device.specs.Parts.{IsFor};
+ghost use Rattle.pm_model.specs.Derived.{asks_resume, has_error, is_active, is_disabled, is_suspending};
+ghost use Rattle.pm_model.specs.Views.{device, pending_of};
 ghost use Rattle.pm_why.specs.declared.Reason.TheVariants as reason;
 ghost use Rattle.pm_why.specs.Reasons.{child_reasons, is_child, reasons, reasons_on, when};
 
@@ -92,6 +91,39 @@ fn push_children(all: &mut Vec<Reason>, plan: &Plan, parts: &Parts, dev: DevId) 
     Ok(())
 }
 
+// Appends the error, which this line stored, and the depth.
+fn push_first(all: &mut Vec<Reason>, parts: &Parts, dev: DevId, line: u32) -> Result<(), NoMemory>
+    requires { dev.0 < length parts.now.shape.parents }
+    ensures { OnOk result (all.new.items ≡ all.old.items
+        ++ when (has_error parts.now.views dev) (reason.Error (device parts.now.views dev).error line)
+        ++ when (is_disabled parts.now.views dev) (reason.Depth (device parts.now.views dev).depth)) }
+{
+    let device = parts.device(dev);
+    let error = Reason::Error {
+        code: device.error,
+        line,
+    };
+    push_if(all, device.error != 0, error)?;
+    push_if(all, device.depth > 0, Reason::Depth(device.depth))
+}
+
+// Appends a deferred resume, a request and the status.
+fn push_last(all: &mut Vec<Reason>, parts: &Parts, dev: DevId) -> Result<(), NoMemory>
+    requires { dev.0 < length parts.now.shape.parents }
+    ensures { OnOk result (all.new.items ≡ all.old.items
+        ++ when (is_suspending parts.now.views dev && (pending_of parts.now.views dev).deferred) reason.Deferred
+        ++ when (asks_resume parts.now.views dev) reason.Request
+        ++ when (not (is_active parts.now.views dev)) (reason.State (device parts.now.views dev).status)) }
+{
+    let status = parts.status(dev);
+    let pending = parts.pending(dev);
+    let deferred = matches!(status, Status::Suspending) && pending.deferred;
+    push_if(all, deferred, Reason::Deferred)?;
+    let asked = matches!(pending.request, Req::Resume);
+    push_if(all, asked, Reason::Request)?;
+    push_if(all, !parts.is_active(dev), Reason::State(status))
+}
+
 // What keeps a device from suspending after these lines, whose counters these are.
 fn reasons_of(
     alloc: Global,
@@ -106,23 +138,11 @@ fn reasons_of(
     ensures { IfOk result (λ all. all.items ≡ reasons_on plan.now parts.now.views (reverse lines.now) dev) }
 {
     let found = search(alloc, lines, dev)?;
-    let device = *parts.device(dev);
-    let pending = parts.pending(dev);
     let mut all = Vec::new(alloc);
-    let error = Reason::Error {
-        code: device.error,
-        line: found.error_line,
-    };
-    push_if(&mut all, device.error != 0, error)?;
-    push_if(&mut all, device.depth > 0, Reason::Depth(device.depth))?;
+    push_first(&mut all, parts, dev, found.error_line)?;
     push_counts(&mut all, &found.gets)?;
     push_children(&mut all, plan, parts, dev)?;
-    let suspending = matches!(device.status, Status::Suspending);
-    push_if(&mut all, suspending && pending.deferred, Reason::Deferred)?;
-    let asked = matches!(pending.request, Req::Resume);
-    push_if(&mut all, asked, Reason::Request)?;
-    let active = matches!(device.status, Status::Active);
-    push_if(&mut all, !active, Reason::State(device.status))?;
+    push_last(&mut all, parts, dev)?;
     Ok(all)
 }
 
