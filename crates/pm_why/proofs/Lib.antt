@@ -7,3 +7,4 @@ pub mod Moves
 pub mod UsageLemmas
 pub mod FreeLemmas
 pub mod GetLemmas
+pub mod TextLemmas

@@ -11,6 +11,7 @@ ghost use Rattle.pm_why.specs.Reasons.{child_reasons, is_child, reasons, reasons
 mod gets;
 mod laws;
 mod shown;
+mod texts;
 
 use gets::{Count, search};
 pub use laws::{counts_are_usage, free_devices_suspend, puts_close_gets};
@@ -19,6 +20,7 @@ use pm_book::Book;
 use pm_device::{Parts, parent};
 use pm_model::{Line, Plan};
 use std::alloc::Global;
+pub use texts::{ReasonLine, free_text, reason_text};
 
 /// One thing that keeps a device from suspending (this project's own; the rules: `runtime_pm.rst`,
 /// sections 2 to 5). Lines are counted from 1.
