@@ -1,5 +1,5 @@
 -- What each row of the call table does to the counts of each reason.
-use Rattle.std.proofs.Common.{ℕ, ◌≡◌, ◌+◌, Bool, true, false, not, ◌&&◌, ◌||◌, Option, Some, None, ℤ, pos, nat_abs, if◌then◌else◌, ap, refl, sym, ◌∙◌, arith, subst}
+use Rattle.std.proofs.Common.{ℕ, ◌≡◌, ◌+◌, Bool, true, false, not, ◌&&◌, ◌||◌, Option, Some, None, ℤ, pos, nat_abs, if◌then◌else◌, refl, sym, ◌∙◌, arith, subst}
 use Rattle.std.specs.Ordering.{int_eq}
 use Rattle.std.proofs.lemmas.Bool.{false≢true}
 use Rattle.pm_base.specs.declared.Cb.TheVariants as cb
@@ -36,7 +36,7 @@ use Rattle.pm_model.specs.Derived.{asks_resume, awaits_parent, busy, callback_co
 use Rattle.pm_model.specs.HelperTable.{begins, carries_out, helper_row, helper_starts, put_suspends, timer_fires}
 use Rattle.pm_model.specs.IdleTable.{after_put, idle_ends, idle_row, idle_verdict, then_suspends}
 use Rattle.pm_model.specs.PlanRows.{has_domain, has_parent, no_callbacks, parent_of}
-use Rattle.pm_model.specs.ResumeTable.{is_supplied, leaves, resume_begins, resume_domain, resume_ends, resume_gives, resume_goes, resume_links, resume_returns, resume_row, resume_takes, resume_unwinds, resume_verdict}
+use Rattle.pm_model.specs.ResumeTable.{is_supplied, leaves, resume_domain, resume_ends, resume_gives, resume_goes, resume_links, resume_returns, resume_row, resume_takes, resume_unwinds, resume_verdict}
 use Rattle.pm_model.specs.Row.{Row, back, writes}
 use Rattle.pm_model.specs.SuspendTable.{may_not_wait, suspend_domain, suspend_ends, suspend_gives, suspend_goes, suspend_links, suspend_parent, suspend_row, suspend_verdict}
 use Rattle.pm_model.specs.Views.{Views, device, pending_of}

@@ -1,6 +1,6 @@
 -- The counts that stages hold, by the device and the reason, and what a row of the call table does to the counts of each
 -- reason.
-use Rattle.std.proofs.Common.{ℕ, ◌≡◌, ◌+◌, Bool, true, false, ◌&&◌, ℤ, if◌then◌else◌, ap, refl, sym, ◌∙◌, arith}
+use Rattle.std.proofs.Common.{ℕ, ◌≡◌, ◌+◌, Bool, true, false, ◌&&◌, ℤ, if◌then◌else◌, refl, arith}
 use Rattle.pm_base.specs.declared.DevId.{DevId}
 use Rattle.pm_base.specs.declared.Why.{Why}
 use Rattle.pm_base.specs.declared.Why.TheVariants as why
@@ -27,7 +27,7 @@ use Rattle.pm_model.specs.Row.{Row, writes, waits}
 use Rattle.pm_model.specs.Views.{Views, device}
 use Rattle.pm_sums.specs.Sums.{one, weigh}
 use Rattle.pm_laws.proofs.Givings.{IsStages}
-use Rattle.pm_laws.proofs.Links.{has_pair, one_and_false}
+use Rattle.pm_laws.proofs.Links.{has_pair}
 use Rattle.pm_laws.proofs.Named.{IsCalm}
 use Rattle.pm_laws.proofs.Places.{IsHanded, IsWeight, shown}
 use Rattle.pm_why.specs.OpenGets.{is_why}

@@ -1,7 +1,7 @@
 -- How many open gets of a reason there are, where one is opened or closed.
-use Rattle.std.proofs.Common.{ℕ, zero, suc, ◌≡◌, ◌+◌, ◌<◌, Bool, true, false, cond, not, List, [], ◌∷◌, ◌++◌, length, if◌then◌else◌, ap, refl, sym, ◌∙◌, arith}
-use Rattle.std.specs.List.{count_by, filter}
-use Rattle.std.proofs.lemmas.Bool.{eqb-true, false≢true}
+use Rattle.std.proofs.Common.{ℕ, ◌≡◌, ◌+◌, ◌<◌, Bool, true, false, cond, not, List, [], ◌∷◌, ◌++◌, length, if◌then◌else◌, ap, refl, sym, ◌∙◌, arith}
+use Rattle.std.specs.List.{count_by}
+use Rattle.std.proofs.lemmas.Bool.{eqb-true}
 use Rattle.std.proofs.lemmas.Grind.{common_steps}
 use Rattle.std.proofs.lemmas.List.Sums.{sum_by-append, sum_by-cons}
 use Rattle.pm_base.specs.declared.DevId.{DevId}
@@ -62,9 +62,9 @@ number_closed w r (count ∷ counts) some = go (is_for r count) refl (number_clo
         omega (arith, number_cons w count counts)
     go false e rest =
         let later : is_why w r ≡ true → 0 < number w counts = λ is.
-            let same : w ≡ r = same_why w r is in
-            let other : one (is_for w count) ≡ 0 = ap (λ x. one (is_for x count)) same ∙ ap one e in
-            omega (arith, some is, number_cons w count counts)
+        let same : w ≡ r = same_why w r is in
+        let other : one (is_for w count) ≡ 0 = ap (λ x. one (is_for x count)) same ∙ ap one e in
+        omega (arith, some is, number_cons w count counts)
         in
         omega (arith, number_cons w count (without_earliest r counts), number_cons w count counts, rest later)
 

@@ -1,8 +1,8 @@
 -- Nothing keeps a device from suspending exactly where its suspend begins at once.
-use Rattle.std.proofs.Common.{ℕ, suc, ◌≡◌, ◌+◌, ◌<◌, Bool, true, false, cond, not, ◌&&◌, ◌||◌, List, [], ◌∷◌, ◌++◌, Option, Some, None, ℤ, pos, length, length-append, map, nat_lt, slice_get, slice_index_or, if◌then◌else◌, ap, refl, sym, ◌∙◌, arith}
-use Rattle.std.specs.List.{count_by, enumerate_from, filter, zip}
+use Rattle.std.proofs.Common.{ℕ, suc, ◌≡◌, ◌+◌, ◌<◌, Bool, true, false, cond, not, ◌&&◌, List, [], ◌∷◌, ◌++◌, Some, ℤ, pos, length, length-append, map, nat_lt, slice_get, slice_index_or, if◌then◌else◌, ap, refl, sym, ◌∙◌, arith}
+use Rattle.std.specs.List.{count_by, enumerate_from, zip}
 use Rattle.std.specs.Ordering.{int_eq}
-use Rattle.std.proofs.lemmas.Bool.{false≢true, ltb-false}
+use Rattle.std.proofs.lemmas.Bool.{ltb-false}
 use Rattle.std.proofs.lemmas.List.{length-map}
 use Rattle.std.proofs.lemmas.List.Sums.{length-filter, sum_by-cons}
 use Rattle.std.proofs.lemmas.Option.{get_or_from_slice_get}

@@ -1,5 +1,5 @@
 -- The open gets and the children, as they are gathered.
-use Rattle.std.proofs.Common.{ℕ, zero, suc, ◌≡◌, ◌+◌, ◌<◌, ◌≤◌, ◌^◌, Bool, true, false, not, List, [], ◌∷◌, ◌++◌, Option, Some, None, drop, length, map, nat_lt, reverse, slice_index_or, take, append_assoc, if◌then◌else◌, ap, refl, sym, ◌∙◌, arith}
+use Rattle.std.proofs.Common.{ℕ, zero, suc, ◌≡◌, ◌+◌, ◌<◌, ◌≤◌, ◌^◌, Bool, true, false, not, List, [], ◌∷◌, ◌++◌, Some, None, length, map, nat_lt, reverse, slice_index_or, take, append_assoc, if◌then◌else◌, ap, refl, sym, ◌∙◌, arith}
 use Rattle.std.specs.List.{enumerate_from, filter, position, position_or_len, remove}
 use Rattle.std.proofs.lemmas.Bool.{ltb-false}
 use Rattle.std.proofs.lemmas.List.{length-map, length-reverse, length-take-le, map-append, reverse-append, take_all, take_more}

@@ -1,5 +1,5 @@
 -- The counts of each reason on a device, and how they move with a line.
-use Rattle.std.proofs.Common.{ℕ, ◌≡◌, ◌+◌, ◌<◌, Bool, true, false, cond, not, ◌&&◌, List, [], ◌∷◌, Option, Some, None, length, if◌then◌else◌, ap, refl, sym, ◌∙◌, arith, subst}
+use Rattle.std.proofs.Common.{ℕ, ◌≡◌, ◌+◌, ◌<◌, Bool, true, false, cond, not, ◌&&◌, List, ◌∷◌, Option, Some, None, length, if◌then◌else◌, ap, refl, sym, ◌∙◌, arith, subst}
 use Rattle.std.specs.Option.{option_and_then}
 use Rattle.std.proofs.lemmas.List.Sums.{sum_by-cons}
 use Rattle.pm_base.specs.declared.Cb.TheVariants as cb
@@ -15,7 +15,6 @@ use Rattle.pm_model.specs.declared.plan.Plan.{Plan}
 use Rattle.pm_model.specs.ChangeViews.{change_views}
 use Rattle.pm_model.specs.Changes.{set_held}
 use Rattle.pm_model.specs.Counted.{gets, gives_back, is_allowed, is_callers, is_same, only_if, puts, says_auto, takes}
-use Rattle.pm_model.specs.Derived.{prevented}
 use Rattle.pm_model.specs.Events.{by_event, by_word, frees_links, gave, got, held_from}
 use Rattle.pm_model.specs.History.{History}
 use Rattle.pm_model.specs.Lawful.{IsLawful}

@@ -1,5 +1,5 @@
 -- A negative delay's count rises and falls with the setting of autosuspend.
-use Rattle.std.proofs.Common.{ℕ, ◌≡◌, ◌+◌, ◌<◌, Bool, true, false, not, ◌&&◌, ℤ, pos, length, if◌then◌else◌, ap, refl, sym, ◌∙◌, arith}
+use Rattle.std.proofs.Common.{ℕ, ◌≡◌, ◌+◌, ◌<◌, Bool, true, false, not, ◌&&◌, ℤ, pos, length, if◌then◌else◌, ap, refl, ◌∙◌, arith}
 use Rattle.std.specs.Ordering.{int_eq}
 use Rattle.pm_base.specs.declared.Cb.{Cb}
 use Rattle.pm_base.specs.declared.Cb.TheVariants as cb
@@ -19,7 +19,7 @@ use Rattle.pm_model.specs.ChangeViews.{change_views}
 use Rattle.pm_model.specs.Changes.{set_held}
 use Rattle.pm_model.specs.Counted.{gives_back, is_same, takes}
 use Rattle.pm_model.specs.Derived.{prevented}
-use Rattle.pm_model.specs.Events.{by_begin, by_end, by_event, by_word, gave, got, is_try_again, set_error, set_status}
+use Rattle.pm_model.specs.Events.{by_begin, by_end, by_event, by_word, gave, got, is_try_again, set_status}
 use Rattle.pm_model.specs.Views.{Views, device}
 use Rattle.pm_sums.specs.Sums.{one}
 use Rattle.pm_laws.specs.Counts.{told}
@@ -27,7 +27,7 @@ use Rattle.pm_laws.specs.Sizes.{HasEntries}
 use Rattle.pm_laws.proofs.Asides.{domain_kept, timer_kept, work_kept}
 use Rattle.pm_laws.proofs.Links.{one_and_false}
 use Rattle.pm_laws.proofs.Named.{IsCalm, change_calm}
-use Rattle.pm_laws.proofs.Seen.{Account, Aside, Untouched, account_seen, untouched_seen}
+use Rattle.pm_laws.proofs.Seen.{Account, Aside, account_seen, untouched_seen}
 use Rattle.pm_laws.proofs.Turns.{entry_is, entry_kept, freed_kept}
 use Rattle.pm_why.specs.OpenGets.{is_why}
 use Rattle.pm_why.proofs.Claims.{DelayIs, Turns}

@@ -1,5 +1,5 @@
 -- The open gets of a device are as many as the counts on it, for each reason and in all.
-use Rattle.std.proofs.Common.{ℕ, zero, suc, ◌≡◌, ◌+◌, ◌<◌, Bool, true, false, cond, not, ◌&&◌, List, [], ◌∷◌, ◌++◌, length, length-append, map, nat_eq, slice_index_or, if◌then◌else◌, ap, refl, sym, ◌∙◌, arith, subst}
+use Rattle.std.proofs.Common.{ℕ, zero, suc, ◌≡◌, ◌+◌, ◌<◌, Bool, true, false, cond, not, ◌&&◌, List, [], ◌∷◌, ◌++◌, length, length-append, map, nat_eq, slice_index_or, if◌then◌else◌, ap, refl, sym, arith, subst}
 use Rattle.std.specs.List.{count_by}
 use Rattle.std.proofs.lemmas.List.Sums.{sum_by-append, sum_by-cons}
 use Rattle.pm_base.specs.declared.DevId.{DevId}
@@ -14,24 +14,24 @@ use Rattle.pm_model.specs.declared.rows.DeviceRow.{DeviceRow}
 use Rattle.pm_model.specs.declared.rows.LinkRow.{LinkRow}
 use Rattle.pm_model.specs.declared.views.Device.{Device}
 use Rattle.pm_model.specs.Counted.{freed, frees, gets, gives_back, is_same, puts, takes, usage}
-use Rattle.pm_model.specs.Derived.{asks_resume, has_error, is_active, is_disabled, is_suspending, prevented}
+use Rattle.pm_model.specs.Derived.{asks_resume, has_error, is_active, is_disabled, is_suspending}
 use Rattle.pm_model.specs.History.{History}
 use Rattle.pm_model.specs.Lawful.{IsLawful}
-use Rattle.pm_model.specs.Views.{Views, device, fresh_device, pending_of}
+use Rattle.pm_model.specs.Views.{device, fresh_device, pending_of}
 use Rattle.pm_model.specs.World.{start, world}
 use Rattle.pm_sums.specs.Sums.{one}
-use Rattle.pm_laws.proofs.Links.{held_of, one_and_false}
+use Rattle.pm_laws.proofs.Links.{held_of}
 use Rattle.pm_laws.proofs.Runs.{start_tally, start_usage}
 use Rattle.pm_laws.proofs.Said.{usage_counted}
 use Rattle.pm_why.specs.declared.gets.Count.{Count}
 use Rattle.pm_why.specs.declared.Reason.{Reason}
 use Rattle.pm_why.specs.declared.Reason.TheVariants as reason
-use Rattle.pm_why.specs.OpenGets.{is_why, is_for, open_after, open_for, open_gets, without, without_earliest}
+use Rattle.pm_why.specs.OpenGets.{is_why, open_after, open_for, open_gets, without, without_earliest}
 use Rattle.pm_why.specs.Reasons.{child_reasons, count_reasons, counted_children, error_line, is_count, reasons, when}
 use Rattle.pm_why.proofs.Claims.{claims}
-use Rattle.pm_why.proofs.Counts.{length_closed, length_freed, number, number_closed, number_freed, number_opened, same_device, same_self, why_self}
+use Rattle.pm_why.proofs.Counts.{length_closed, length_freed, number, number_closed, number_freed, number_opened, same_self, why_self}
 use Rattle.pm_why.proofs.LinkCounts.{held_cons}
-use Rattle.pm_why.proofs.Moves.{Moves, freed_for, frees_for, holding, moves}
+use Rattle.pm_why.proofs.Moves.{Moves, holding, moves}
 
 -- one line more, where its event moves the counts so
 number_next : (w : Why) (d : DevId) (n : ℕ) (e : Event) (counts : List Count) (before after : ℕ) → number w counts ≡ before → Moves w d e before after

@@ -11,6 +11,8 @@ ghost use Rattle.pm_why.specs.Reasons.{child_reasons, is_child, reasons, reasons
 mod gets;
 mod laws;
 mod shown;
+#[cfg(test)]
+mod tests;
 mod texts;
 
 use gets::{Count, search};
@@ -72,13 +74,21 @@ fn is_child(plan: &Plan, parts: &Parts, dev: DevId, child: DevId) -> bool
     ensures { result ≡ is_child plan.now parts.now.views dev child }
 {
     match parent(plan, child) {
-        Some(found) if found.0 == dev.0 => matches!(parts.status(child), Status::Active | Status::Suspending),
+        Some(found) if found.0 == dev.0 => matches!(
+            parts.status(child),
+            Status::Active | Status::Suspending
+        ),
         _ => false,
     }
 }
 
 // Appends the children that count, unless the device ignores them.
-fn push_children(all: &mut Vec<Reason>, plan: &Plan, parts: &Parts, dev: DevId) -> Result<(), NoMemory>
+fn push_children(
+    all: &mut Vec<Reason>,
+    plan: &Plan,
+    parts: &Parts,
+    dev: DevId,
+) -> Result<(), NoMemory>
     requires made_for { IsFor plan.now parts.now.shape }
     requires in_range { dev.0 < length plan.now.devices }
     ensures { OnOk result (all.new.items ≡ all.old.items ++ child_reasons plan.now parts.now.views dev) }

@@ -1,4 +1,4 @@
-use Rattle.std.proofs.Common.{◌≡◌, ◌≤◌, length, reverse, take}
+use Rattle.std.proofs.Common.{◌≡◌, reverse, take}
 use Rattle.pm_why.specs.OpenGets.{open_gets}
 use Rattle.pm_why.specs.Reasons.{error_line}
 use Rattle.pm_why.proofs.gets.search.Given as goal
