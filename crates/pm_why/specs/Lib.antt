@@ -1,0 +1,3 @@
+pub mod OpenGets
+pub mod Reasons
+pub mod Texts
