@@ -95,9 +95,6 @@ caller_moves plan h line d lawful within =
     omega (arith, ap one same.0, ap one same.1)
 
 -- forbid
-said_or : Option Bool → Bool → Bool
-said_or o b = elim o as (λ _. Bool) [ Some x ↦ x | None ↦ b ]
-
 forbid_moves_by : (v : Views) (d : DevId) (e : Event) (was : Bool) → (device v d).auto_on ≡ was → ForbidIs v e
     → one (not (elim (says_auto d e) as (λ _. Bool) [ Some x ↦ x | None ↦ was ])) + one (gives_back (is_why why.Forbid) d e) ≡ one (not was) + one (takes (is_why why.Forbid) d e)
 forbid_moves_by v d (event.Get x why.Forbid) was is on = go (is_same d x) refl

@@ -1,7 +1,6 @@
 //! What keeps the devices of whole runs from suspending, by computation.
 
-ghost use Rattle.std.specs.Prelude.{◌≡◌, [], ◌∷◌};
-ghost use Rattle.std.specs.Prelude.{drop};
+ghost use Rattle.std.specs.Prelude.{◌≡◌, [], ◌∷◌, drop};
 ghost use Rattle.pm_base.specs.declared.Status.TheVariants.{Suspended};
 ghost use Rattle.pm_base.specs.declared.Why.TheVariants.{Caller};
 ghost use Rattle.pm_runs.specs.Counts.{disabled_get_plan, first_plan};
