@@ -3,6 +3,7 @@
 ghost use Rattle.std.specs.Prelude.{◌≡◌, [], reverse, IfErr, IfOk};
 ghost use Rattle.pm_io.specs.Faults.{Rose};
 ghost use Rattle.pm_model.specs.Serial.{serial};
+ghost use Rattle.pm_serial.specs.Ends.{HasMemory, IsSerialEnd};
 ghost use Rattle.pm_commands.specs.Coming.{IsUnread, ended};
 ghost use Rattle.pm_commands.specs.Commands.{IsRun, is_whole};
 ghost use Rattle.pm_commands.specs.Reading.{IsRead};
@@ -36,7 +37,7 @@ pub(crate) struct Ran {
     pub(crate) end: End,
 }
 
-/// The run of the plan on one thread.
+/// The run of the plan on one thread. All memory is taken before its first turn.
 pub(crate) fn run(alloc: Global, plan: Plan) -> Result<Ran, NoMemory>
     ensures plan { IfOk result (λ ran. ran.book.plan ≡ plan) }
     ensures lines { IfOk result (λ ran. reverse ran.book.lines ≡ serial plan) }
@@ -46,19 +47,38 @@ pub(crate) fn run(alloc: Global, plan: Plan) -> Result<Ran, NoMemory>
     runs_are_exclusive();
     kept();
     gets_succeed();
-    fresh_books_have_time();
     let mut book = start(alloc, plan)?;
-    let end = drain(&mut book)?;
+    let end = run_book(&mut book);
     Ok(Ran { book, end })
 }
 
-/// The book of the plan, with no lines.
+/// Runs a book that has no lines, and memory for all that its plan allows.
+fn run_book(book: &mut Book) -> End
+    requires lines { book.old.lines ≡ [] }
+    requires memory { HasMemory book.old }
+    ensures plan { book.new.plan ≡ book.old.plan }
+    ensures lines { reverse book.new.lines ≡ serial book.old.plan }
+    ensures end { IsSerialEnd book.old.plan result }
+{
+    fresh_books_have_time();
+    match drain(book) {
+        Ok(end) => end,
+        Err(_) => unreachable!(),
+    }
+}
+
+/// The book of the plan, with no lines and with memory for all that the plan allows.
 fn start(alloc: Global, plan: Plan) -> Result<Book, NoMemory>
     ensures plan { IfOk result (λ book. book.plan ≡ plan) }
     ensures lines { IfOk result (λ book. book.lines ≡ []) }
+    ensures memory { IfOk result HasMemory }
 {
+    let lines = plan.lines as usize;
     match Book::start(alloc, plan) {
-        Ok(book) => Ok(book),
+        Ok(mut book) => {
+            book.reserve(lines)?;
+            Ok(book)
+        }
         Err((_plan, error)) => Err(error),
     }
 }

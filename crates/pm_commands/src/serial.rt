@@ -11,9 +11,9 @@ ghost use Rattle.pm_commands.specs.Reading.{OfPlan};
 use crate::ending::{Fault, finish};
 use crate::output::write_text;
 use crate::running::{ended, load, run};
-use pm_base::TEXT_BYTES;
 use pm_book::Book;
 use pm_io::{Files, Sink};
+use pm_linetext::LineSpeller;
 use pm_model::Plan;
 use std::alloc::Global;
 
@@ -63,8 +63,9 @@ fn write_book<O: Sink>(alloc: Global, book: &Book, out: &mut O) -> Result<(), Fa
     ensures { Wrote (text book.now.plan (reverse book.now.lines)) result
         (taking O.taken O.faults out.old out.new) }
 {
+    let plan = book.plan();
     let lines = book.lines();
-    let mut piece = Vec::with_capacity(alloc, TEXT_BYTES + 1)?;
-    write_text(alloc, out, &mut piece, book.plan(), lines)?;
+    let speller = LineSpeller::new(alloc, plan)?;
+    write_text(out, plan, &speller, lines)?;
     Ok(())
 }

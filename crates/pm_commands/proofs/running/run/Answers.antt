@@ -6,6 +6,5 @@ use Rattle.pm_commands.proofs.running.run.Goals as goal
 
 pub returns-clause-run : goal.returns-clause-run
 returns-clause-run c =
-    let ends = c.in_ok-end.ensures.serial_end c.in_ok-book.ensures.lines in
-    is_run c.args.plan c.in_ok-end.end (subst (λ (q : Plan). IsSerialEnd q c.in_ok-end.end) c.in_ok-book.ensures.plan ends)
+    is_run c.args.plan c.run_book-end.result (subst (λ (q : Plan). IsSerialEnd q c.run_book-end.result) c.in_ok-book.ensures.plan c.run_book-end.ensures.end)
     c.runs_are_safe.ensures c.runs_are_exclusive.ensures c.kept.ensures c.gets_succeed.ensures
