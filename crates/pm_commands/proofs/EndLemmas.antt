@@ -40,6 +40,10 @@ pub wrote : (Ends : Ending → Type 0) (Unread : Type 0) (e : End) (bytes : List
 wrote Ends Unread end.Finished bytes out ends took = (bytes, ends, took)
 wrote Ends Unread end.AtLimit bytes out ends took = (bytes, ends, took)
 
+-- the text of a command that is done, of which a prefix was written
+pub done_part : (Ends : Ending → Type 0) (Unread : Type 0) (work : Work) (f : Fault) (bytes piece : List ℕ) (out : Taking) → work ≡ Err f → f ≡ fault.WriteFailed → piece ≡ bytes → Ends (Done bytes) → TookPart out piece → Failed out → Came Ends work Unread out
+done_part Ends Unread work f bytes piece out is fails same ends part failed = rw (is, fails) (Done bytes, ends, subst (TookPart out) same part, failed)
+
 -- the work of a command, and behind it its message and its status
 pub answered : (Ends : Ending → Type 0) (Unread : Type 0) (work : Work) (status : ℕ) (out err : Taking) → Came Ends work Unread out → status ≡ work_status work → Told err (work_message work) → Answered Ends status Unread out err
 answered Ends Unread (Ok done) status out err came is told = ended (Done came.0) came.1 is came.2 told

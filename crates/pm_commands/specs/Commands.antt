@@ -4,6 +4,7 @@ use Rattle.std.specs.Prelude.{◌≡◌, ℕ, Bool, true, false, Option, Some, N
 use Rattle.pm_make.specs.Generator.{IsGenerated}
 use Rattle.pm_model.specs.declared.plan.Plan.{Plan}
 use Rattle.pm_model.specs.declared.event.Line.{Line}
+use Rattle.pm_model.specs.Islands.{Numbering}
 use Rattle.pm_model.specs.Lawful.{IsLawful}
 use Rattle.pm_model.specs.Promises.{gets_succeed, is_exclusive, is_kept, is_safe}
 use Rattle.pm_model.specs.Serial.{serial}
@@ -12,7 +13,8 @@ use Rattle.pm_report.specs.Report.{summary, summary_text}
 use Rattle.pm_serial.specs.declared.running.End.{End}
 use Rattle.pm_serial.specs.declared.running.End.TheVariants as end
 use Rattle.pm_serial.specs.Ends.{IsSerialEnd}
-use Rattle.pm_words.specs.Request.{Asked, Make, Serial, asked_by}
+use Rattle.pm_words.specs.Request.{Asked, Check, Make, Serial, asked_by}
+use Rattle.pm_commands.specs.Counts.{counts_text}
 use Rattle.pm_commands.specs.Ending.{AtLimit, Done, Ending}
 use Rattle.pm_commands.specs.Reading.{OfPlan}
 
@@ -41,6 +43,12 @@ pub record SerialEnds (plan : Plan) (ending : Ending) : Type 0 where
   pub run : IsRun plan end_of
   pub is : ending ≡ run_ending end_of (text plan (serial plan))
 
+-- `check PLAN`: the line of its counts, with the number of its islands
+pub record CheckEnds (plan : Plan) (ending : Ending) : Type 0 where
+  pub islands : ℕ
+  pub numbering : Numbering plan islands
+  pub is : ending ≡ Done (counts_text plan islands)
+
 -- `make NUMBER DEVICES`: the summary of the run of the generator's plan
 pub record MakeEnds (number devices : ℕ) (ending : Ending) : Type 0 where
   pub plan : Plan
@@ -52,6 +60,7 @@ pub record MakeEnds (number devices : ℕ) (ending : Ending) : Type 0 where
 -- the commands that are here; the others are answered as wrong words
 abbrev pub here : Asked → Option Asked
 here (Serial plan) = Some (Serial plan)
+here (Check plan) = Some (Check plan)
 here (Make number devices) = Some (Make number devices)
 here _ = None
 
@@ -61,5 +70,6 @@ named words = option_and_then here (asked_by words)
 -- the endings of the command that is asked for, over files of which so much is told
 abbrev pub AskedEnds : Bool → (List ℕ → Option (List ℕ)) → Asked → Ending → Type 0
 AskedEnds all told (Serial plan) = OfPlan all (told plan) SerialEnds
+AskedEnds all told (Check plan) = OfPlan all (told plan) CheckEnds
 AskedEnds all told (Make number devices) = MakeEnds number devices
 AskedEnds all told _ = λ _. ⊥

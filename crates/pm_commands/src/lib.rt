@@ -1,6 +1,7 @@
 //! The commands of the program, over files and sinks that are handed in (this project's own).
 #![tactic(auto)]
 
+mod check;
 mod counts;
 mod dispatch;
 mod ending;
@@ -12,6 +13,7 @@ mod serial;
 #[cfg(test)]
 mod tests;
 
+pub use check::check_top;
 pub use counts::counts_text;
 pub use dispatch::top;
 pub use ending::{
