@@ -11,8 +11,6 @@ ghost use Rattle.pm_why.specs.Reasons.{child_reasons, is_child, reasons, reasons
 mod gets;
 mod laws;
 mod shown;
-#[cfg(test)]
-mod tests;
 mod texts;
 
 use gets::{Count, search};
