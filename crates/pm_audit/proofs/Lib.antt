@@ -1,0 +1,4 @@
+pub mod Lines
+pub mod Newlines
+pub mod Taking
+pub mod Telling

@@ -1,0 +1,203 @@
+-- What an auditor says of bytes, as they go on and at their end.
+use Rattle.std.proofs.Common.{ℕ, suc, ◌≡◌, ◌≢◌, ◌+◌, Bool, true, false, List, [], ◌∷◌, ◌++◌, Option, Some, None, is_some, length, inl, refl, sym, subst, ap, ◌∙◌, arith}
+use Rattle.std.proofs.lemmas.List.{append_assoc}
+use Rattle.pm_model.specs.declared.event.Line.{Line}
+use Rattle.pm_model.specs.declared.plan.Plan.{Plan}
+use Rattle.pm_model.specs.FirstBad.{StandsFor, is_format2}
+use Rattle.pm_model.specs.Lawful.{is_finished}
+use Rattle.pm_model.specs.NoWhy as model
+use Rattle.pm_model.specs.NoWhy.{IsWhy, is_within_line}
+use Rattle.pm_model.specs.Spelling.{newline}
+use Rattle.pm_model.specs.Verdict.{IsVerdict, No, YesFinished, YesOpen}
+use Rattle.pm_model.specs.World.{world}
+use Rattle.pm_texts.proofs.Behind.{cut_behind, format_kept, no_header}
+use Rattle.pm_texts.proofs.Bytes.{append_none}
+use Rattle.pm_texts.proofs.WhyBad.{reason_first}
+use Rattle.pm_judge.specs.Judging.{JudgeStandsFor, Judged}
+use Rattle.pm_audit.specs.Auditing.{AuditorStandsFor, IsGood, IsGoodSoFar, IsRest, IsTaken, IsToldBy, SaysOf, reason_of, rest_with}
+use Rattle.pm_audit.specs.declared.auditor.Auditor.{Auditor}
+use Rattle.pm_audit.specs.declared.auditor.BadLine.{BadLine}
+use Rattle.pm_audit.specs.declared.reading.Format.{Format}
+use Rattle.pm_audit.specs.declared.reading.Format.TheVariants as format
+use Rattle.pm_audit.specs.declared.reading.NoWhy.{NoWhy}
+use Rattle.pm_audit.proofs.Taking.{rest_on, within_on}
+
+-- while no line is bad, and once one is
+good_of : (a : Auditor) (b : List ℕ) → is_some a.bad ≡ false → AuditorStandsFor a b → IsGoodSoFar a b
+good_of a b none says = go a.bad none says
+  where
+    go : (o : Option BadLine) → is_some o ≡ false → SaysOf a o b → IsGoodSoFar a b
+    go None is good = good
+    go (Some bad) is says_it = cc is
+
+says_good : (a : Auditor) (b : List ℕ) → is_some a.bad ≡ false → IsGoodSoFar a b → AuditorStandsFor a b
+says_good a b none good = go a.bad none
+  where
+    go : (o : Option BadLine) → is_some o ≡ false → SaysOf a o b
+    go None is = good
+    go (Some bad) is = cc is
+
+more_says : (a : Auditor) (b x : List ℕ) (bad : BadLine) → SaysOf a (Some bad) b → SaysOf a (Some bad) (b ++ x)
+more_says a b x bad says = λ more. subst (λ (bytes : List ℕ). IsWhy a.judge.plan bytes bad.line (reason_of bad.why)) (sym (append_assoc b x more)) (says (x ++ more))
+
+pub says_on : (a : Auditor) (b x : List ℕ) → is_some a.bad ≡ true → AuditorStandsFor a b → AuditorStandsFor a (b ++ x)
+says_on a b x some says = go a.bad some says
+  where
+    go : (o : Option BadLine) → is_some o ≡ true → SaysOf a o b → SaysOf a o (b ++ x)
+    go None is says_it = cc is
+    go (Some bad) is says_it = more_says a b x bad says_it
+
+-- the rest goes on
+keep_good : (a : Auditor) (b piece : List ℕ) → is_within_line piece ≡ true → IsGoodSoFar a b → IsGoodSoFar (record a { rest = rest_with a.rest piece }) (b ++ piece)
+keep_good a b piece within g = record {
+  whole = g.whole;
+  list = g.list;
+  rest = g.rest ++ piece;
+  bytes_are = ap (λ x. x ++ piece) g.bytes_are ∙ append_assoc g.whole g.rest piece;
+  good = g.good;
+  within = within_on g.rest piece g.within within;
+  kept = rest_on a.rest g.rest piece g.kept;
+}
+
+pub keep_says : (a : Auditor) (b piece : List ℕ) → is_within_line piece ≡ true → AuditorStandsFor a b → AuditorStandsFor (record a { rest = rest_with a.rest piece }) (b ++ piece)
+keep_says a b piece within says = go a.bad says
+  where
+    go : (o : Option BadLine) → SaysOf a o b → SaysOf (record a { rest = rest_with a.rest piece }) o (b ++ piece)
+    go None good = keep_good a b piece within good
+    go (Some bad) says_it = more_says a b piece bad says_it
+
+-- a line ends
+abbrev pub Takes : Auditor → Auditor → List ℕ → Option NoWhy → Type 0
+Takes a new piece r =
+    (whole begun : List ℕ) (h : List Line) → IsRest a.rest begun → is_within_line begun ≡ true → IsGood a.judge.plan a.judge a.format whole h
+    → IsTaken a.judge.plan whole h (begun ++ piece) new.format new.judge r
+
+joined : (whole rest piece b : List ℕ) → b ≡ whole ++ rest → b ++ (piece ++ newline) ≡ whole ++ ((rest ++ piece) ++ newline)
+joined whole rest piece b is =
+    ap (λ x. x ++ (piece ++ newline)) is ∙ (append_assoc whole rest (piece ++ newline) ∙ ap (λ x. whole ++ x) (sym (append_assoc rest piece newline)))
+
+pub line_good : (a new : Auditor) (b piece : List ℕ) → is_some a.bad ≡ false → Takes a new piece None → new.rest ≡ Some [] → new.judge.plan ≡ a.judge.plan → new.bad ≡ a.bad
+    → AuditorStandsFor a b → AuditorStandsFor new (b ++ (piece ++ newline))
+line_good a new b piece none takes empty plan same says =
+    let g = good_of a b none says in
+    let taken = takes g.whole g.rest g.list g.kept g.within g.good in
+    let whole = g.whole ++ ((g.rest ++ piece) ++ newline) in
+    says_good new (b ++ (piece ++ newline)) (ap (λ o. is_some o) same ∙ none) (record {
+      whole = whole;
+      list = taken.0;
+      rest = [];
+      bytes_are = joined g.whole g.rest piece b g.bytes_are ∙ sym (append_none whole);
+      good = subst (λ (p : Plan). IsGood p new.judge new.format whole taken.0) (sym plan) taken.1;
+      within = refl;
+      kept = subst (λ (o : Option (List ℕ)). IsRest o []) (sym empty) refl;
+    })
+
+pub line_bad : (a new : Auditor) (b piece : List ℕ) (w : NoWhy) → is_some a.bad ≡ false → Takes a new piece (Some w) → new.judge.plan ≡ a.judge.plan
+    → new.bad ≡ Some (record { line = a.judge.lines + 1; why = w }) → AuditorStandsFor a b → AuditorStandsFor new (b ++ (piece ++ newline))
+line_bad a new b piece w none takes plan bad says =
+    let g = good_of a b none says in
+    let taken = takes g.whole g.rest g.list g.kept g.within g.good in
+    let lines : a.judge.lines ≡ length g.list = g.good.judged.lines_are in
+    let number : suc (length g.list) ≡ a.judge.lines + 1 = omega (arith, lines) in
+    let whole = g.whole ++ ((g.rest ++ piece) ++ newline) in
+    let bytes : (more : List ℕ) → g.whole ++ ((g.rest ++ piece) ++ (newline ++ more)) ≡ (b ++ (piece ++ newline)) ++ more = λ more.
+    sym (ap (λ x. x ++ more) (joined g.whole g.rest piece b g.bytes_are)
+    ∙ (append_assoc g.whole ((g.rest ++ piece) ++ newline) more ∙ ap (λ x. g.whole ++ x) (append_assoc (g.rest ++ piece) newline more))) in
+    let says_it : SaysOf new (Some (record { line = a.judge.lines + 1; why = w })) (b ++ (piece ++ newline)) = λ more.
+    subst (λ (p : Plan). IsWhy p ((b ++ (piece ++ newline)) ++ more) (a.judge.lines + 1) (reason_of w)) (sym plan)
+    (subst (λ n. IsWhy a.judge.plan ((b ++ (piece ++ newline)) ++ more) n (reason_of w)) number
+    (subst (λ (x : List ℕ). IsWhy a.judge.plan x (suc (length g.list)) (reason_of w)) (bytes more) (taken more))) in
+    subst (λ (o : Option BadLine). SaysOf new o (b ++ (piece ++ newline))) (sym bad) says_it
+
+-- at the end
+pub end_bad : (a : Auditor) (b : List ℕ) (bad : BadLine) → Some bad ≡ a.bad → AuditorStandsFor a b → IsVerdict a.judge.plan b (No bad.line (reason_of bad.why))
+end_bad a b bad is says =
+    let here : SaysOf a (Some bad) b = subst (λ (o : Option BadLine). SaysOf a o b) (sym is) says in
+    let reason = subst (λ (x : List ℕ). IsWhy a.judge.plan x bad.line (reason_of bad.why)) (append_none b) (here []) in
+    (reason_first a.judge.plan b bad.line (reason_of bad.why) reason, reason)
+
+none_kept : (kept : Option (List ℕ)) → IsRest kept [] → kept ≡ Some []
+none_kept None is = absurd (omega (arith, is))
+none_kept (Some k) is = ap (λ x. Some x) (sym is)
+
+format_at_end : (plan : Plan) (whole rest : List ℕ) (h : List Line) (f : Format) → StandsFor plan whole h → IsToldBy f whole → is_within_line rest ≡ true → is_format2 (whole ++ rest) ≡ is_format2 whole
+format_at_end plan whole rest h format.Untold stands told within = subst (λ (w : List ℕ). is_format2 (w ++ rest) ≡ is_format2 w) (sym told) (no_header rest within)
+format_at_end plan whole rest h format.One stands told within = format_kept plan whole rest h stands told.0
+format_at_end plan whole rest h format.Two stands told within = format_kept plan whole rest h stands told.0
+
+pub end_cut : (a : Auditor) (b : List ℕ) → is_some a.bad ≡ false → (a.rest ≡ Some [] → ⊥) → AuditorStandsFor a b → IsVerdict a.judge.plan b (No (a.judge.lines + 1) model.Cut)
+end_cut a b none some says =
+    let g = good_of a b none says in
+    let plan = a.judge.plan in
+    let left : g.rest ≢ [] = λ empty. some (none_kept a.rest (subst (λ (x : List ℕ). IsRest a.rest x) empty g.kept)) in
+    let cut = cut_behind plan g.whole g.rest g.list g.good.lawful g.good.stands (format_at_end plan g.whole g.rest g.list a.format g.good.stands g.good.told g.within) g.within left in
+    let lines : a.judge.lines ≡ length g.list = g.good.judged.lines_are in
+    let number : suc (length g.list) ≡ a.judge.lines + 1 = omega (arith, lines) in
+    let there : IsWhy plan (g.whole ++ g.rest) (suc (length g.list)) model.Cut = (g.list, g.rest, cut.0, cut.1) in
+    let reason = subst (λ n. IsWhy plan b n model.Cut) number (subst (λ (x : List ℕ). IsWhy plan x (suc (length g.list)) model.Cut) (sym g.bytes_are) there) in
+    (reason_first plan b (a.judge.lines + 1) model.Cut reason, reason)
+
+pub not_empty : (kept : Option (List ℕ)) (b : Bool) → (b ≡ true → kept ≡ Some []) × (kept ≡ Some [] → b ≡ true) → b ≡ false → kept ≡ Some [] → ⊥
+not_empty kept b told some is = let empty = told.1 is in cc (empty, some)
+
+-- the whole bytes are the text of the list
+record IsAll (a : Auditor) (b : List ℕ) : Type 0 where
+  good : IsGoodSoFar a b
+  stands : StandsFor a.judge.plan b good.list
+
+all_of : (a : Auditor) (b : List ℕ) → is_some a.bad ≡ false → a.rest ≡ Some [] → AuditorStandsFor a b → IsAll a b
+all_of a b none empty says =
+    let g = good_of a b none says in
+    let rest : g.rest ≡ [] = subst (λ (o : Option (List ℕ)). IsRest o g.rest) empty g.kept in
+    let same : b ≡ g.whole = g.bytes_are ∙ (ap (λ x. g.whole ++ x) rest ∙ append_none g.whole) in
+    record { good = g; stands = subst (λ (x : List ℕ). StandsFor a.judge.plan x g.list) (sym same) g.good.stands }
+
+pub end_finished : (a : Auditor) (b : List ℕ) → is_some a.bad ≡ false → a.rest ≡ Some [] → ((h : List Line) → JudgeStandsFor a.judge h → true ≡ is_finished a.judge.plan (world a.judge.plan h))
+    → AuditorStandsFor a b → IsVerdict a.judge.plan b YesFinished
+end_finished a b none empty finished says =
+    let all = all_of a b none empty says in
+    (all.good.list, all.good.good.lawful, all.stands, sym (finished all.good.list all.good.good.judged))
+
+pub end_open : (a : Auditor) (b : List ℕ) → is_some a.bad ≡ false → a.rest ≡ Some [] → ((h : List Line) → JudgeStandsFor a.judge h → false ≡ is_finished a.judge.plan (world a.judge.plan h))
+    → AuditorStandsFor a b → IsVerdict a.judge.plan b YesOpen
+end_open a b none empty open_still says =
+    let all = all_of a b none empty says in
+    let still = open_still all.good.list all.good.good.judged in
+    (all.good.list, all.good.good.lawful, all.stands, λ finished. cc (still, finished))
+
+-- an auditor that was fed nothing
+pub starts : (a : Auditor) → a.bad ≡ None → a.rest ≡ Some [] → a.format ≡ format.Untold → JudgeStandsFor a.judge [] → AuditorStandsFor a []
+starts a none empty untold judged =
+    says_good a [] (ap (λ o. is_some o) none) (record {
+      whole = [];
+      list = [];
+      rest = [];
+      bytes_are = refl;
+      good = record { lawful = tt; judged = judged; stands = inl (refl, refl); told = subst (λ (f : Format). IsToldBy f []) (sym untold) refl };
+      within = refl;
+      kept = subst (λ (o : Option (List ℕ)). IsRest o []) (sym empty) refl;
+    })
+
+-- a piece is read line by line: so much of it is done
+pub record HasRead (piece left : List ℕ) (old new : Auditor) : Type 0 where
+  pub done : List ℕ
+  pub split : piece ≡ done ++ left
+  pub stands : (b : List ℕ) → AuditorStandsFor old b → AuditorStandsFor new (b ++ done)
+  pub plan : new.judge.plan ≡ old.judge.plan
+
+pub reads_none : (piece : List ℕ) (a : Auditor) → HasRead piece piece a a
+reads_none piece a = record { done = []; split = refl; stands = λ b says. subst (λ (x : List ℕ). AuditorStandsFor a x) (sym (append_none b)) says; plan = refl }
+
+pub reads_line : (piece left line left' : List ℕ) (old mid new : Auditor) → HasRead piece left old mid → left ≡ line ++ (10 ∷ left')
+    → ((b : List ℕ) → AuditorStandsFor mid b → AuditorStandsFor new (b ++ (line ++ newline))) → new.judge.plan ≡ mid.judge.plan → HasRead piece left' old new
+reads_line piece left line left' old mid new has is ends plan = record {
+  done = has.done ++ (line ++ newline);
+  split = has.split ∙ (ap (λ x. has.done ++ x) (is ∙ sym (append_assoc line newline left')) ∙ sym (append_assoc has.done (line ++ newline) left'));
+  stands = λ b says. subst (λ (x : List ℕ). AuditorStandsFor new x) (append_assoc b has.done (line ++ newline)) (ends (b ++ has.done) (has.stands b says));
+  plan = plan ∙ has.plan;
+}
+
+pub reads_all : (piece left : List ℕ) (old mid new : Auditor) → HasRead piece left old mid → ((b : List ℕ) → AuditorStandsFor mid b → AuditorStandsFor new (b ++ left))
+    → (b : List ℕ) → AuditorStandsFor old b → AuditorStandsFor new (b ++ piece)
+reads_all piece left old mid new has keeps b says =
+    subst (λ (x : List ℕ). AuditorStandsFor new x) (append_assoc b has.done left ∙ ap (λ x. b ++ x) (sym has.split)) (keeps (b ++ has.done) (has.stands b says))

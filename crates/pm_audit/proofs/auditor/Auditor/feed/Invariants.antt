@@ -1,0 +1,9 @@
+use Rattle.std.proofs.Common.{length}
+use Rattle.pm_audit.proofs.Telling.{HasRead}
+use Rattle.pm_audit.proofs.auditor.Auditor.feed.Given as goal
+
+abbrev pub invariant-lines : goal.invariant-lines
+invariant-lines l = HasRead l.fn.piece l.left l.initial.self l.self
+
+abbrev pub decreases-lines : goal.decreases-lines
+decreases-lines l = length l.left

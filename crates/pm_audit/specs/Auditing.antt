@@ -1,0 +1,96 @@
+-- For which bytes an auditor stands, and what it says of them (this project's own). Lists have the newest line first.
+use Rattle.std.specs.Prelude.{ℕ, suc, ◌≡◌, ◌≢◌, ◌<◌, ◌≤◌, Bool, true, false, List, [], ◌∷◌, ◌++◌, Option, Some, None, length, nat_le, if◌then◌else◌}
+use Rattle.pm_model.specs.declared.event.Line.{Line}
+use Rattle.pm_model.specs.declared.plan.Plan.{Plan}
+use Rattle.pm_model.specs.FirstBad.{StandsFor, is_format2}
+use Rattle.pm_model.specs.Lawful.{IsLawful, Permits, last_time}
+use Rattle.pm_model.specs.NoWhy as model
+use Rattle.pm_model.specs.NoWhy.{IsNeverPermitted, IsPermittedSometime, IsWhy, is_within_line}
+use Rattle.pm_model.specs.Spelling.{newline}
+use Rattle.pm_model.specs.Text.{IsTextBehind}
+use Rattle.pm_model.specs.Verdict as verdicts
+use Rattle.pm_texts.specs.Next.{IsNext}
+use Rattle.pm_judge.specs.Judging.{JudgeStandsFor, Judged}
+use Rattle.pm_audit.specs.declared.auditor.Auditor.{Auditor}
+use Rattle.pm_audit.specs.declared.auditor.BadLine.{BadLine}
+use Rattle.pm_audit.specs.declared.auditor.Verdict.{Verdict}
+use Rattle.pm_audit.specs.declared.auditor.Verdict.TheVariants as verdict
+use Rattle.pm_audit.specs.declared.reading.Format.{Format}
+use Rattle.pm_audit.specs.declared.reading.Format.TheVariants as format
+use Rattle.pm_audit.specs.declared.reading.NoWhy.{NoWhy}
+use Rattle.pm_audit.specs.declared.reading.NoWhy.TheVariants as why
+use Rattle.pm_audit.specs.declared.rest.TheConstants.{REST_BYTES}
+
+-- the reason, in the words of the definitions
+abbrev pub reason_of : NoWhy → model.NoWhy
+reason_of why.Cut = model.Cut
+reason_of why.Text = model.Text
+reason_of why.Limit = model.Limit
+reason_of why.Step = model.Step
+reason_of why.Time = model.Time
+
+abbrev pub verdict_of : Verdict → verdicts.Verdict
+verdict_of verdict.YesFinished = verdicts.YesFinished
+verdict_of verdict.YesOpen = verdicts.YesOpen
+verdict_of (verdict.No n w) = verdicts.No n (reason_of w)
+
+-- a rest is kept as it is, and of a longer one that it is longer
+abbrev pub IsRest : Option (List ℕ) → List ℕ → Type 0
+IsRest (Some kept) rest = rest ≡ kept
+IsRest None rest = REST_BYTES < length rest
+
+-- a rest that goes on
+abbrev pub rest_with : Option (List ℕ) → List ℕ → Option (List ℕ)
+rest_with (Some kept) piece = if nat_le (length (kept ++ piece)) REST_BYTES then Some (kept ++ piece) else None
+rest_with None piece = None
+
+-- the first whole line tells the format
+abbrev pub IsToldBy : Format → List ℕ → Type 0
+IsToldBy format.Untold whole = whole ≡ []
+IsToldBy format.One whole = (whole ≢ []) × (is_format2 whole ≡ false)
+IsToldBy format.Two whole = (whole ≢ []) × (is_format2 whole ≡ true)
+
+-- what is said of a piece behind a lawful list, in format 2 where that is true: nothing where it is the text of a line
+-- that may come next, and then the judge stands for the list with that line, else why it is bad
+abbrev pub IsRead : Bool → Plan → List Line → List ℕ → Judged → Option NoWhy → Type 0
+IsRead f plan h piece after None = (next : IsNext f plan h piece) × JudgeStandsFor after (next.line ∷ h)
+IsRead f plan h piece after (Some why.Cut) = ⊥
+IsRead f plan h piece after (Some why.Text) = (line : Line) → IsTextBehind f plan (last_time h) line piece → ⊥
+IsRead f plan h piece after (Some why.Limit) = (line : Line) × IsTextBehind f plan (last_time h) line piece × (plan.lines ≤ length h)
+IsRead f plan h piece after (Some why.Step) =
+    (line : Line) × IsTextBehind f plan (last_time h) line piece × (length h < plan.lines) × IsNeverPermitted plan h line
+IsRead f plan h piece after (Some why.Time) =
+    (line : Line) × IsTextBehind f plan (last_time h) line piece × (length h < plan.lines) × IsPermittedSometime plan h line × (Permits plan h line → ⊥)
+
+-- the bytes are whole lines that are the text of this lawful list, for which the judge stands; the first of them, if
+-- there is one, tells the format
+pub record IsGood (plan : Plan) (judge : Judged) (f : Format) (whole : List ℕ) (h : List Line) : Type 0 where
+  pub lawful : IsLawful plan h
+  pub judged : JudgeStandsFor judge h
+  pub stands : StandsFor plan whole h
+  pub told : IsToldBy f whole
+
+-- what becomes of whole lines of this list with one more, of this piece: they are good still, or that line is bad for
+-- this reason, whatever bytes follow
+abbrev pub IsTaken : Plan → List ℕ → List Line → List ℕ → Format → Judged → Option NoWhy → Type 0
+IsTaken plan whole h piece f judge None = (k : List Line) × IsGood plan judge f (whole ++ (piece ++ newline)) k
+IsTaken plan whole h piece f judge (Some w) = (more : List ℕ) → IsWhy plan (whole ++ (piece ++ (newline ++ more))) (suc (length h)) (reason_of w)
+
+-- no whole line of the bytes is bad, and behind them is this rest, which no newline ends
+pub record IsGoodSoFar (a : Auditor) (bytes : List ℕ) : Type 0 where
+  pub whole : List ℕ
+  pub list : List Line
+  pub rest : List ℕ
+  pub bytes_are : bytes ≡ whole ++ rest
+  pub good : IsGood a.judge.plan a.judge a.format whole list
+  pub within : is_within_line rest ≡ true
+  pub kept : IsRest a.rest rest
+
+abbrev pub SaysOf : Auditor → Option BadLine → List ℕ → Type 0
+SaysOf a None bytes = IsGoodSoFar a bytes
+SaysOf a (Some bad) bytes = (more : List ℕ) → IsWhy a.judge.plan (bytes ++ more) bad.line (reason_of bad.why)
+
+-- An auditor stands for bytes: its judge stands for the list of their whole lines, and the rest that it keeps is theirs;
+-- or the first bad line of them is the one that it found, for that reason, whatever bytes follow.
+abbrev pub AuditorStandsFor : Auditor → List ℕ → Type 0
+AuditorStandsFor a bytes = SaysOf a a.bad bytes

@@ -1,0 +1,122 @@
+//! Reads whole lines of a trace.
+
+ghost use Rattle.std.specs.Prelude.{◌≡◌, ◌++◌, Bool, List, ℕ, IfNone, IfSome, Some, [], true};
+ghost use Rattle.pm_audit.specs.Auditing.{IsGood, IsRead, IsRest, IsTaken};
+ghost use Rattle.pm_judge.specs.Judging.{JudgeStandsFor};
+ghost use Rattle.pm_model.specs.declared.event.Line.{Line as ALine};
+ghost use Rattle.pm_model.specs.Lawful.{IsLawful};
+ghost use Rattle.pm_model.specs.NoWhy.{is_within_line};
+ghost use Rattle.pm_model.specs.Text.{IsTextBehind};
+
+use crate::rest::Rest;
+use pm_judge::{Bad, Judge};
+use pm_lineread::{read_line, read_line2};
+use pm_model::Line;
+
+/// The line with which a trace of format 2 begins.
+const HEADER: &[u8] = b"pm_trace 2";
+
+/// Why a line is bad. The first that holds, in this order, is the reason.
+#[derive(Clone, Copy, Debug, PartialEq, Eq)]
+pub enum NoWhy {
+    /// It lacks its newline.
+    Cut,
+    /// It is no line's text.
+    Text,
+    /// The plan has no room for it.
+    Limit,
+    /// At no time may the line come next.
+    Step,
+    /// It may at another time.
+    Time,
+}
+
+/// The format of a trace.
+#[derive(Clone, Copy)]
+pub enum Format {
+    /// No line has been read that tells it.
+    Untold,
+    One,
+    Two,
+}
+
+// The line of the plan whose text this is behind the lines of a judge, in format 2 where that is true.
+fn line_of(judge: &Judge, is_format2: bool, text: &[u8]) -> Option<Line>
+    ensures some { IfSome result (λ line. IsTextBehind is_format2 judge.now.plan judge.now.last line text.now) }
+    ensures none { IfNone result ((line : ALine) → ¬ IsTextBehind is_format2 judge.now.plan judge.now.last line text.now) }
+{
+    if is_format2 {
+        return read_line2(judge.plan(), judge.last_time(), text).ok();
+    }
+    read_line(judge.plan(), text).ok()
+}
+
+// Takes the line whose text this is, or says why it is bad.
+fn read(judge: &mut Judge, is_format2: bool, text: &[u8]) -> Option<NoWhy>
+    ensures read { (h : List ALine) → IsLawful judge.old.plan h → JudgeStandsFor judge.old h → IsRead is_format2 judge.old.plan h text.now judge.new result }
+    ensures plan { judge.new.plan ≡ judge.old.plan }
+{
+    let Some(line) = line_of(judge, is_format2, text) else {
+        return Some(NoWhy::Text);
+    };
+    match judge.judge(&line) {
+        Ok(()) => None,
+        Err(Bad::Limit) => Some(NoWhy::Limit),
+        Err(Bad::Step) => Some(NoWhy::Step),
+        Err(Bad::Time) => Some(NoWhy::Time),
+    }
+}
+
+// Takes one more whole line, without its newline, or says why it is bad.
+fn take(judge: &mut Judge, format: &mut Format, text: &[u8]) -> Option<NoWhy>
+    ensures taken { (whole : List ℕ) (h : List ALine) → is_within_line text.now ≡ true → IsGood judge.old.plan judge.old format.old whole h → IsTaken judge.old.plan whole h text.now format.new judge.new result }
+    ensures plan { judge.new.plan ≡ judge.old.plan }
+{
+    match *format {
+        Format::Untold => {
+            if text == HEADER {
+                *format = Format::Two;
+                return None;
+            }
+            *format = Format::One;
+            read(judge, false, text)
+        }
+        Format::One => read(judge, false, text),
+        Format::Two => read(judge, true, text),
+    }
+}
+
+// Takes a whole line that is the rest, or says why it is bad.
+fn take_rest(judge: &mut Judge, format: &mut Format, rest: &Rest) -> Option<NoWhy>
+    ensures taken { (whole line : List ℕ) (h : List ALine) → IsRest rest.now line → is_within_line line ≡ true → IsGood judge.old.plan judge.old format.old whole h
+        → IsTaken judge.old.plan whole h line format.new judge.new result }
+    ensures plan { judge.new.plan ≡ judge.old.plan }
+{
+    match rest.bytes() {
+        Some(text) => take(judge, format, text),
+        None => Some(NoWhy::Text),
+    }
+}
+
+/// Takes the whole line that the rest begins and this piece ends, or says why it is bad. Nothing is left of
+/// the rest.
+pub(crate) fn end_line(
+    judge: &mut Judge,
+    format: &mut Format,
+    rest: &mut Rest,
+    piece: &[u8],
+) -> Option<NoWhy>
+    requires { is_within_line piece.now ≡ true }
+    ensures taken { (whole begun : List ℕ) (h : List ALine) → IsRest rest.old begun → is_within_line begun ≡ true → IsGood judge.old.plan judge.old format.old whole h
+        → IsTaken judge.old.plan whole h (begun ++ piece.now) format.new judge.new result }
+    ensures rest { rest.new ≡ Some [] }
+    ensures plan { judge.new.plan ≡ judge.old.plan }
+{
+    if rest.is_empty() {
+        return take(judge, format, piece);
+    }
+    rest.push(piece);
+    let bad = take_rest(judge, format, rest);
+    rest.clear();
+    bad
+}

@@ -1,0 +1,241 @@
+//! Traces of a small plan, fed in pieces of any length.
+
+ghost use Rattle.std.specs.Prelude.{◌≡◌, ◌<◌, [], ◌∷◌, None, IfOk, false, pos};
+ghost use Rattle.pm_model.specs.declared.event.Helper.TheVariants as helper;
+
+use super::*;
+use pm_base::{DevId, NoMemory};
+use pm_model::{CallerRow, Command, DeviceRow, Helper, Items, NamedList, Plan};
+use std::alloc::Global;
+use std::test::Fail;
+
+fn device(alloc: Global) -> Result<DeviceRow, NoMemory>
+    ensures { IfOk result (λ row. row ≡ record {
+      name = 100 ∷ [];
+      parent = None;
+      domain = None;
+      ignore_children = false;
+      no_callbacks = false;
+      busy = false;
+      idle = None;
+      suspend = [];
+      resume = [];
+      idle_ms = 0;
+      suspend_ms = 0;
+      resume_ms = 0;
+    }) }
+{
+    Ok(DeviceRow {
+        name: Items::new(Vec::from_slice(alloc, b"d")?),
+        parent: None,
+        domain: None,
+        ignore_children: false,
+        no_callbacks: false,
+        busy: false,
+        idle: None,
+        suspend: Items::new(Vec::new(alloc)),
+        resume: Items::new(Vec::new(alloc)),
+        idle_ms: 0,
+        suspend_ms: 0,
+        resume_ms: 0,
+    })
+}
+
+// It waits for 5 milliseconds and marks the device busy.
+fn caller(alloc: Global) -> Result<CallerRow, NoMemory>
+    ensures { IfOk result (λ row. row ≡ record {
+      name = 99 ∷ [];
+      script =
+          record { helper = helper.Delay; dev = record { 0 = 0 }; number = pos 5 }
+          ∷ record { helper = helper.MarkLastBusy; dev = record { 0 = 0 }; number = pos 0 }
+          ∷ [];
+    }) }
+{
+    let delay = Command {
+        helper: Helper::Delay,
+        dev: DevId(0),
+        number: 5,
+    };
+    let mark = Command {
+        helper: Helper::MarkLastBusy,
+        dev: DevId(0),
+        number: 0,
+    };
+    Ok(CallerRow {
+        name: Items::new(Vec::from_slice(alloc, b"c")?),
+        script: Items::new(Vec::from_slice(alloc, &[delay, mark])?),
+    })
+}
+
+fn plan(alloc: Global) -> Result<Plan, NoMemory> {
+    let mut devices = Vec::new(alloc);
+    devices.push(device(alloc)?)?;
+    let mut callers = Vec::new(alloc);
+    callers.push(caller(alloc)?)?;
+    Ok(Plan {
+        lines: 4,
+        trace: 1,
+        domains: NamedList::new(alloc, Vec::new(alloc))?,
+        devices: NamedList::new(alloc, devices)?,
+        links: Items::new(Vec::new(alloc)),
+        callers: NamedList::new(alloc, callers)?,
+    })
+}
+
+// What is said of a text that is fed in pieces of this length.
+fn said(alloc: Global, text: &[u8], len: usize) -> Result<Verdict, Fail>
+    requires { 0 < len }
+{
+    let Ok(mut auditor) = Auditor::new(alloc, plan(alloc)?) else {
+        return Err("no memory".into());
+    };
+    for piece in text.chunks(len) {
+        auditor.feed(piece);
+    }
+    Ok(auditor.end())
+}
+
+static SAID: [(&str, Verdict); 19] = [
+    ("", Verdict::YesOpen),
+    ("0 c pm_call: delay 5\n", Verdict::YesOpen),
+    (
+        "0 c pm_call: delay 5\n5 c pm_ret: delay 0\n5 c pm_call: mark_last_busy d\n5 c pm_ret: mark_last_busy d 0\n",
+        Verdict::YesFinished,
+    ),
+    (
+        "0 c pm_call: delay 5\n5 c pm_ret: delay 0",
+        Verdict::No {
+            line: 2,
+            why: NoWhy::Cut,
+        },
+    ),
+    (
+        "0  c pm_call: delay 5\n",
+        Verdict::No {
+            line: 1,
+            why: NoWhy::Text,
+        },
+    ),
+    (
+        "0 c pm_call: delay 5\n\n",
+        Verdict::No {
+            line: 2,
+            why: NoWhy::Text,
+        },
+    ),
+    (
+        "0 c pm_call: delay 5\n5 c pm_ret: delay 0\n5 c pm_call: mark_last_busy d\n5 c pm_ret: mark_last_busy d 0\n6 c pm_call: delay 5\n",
+        Verdict::No {
+            line: 5,
+            why: NoWhy::Limit,
+        },
+    ),
+    (
+        "0 c pm_call: delay 6\n",
+        Verdict::No {
+            line: 1,
+            why: NoWhy::Step,
+        },
+    ),
+    (
+        "0 c pm_call: delay 5\n4 c pm_ret: delay 0\nx",
+        Verdict::No {
+            line: 2,
+            why: NoWhy::Time,
+        },
+    ),
+    (
+        "0 c pm_call: delay 5\n5 c pm_ret: delay 0\n4 c pm_call: mark_last_busy d\n",
+        Verdict::No {
+            line: 3,
+            why: NoWhy::Time,
+        },
+    ),
+    (
+        "pm_trace 2",
+        Verdict::No {
+            line: 1,
+            why: NoWhy::Cut,
+        },
+    ),
+    ("pm_trace 2\n", Verdict::YesOpen),
+    (
+        "pm_trace 2\n0 c pm_call: delay 5\n5 c pm_ret: delay 0\n0 c pm_call: mark_last_busy d\n0 c pm_ret: mark_last_busy d 0\n",
+        Verdict::YesFinished,
+    ),
+    (
+        "pm_trace 2\n0 c pm_call: delay 5\n5 c pm_ret",
+        Verdict::No {
+            line: 2,
+            why: NoWhy::Cut,
+        },
+    ),
+    (
+        "pm_trace 2\npm_trace 2\n",
+        Verdict::No {
+            line: 1,
+            why: NoWhy::Text,
+        },
+    ),
+    (
+        "pm_trace 2\n0 c pm_call: delay 5\n5 c pm_ret: delay 0\n0 c pm_call: mark_last_busy d\n0 c pm_ret: mark_last_busy d 0\n1 c pm_call: delay 5\n",
+        Verdict::No {
+            line: 5,
+            why: NoWhy::Limit,
+        },
+    ),
+    (
+        "pm_trace 2\n0 c pm_ret: delay 0\n",
+        Verdict::No {
+            line: 1,
+            why: NoWhy::Step,
+        },
+    ),
+    (
+        "pm_trace 2\n1 c pm_call: delay 5\n4 c pm_ret: delay 0\n",
+        Verdict::No {
+            line: 2,
+            why: NoWhy::Time,
+        },
+    ),
+    (
+        "pm_trace 2\n9223372036854775807 c pm_call: delay 5\n1 c pm_ret: delay 0\n",
+        Verdict::No {
+            line: 2,
+            why: NoWhy::Text,
+        },
+    ),
+];
+
+#[test]
+fn each_trace_is_judged_however_it_is_cut(rt: HostRuntime) -> Result<(), Fail> {
+    for (text, wanted) in &SAID {
+        let text = text.as_bytes();
+        for len in [text.len().max(1), 7, 1] {
+            assert_eq!(rt; said(rt.alloc(), text, len)?, *wanted, "{text:?} {len}");
+        }
+    }
+    Ok(())
+}
+
+#[test]
+fn a_long_line_is_no_text(rt: HostRuntime) -> Result<(), Fail> {
+    let long = [b'0'; 193];
+    assert_eq!(rt;
+        said(rt.alloc(), &long, 7)?,
+        Verdict::No {
+            line: 1,
+            why: NoWhy::Cut
+        }
+    );
+    let mut text = Vec::from_slice(rt.alloc(), &long)?;
+    text.push(b'\n')?;
+    assert_eq!(rt;
+        said(rt.alloc(), &text, 7)?,
+        Verdict::No {
+            line: 1,
+            why: NoWhy::Text
+        }
+    );
+    Ok(())
+}

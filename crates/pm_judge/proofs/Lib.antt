@@ -1,0 +1,4 @@
+pub mod Alike
+pub mod Answering
+pub mod Coming
+pub mod Moves

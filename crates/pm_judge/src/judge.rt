@@ -1,0 +1,133 @@
+//! The judge.
+
+ghost use Rattle.std.specs.Prelude.{◌≡◌, ◌<◌, ◌^◌, ◌∷◌, [], List, IfErr, IfOk, OnErr, OnOk};
+ghost use Rattle.pm_judge.specs.Judging.{IsAnswer, JudgeStandsFor, Judged};
+ghost use Rattle.pm_model.specs.declared.event.Line.{Line};
+ghost use Rattle.pm_model.specs.Lawful.{IsLawful, is_finished};
+ghost use Rattle.pm_model.specs.World.{world};
+ghost use Rattle.pm_state.specs.Standing.{IsActor};
+
+use crate::laws::{all_stand_well, each_line_fits, each_line_is_taken};
+use crate::sometime::comes;
+use crate::standing::written;
+use pm_base::NoMemory;
+use pm_laws::sizes;
+use pm_model::{Line, Plan};
+use pm_state::State;
+use std::alloc::Global;
+use std::marker::Model;
+
+/// What is wrong with a line. The first that holds, in this order, is the answer.
+#[derive(Clone, Copy, Debug, PartialEq, Eq)]
+pub enum Bad {
+    /// There are as many lines as the plan allows.
+    Limit,
+    /// At no time may the line come next.
+    Step,
+    /// It may at another time.
+    Time,
+}
+
+/// The counters, places, last time and number of lines after some lawful list of lines of a plan, without
+/// the lines. Contracts say for which lists it stands.
+#[derive(Drop)]
+pub struct Judge {
+    plan: Plan,
+    state: State,
+    // When the last line was written, in milliseconds of the run; 0 where there is none.
+    last: u64,
+    lines: u32,
+}
+
+impl Model for Judge {
+    ghost use Rattle.pm_judge.specs.Judging.{Judged, StandsForSome};
+
+    ghost Value = { Judged };
+
+    ghost view = { λ j. record { plan = j.plan; world = j.state.world; last = j.last; lines = j.lines } };
+
+    ghost invariant = { λ j. StandsForSome j.plan j.state j.last j.lines };
+}
+
+impl Judge {
+    /// The judge of a plan, which stands for no lines. All memory is taken here; where it runs out, the
+    /// plan is handed back.
+    pub fn start(alloc: Global, plan: Plan) -> Result<Judge, (Plan, NoMemory)>
+        ensures plan { IfOk result (λ judge. judge.plan ≡ plan) }
+        ensures stands { IfOk result (λ judge. JudgeStandsFor judge []) }
+        ensures err { IfErr result (λ back. back.0 ≡ plan) }
+    {
+        match State::fresh(alloc, &plan) {
+            Ok(state) => Ok(Judge {
+                plan,
+                state,
+                last: 0,
+                lines: 0,
+            }),
+            Err(error) => Err((plan, error)),
+        }
+    }
+
+    /// The plan.
+    pub fn plan(&self) -> &Plan
+        ensures { result.now ≡ self.now.plan }
+    {
+        &self.plan
+    }
+
+    /// When the last line was written, in milliseconds of the run; 0 where there is none.
+    pub fn last_time(&self) -> u64
+        ensures time { result ≡ self.now.last }
+        ensures in_time { result < 2 ^ 63 }
+    {
+        self.last
+    }
+
+    /// How many lines there are.
+    pub fn lines(&self) -> u32
+        ensures { result ≡ self.now.lines }
+    {
+        self.lines
+    }
+
+    /// Judges a line by an actor of the plan, at a time below 2^63 milliseconds of the run: takes it where
+    /// it may come next, and else says what is wrong. It takes no memory, and a refusal changes nothing.
+    pub fn judge(&mut self, line: &Line) -> Result<(), Bad>
+        requires in_range { IsActor self.old.plan line.now.actor }
+        requires in_time { line.now.time < 2 ^ 63 }
+        ensures answer { (h : List Line) → IsLawful self.old.plan h → JudgeStandsFor self.old h → IsAnswer self.old.plan h line.now result }
+        ensures taken { OnOk result ((h : List Line) → IsLawful self.old.plan h → JudgeStandsFor self.old h → JudgeStandsFor self.new (line.now ∷ h)) }
+        ensures plan { self.new.plan ≡ self.old.plan }
+        ensures err { OnErr result (self.new ≡ self.old) }
+    {
+        if self.lines >= self.plan.lines {
+            return Err(Bad::Limit);
+        }
+        sizes();
+        all_stand_well();
+        each_line_is_taken();
+        each_line_fits();
+        let Some(stage) = self.state.stage_at(&self.plan, line.actor) else {
+            return Err(Bad::Step);
+        };
+        if let Some((change, then)) = written(&self.plan, &self.state, stage, self.last, line) {
+            self.state.go(&self.plan, change, line, &then);
+            self.last = line.time;
+            self.lines += 1;
+            return Ok(());
+        }
+        if comes(&self.plan, &self.state, stage, self.last, line.event) {
+            return Err(Bad::Time);
+        }
+        Err(Bad::Step)
+    }
+
+    /// Whether the run is finished: each script has ended, each place is empty, no device is queued and no
+    /// timer is armed. It looks at all actors, and takes no memory.
+    pub fn finished(&self) -> bool
+        ensures { (h : List Line) → JudgeStandsFor self.now h → result ≡ is_finished self.now.plan (world self.now.plan h) }
+    {
+        sizes();
+        self.state.is_finished(&self.plan)
+    }
+}

@@ -1,0 +1,62 @@
+//! What is asked of the state of a run.
+
+ghost use Rattle.std.specs.Prelude.{◌≡◌, ◌<◌, ◌≤◌, ◌^◌, Some, IfNone, IfSome, IsTrue, ◌↔◌, true};
+ghost use Rattle.pm_judge.specs.Sometime.{MayCome, Writes};
+ghost use Rattle.pm_model.specs.World.{due, stage_at};
+ghost use Rattle.pm_state.specs.Standing.{IsOf, can_go_on};
+ghost use Rattle.pm_times.specs.Times.{event_at};
+
+use pm_model::{Change, Event, Line, Move, Plan, Stage, Then};
+use pm_state::State;
+
+// Whether two events are equal.
+pub(crate) fn same(one: Event, other: Event) -> bool
+    ensures { IsTrue result ↔ (one ≡ other) }
+{
+    one == other
+}
+
+// The event of the row at a stage that is due at this moment; `None` where it waits.
+pub(crate) fn event_of(plan: &Plan, state: &State, stage: Stage, time: u64) -> Option<Event>
+    requires is_of { IsOf plan.now state.now }
+    requires stands { can_go_on plan.now state.now.world.views stage ≡ true }
+    requires in_time { time < 2 ^ 63 }
+    requires at_once { due plan.now state.now.world.views stage ≤ time }
+    ensures { result ≡ event_at plan.now state.now.world.views stage time }
+{
+    match state.next(plan, &stage, time) {
+        Move::Write(event, _, _) => Some(event),
+        Move::Late(_) | Move::Wait(_) => None,
+    }
+}
+
+// The change that the row of a line names and what takes its stage's place, where the line may come next
+// at its time, and the last one was written at this.
+pub(crate) fn written(
+    plan: &Plan,
+    state: &State,
+    stage: Stage,
+    last: u64,
+    line: &Line,
+) -> Option<(Change, Then)>
+    requires is_of { IsOf plan.now state.now }
+    requires at { stage_at plan.now state.now.world line.now.actor ≡ Some stage }
+    requires stands { can_go_on plan.now state.now.world.views stage ≡ true }
+    requires in_time { line.now.time < 2 ^ 63 }
+    ensures some { IfSome result (λ p. Writes plan.now state.now.world last line.now p.0 p.1) }
+    ensures none { IfNone result (¬ MayCome plan.now state.now.world last line.now) }
+{
+    if line.time < last {
+        return None;
+    }
+    match state.next(plan, &stage, line.time) {
+        Move::Write(event, change, then) => {
+            if same(event, line.event) {
+                Some((change, then))
+            } else {
+                None
+            }
+        }
+        Move::Late(_) | Move::Wait(_) => None,
+    }
+}
