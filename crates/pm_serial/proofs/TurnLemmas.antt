@@ -247,9 +247,6 @@ pub runs_behind : (old mid : Pages) (a : ActorId) (now : ℕ) (s : Step) → is_
 runs_behind old mid a now s free answers says stays =
     subst (λ (p : Pages). is_running p.plan (world_of p) a ≡ true) (sym (stays (running_wrote s says))) (sym (step_runs old a now free) ∙ ap says_running (sym answers) ∙ says)
 
-pub actor_behind : (old mid : Pages) (a : ActorId) (now : ℕ) (s : Step) → IsTurn old a now → says_running s ≡ true → (has_written s ≡ false → mid ≡ old) → IsActor mid.plan a
-actor_behind old mid a now s is says stays = subst (λ (p : Pages). IsActor p.plan a) (sym (stays (running_wrote s says))) is.in_range
-
 pub end_behind : (old mid new : Pages) (a : ActorId) (now : ℕ) (s : Step) (answer : EndStep) → IsTurn old a now → is_full old ≡ false → HasTime old.plan old.lines → s ≡ step_answer old a now
     → says_running s ≡ true → (has_written s ≡ false → mid ≡ old) → answer ≡ end_answer mid a now → (answer ≡ end.Wrote → Adds mid new a (moment_from mid.lines now)) → Writes old new
 end_behind old mid new a now s answer is free in_time answers says stays ends writes =
