@@ -45,7 +45,7 @@ impl Book {
     }
 
     // Writes a line that may come next.
-    fn write(
+    pub(crate) fn write(
         &mut self,
         stage: &Stage,
         line: &Line,
