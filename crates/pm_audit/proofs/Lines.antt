@@ -1,19 +1,17 @@
 -- What is said of one line, from what the judge answers.
-use Rattle.std.proofs.Common.{ℕ, ◌≡◌, ◌<◌, ◌≤◌, ◌^◌, ◌&&◌, Bool, true, List, ◌∷◌, None, Some, length, nat_lt, subst}
+use Rattle.std.proofs.Common.{ℕ, ◌≡◌, ◌<◌, ◌^◌, ◌&&◌, Bool, true, List, ◌∷◌, None, length, nat_lt, subst}
 use Rattle.std.proofs.lemmas.Bool.{and_parts, ltb-true}
 use Rattle.pm_base.specs.declared.ActorId.{ActorId}
 use Rattle.pm_base.specs.declared.ActorId.TheVariants.{Caller, Work, Timer}
 use Rattle.pm_model.specs.declared.event.Line.{Line}
 use Rattle.pm_model.specs.declared.plan.Plan.{Plan}
 use Rattle.pm_model.specs.Lawful.{Permits, last_time}
-use Rattle.pm_model.specs.LineOf.{is_actor_of, is_event_of, is_line_of}
-use Rattle.pm_model.specs.NoWhy.{IsNeverPermitted, IsPermittedSometime}
+use Rattle.pm_model.specs.LineOf.{is_actor_of, is_event_of}
 use Rattle.pm_model.specs.Text.{IsTextBehind}
 use Rattle.pm_texts.proofs.Formats.{line_is}
 use Rattle.pm_state.specs.Standing.{IsActor}
 use Rattle.pm_judge.specs.Judging.{JudgeStandsFor, Judged}
 use Rattle.pm_audit.specs.Auditing.{IsRead}
-use Rattle.pm_audit.specs.declared.reading.NoWhy.TheVariants as why
 
 -- a line of a plan is by an actor of it, at a time below 2^63
 is_actor : (plan : Plan) (actor : ActorId) → is_actor_of (length plan.devices) (length plan.callers) actor ≡ true → IsActor plan actor
@@ -28,6 +26,10 @@ can_judge f plan base line piece spelled =
     let parts = and_parts (nat_lt line.time (2 ^ 63) && is_actor_of devices callers line.actor) (is_event_of devices line.event) (line_is f plan base line piece spelled) in
     let first = and_parts (nat_lt line.time (2 ^ 63)) (is_actor_of devices callers line.actor) parts.0 in
     (is_actor plan line.actor first.1, ltb-true line.time (2 ^ 63) first.0)
+
+-- the text of a line behind one of the same time in the same plan
+pub spelled_as : (f : Bool) (p plan : Plan) (n base : ℕ) (line : Line) (piece : List ℕ) → p ≡ plan → n ≡ base → IsTextBehind f p n line piece → IsTextBehind f plan base line piece
+spelled_as f p plan n base line piece same at spelled = subst (λ k. IsTextBehind f plan k line piece) at (subst (λ (q : Plan). IsTextBehind f q n line piece) same spelled)
 
 -- the text of a line behind a judge's list
 pub behind : (f : Bool) (judge : Judged) (h : List Line) (line : Line) (piece : List ℕ) → JudgeStandsFor judge h → IsTextBehind f judge.plan judge.last line piece

@@ -10,14 +10,14 @@ use Rattle.pm_model.specs.declared.event.Line.{Line}
 use Rattle.pm_model.specs.declared.plan.Plan.{Plan}
 use Rattle.pm_model.specs.FirstBad.{StandsFor, is_format2}
 use Rattle.pm_model.specs.Lawful.{IsLawful, last_time}
-use Rattle.pm_model.specs.NoWhy.{IsLineBehind, IsNoText, is_within_line}
+use Rattle.pm_model.specs.NoWhy.{IsLineBehind, IsWhy, is_within_line}
 use Rattle.pm_model.specs.Spelling.{newline}
 use Rattle.pm_model.specs.Text.{IsTextBehind}
 use Rattle.pm_texts.proofs.Behind.{format_kept, header_line, piece_behind}
 use Rattle.pm_texts.proofs.Bytes.{none_empty}
 use Rattle.pm_texts.proofs.Formats.{IsTextIn, only_list, stands_for, text_by_format, text_more}
 use Rattle.pm_judge.specs.Judging.{JudgeStandsFor, Judged}
-use Rattle.pm_audit.specs.Auditing.{IsGood, IsRead, IsRest, IsTaken, IsToldBy, rest_with}
+use Rattle.pm_audit.specs.Auditing.{IsBad, IsGood, IsRead, IsRest, IsTaken, IsToldBy, reason_of, rest_with}
 use Rattle.pm_audit.specs.declared.reading.Format.{Format}
 use Rattle.pm_audit.specs.declared.reading.Format.TheVariants as format
 use Rattle.pm_audit.specs.declared.reading.NoWhy.{NoWhy}
@@ -49,28 +49,36 @@ stays_told plan whole piece h format.One stands told within other = some_told pl
 stays_told plan whole piece h format.Two stands told within other = some_told plan whole piece h true stands told.0 told.1
 
 -- the next line is behind those, in their format
-line_behind : (plan : Plan) (whole piece more : List ℕ) (h : List Line) (two : Bool) (line : Line) → IsLawful plan h → StandsFor plan whole h → is_within_line piece ≡ true → StaysTold whole piece two
-    → IsTextBehind two plan (last_time h) line piece → IsLineBehind plan (whole ++ (piece ++ (newline ++ more))) (suc (length h)) h line
-line_behind plan whole piece more h two line lawful stands within told spelled =
-    let behind = piece_behind plan whole piece more h lawful stands (told.1 more ∙ sym told.0) within in
-    record { before = behind.0; piece = piece; is_piece = behind.1; spelled = subst (λ b. IsTextBehind b plan (last_time h) line piece) (sym (told.1 more)) spelled }
+line_behind : (plan : Plan) (whole piece more : List ℕ) (h : List Line) (two : Bool) (line : Line) → IsLawful plan h → StandsFor plan whole h → is_within_line piece ≡ true → is_format2 whole ≡ two
+    → is_format2 (whole ++ (piece ++ (newline ++ more))) ≡ two → IsTextBehind two plan (last_time h) line piece → IsLineBehind plan (whole ++ (piece ++ (newline ++ more))) (suc (length h)) h line
+line_behind plan whole piece more h two line lawful stands within here there spelled =
+    let behind = piece_behind plan whole piece more h lawful stands (there ∙ sym here) within in
+    record { before = behind.0; piece = piece; is_piece = behind.1; spelled = subst (λ b. IsTextBehind b plan (last_time h) line piece) (sym there) spelled }
 
-told_after : (f : Format) (whole piece : List ℕ) → is_format2 (whole ++ (piece ++ newline)) ≡ is_two f → (f ≡ format.Untold → ⊥) → IsToldBy f (whole ++ (piece ++ newline))
-told_after format.Untold whole piece is told = absurd (told refl)
-told_after format.One whole piece is told = (λ none. none_empty whole piece none, is)
-told_after format.Two whole piece is told = (λ none. none_empty whole piece none, is)
-
-no_text : (plan : Plan) (whole piece : List ℕ) (h : List Line) (two : Bool) → IsLawful plan h → StandsFor plan whole h → is_within_line piece ≡ true → StaysTold whole piece two
-    → ((line : Line) → IsTextBehind two plan (last_time h) line piece → ⊥) → (more : List ℕ) → IsNoText plan (whole ++ (piece ++ (newline ++ more))) (suc (length h))
-no_text plan whole piece h two lawful stands within told none more =
-    let behind = piece_behind plan whole piece more h lawful stands (told.1 more ∙ sym told.0) within in
+-- so what is wrong with it is why it is the first bad one
+pub why_bad : (plan : Plan) (whole piece more : List ℕ) (h : List Line) (two : Bool) (w : NoWhy) → IsLawful plan h → StandsFor plan whole h → is_within_line piece ≡ true → is_format2 whole ≡ two
+    → is_format2 (whole ++ (piece ++ (newline ++ more))) ≡ two → IsBad two plan h piece w → IsWhy plan (whole ++ (piece ++ (newline ++ more))) (suc (length h)) (reason_of w)
+why_bad plan whole piece more h two why.Cut lawful stands within here there bad = absurd bad
+why_bad plan whole piece more h two why.Text lawful stands within here there none =
+    let behind = piece_behind plan whole piece more h lawful stands (there ∙ sym here) within in
     record {
       h = h;
       before = behind.0;
       piece = piece;
       is_piece = behind.1;
-      no_text = λ line spelled. none line (subst (λ b. IsTextBehind b plan (last_time h) line piece) (told.1 more) spelled);
+      no_text = λ line spelled. none line (subst (λ b. IsTextBehind b plan (last_time h) line piece) there spelled);
     }
+why_bad plan whole piece more h two why.Limit lawful stands within here there (line, spelled, full) =
+    (h, line, line_behind plan whole piece more h two line lawful stands within here there spelled, omega (arith, full))
+why_bad plan whole piece more h two why.Step lawful stands within here there (line, spelled, room, never) =
+    (h, line, line_behind plan whole piece more h two line lawful stands within here there spelled, omega (arith, room), never)
+why_bad plan whole piece more h two why.Time lawful stands within here there (line, spelled, room, sometime, not_now) =
+    (h, line, line_behind plan whole piece more h two line lawful stands within here there spelled, omega (arith, room), sometime, not_now)
+
+told_after : (f : Format) (whole piece : List ℕ) → is_format2 (whole ++ (piece ++ newline)) ≡ is_two f → (f ≡ format.Untold → ⊥) → IsToldBy f (whole ++ (piece ++ newline))
+told_after format.Untold whole piece is told = absurd (told refl)
+told_after format.One whole piece is told = (λ none. none_empty whole piece none, is)
+told_after format.Two whole piece is told = (λ none. none_empty whole piece none, is)
 
 taken_by : (plan : Plan) (whole piece : List ℕ) (h : List Line) (f : Format) (two : Bool) (judge after : Judged) (f' : Format) (r : Option NoWhy) → IsGood plan judge f whole h → is_within_line piece ≡ true
     → StaysTold whole piece two → two ≡ is_two f' → (f' ≡ format.Untold → ⊥) → IsRead two plan h piece after r → IsTaken plan whole h piece f' after r
@@ -84,14 +92,8 @@ taken_by plan whole piece h f two judge after f' None good within told same some
         told = told_after f' whole piece (told.1 [] ∙ same) some;
       },
     )
-taken_by plan whole piece h f two judge after f' (Some why.Cut) good within told same some read = absurd read
-taken_by plan whole piece h f two judge after f' (Some why.Text) good within told same some read = no_text plan whole piece h two good.lawful good.stands within told read
-taken_by plan whole piece h f two judge after f' (Some why.Limit) good within told same some (line, spelled, full) = λ more.
-    (h, line, line_behind plan whole piece more h two line good.lawful good.stands within told spelled, omega (arith, full))
-taken_by plan whole piece h f two judge after f' (Some why.Step) good within told same some (line, spelled, room, never) = λ more.
-    (h, line, line_behind plan whole piece more h two line good.lawful good.stands within told spelled, omega (arith, room), never)
-taken_by plan whole piece h f two judge after f' (Some why.Time) good within told same some (line, spelled, room, sometime, not_now) = λ more.
-    (h, line, line_behind plan whole piece more h two line good.lawful good.stands within told spelled, omega (arith, room), sometime, not_now)
+taken_by plan whole piece h f two judge after f' (Some w) good within told same some bad = λ more.
+    why_bad plan whole piece more h two w good.lawful good.stands within told.0 (told.1 more) bad
 
 -- by what is read, in each format
 pub take_first : (plan : Plan) (whole piece : List ℕ) (h : List Line) (judge after : Judged) (r : Option NoWhy) → IsGood plan judge format.Untold whole h → is_within_line piece ≡ true → piece ≢ word
@@ -130,7 +132,9 @@ pub take_long : (plan : Plan) (whole line : List ℕ) (h : List Line) (f f' : Fo
     → IsTaken plan whole h line f' after (Some why.Text)
 take_long plan whole line h f f' judge after good within long =
     let other : line ≢ word = λ is. let same = ap length is in absurd (omega (arith, same, long)) in
-    no_text plan whole line h (is_two f) good.lawful good.stands within (stays_told plan whole line h f good.stands good.told within other)
+    let told = stays_told plan whole line h f good.stands good.told within other in
+    λ more.
+    why_bad plan whole line more h (is_two f) why.Text good.lawful good.stands within told.0 (told.1 more)
     (λ l spelled. let short = text_within (is_two f) plan (last_time h) l line spelled in absurd (omega (arith, short, long)))
 
 -- a rest goes on

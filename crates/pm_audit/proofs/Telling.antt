@@ -4,7 +4,7 @@ use Rattle.std.proofs.lemmas.List.{append_assoc}
 use Rattle.pm_model.specs.declared.event.Line.{Line}
 use Rattle.pm_model.specs.declared.plan.Plan.{Plan}
 use Rattle.pm_model.specs.FirstBad.{StandsFor, is_format2}
-use Rattle.pm_model.specs.Lawful.{is_finished}
+use Rattle.pm_model.specs.Lawful.{IsLawful, is_finished}
 use Rattle.pm_model.specs.NoWhy as model
 use Rattle.pm_model.specs.NoWhy.{IsWhy, is_within_line}
 use Rattle.pm_model.specs.Spelling.{newline}
@@ -13,7 +13,7 @@ use Rattle.pm_model.specs.World.{world}
 use Rattle.pm_texts.proofs.Behind.{cut_behind, format_kept, no_header}
 use Rattle.pm_texts.proofs.Bytes.{append_none}
 use Rattle.pm_texts.proofs.WhyBad.{reason_first}
-use Rattle.pm_judge.specs.Judging.{JudgeStandsFor, Judged}
+use Rattle.pm_judge.specs.Judging.{JudgeStandsFor}
 use Rattle.pm_audit.specs.Auditing.{AuditorStandsFor, IsGood, IsGoodSoFar, IsRest, IsTaken, IsToldBy, SaysOf, reason_of, rest_with}
 use Rattle.pm_audit.specs.declared.auditor.Auditor.{Auditor}
 use Rattle.pm_audit.specs.declared.auditor.BadLine.{BadLine}
@@ -125,17 +125,22 @@ format_at_end plan whole rest h format.Untold stands told within = subst (λ (w 
 format_at_end plan whole rest h format.One stands told within = format_kept plan whole rest h stands told.0
 format_at_end plan whole rest h format.Two stands told within = format_kept plan whole rest h stands told.0
 
+-- a rest behind whole lines is cut, and so the first bad line
+pub cut_bad : (plan : Plan) (whole rest b : List ℕ) (h : List Line) (n : ℕ) → IsLawful plan h → StandsFor plan whole h → is_format2 (whole ++ rest) ≡ is_format2 whole
+    → is_within_line rest ≡ true → rest ≢ [] → b ≡ whole ++ rest → n ≡ suc (length h) → IsVerdict plan b (No n model.Cut)
+cut_bad plan whole rest b h n lawful stands told within some is number =
+    let cut = cut_behind plan whole rest h lawful stands told within some in
+    let there : IsWhy plan (whole ++ rest) (suc (length h)) model.Cut = (h, rest, cut.0, cut.1) in
+    let reason = subst (λ k. IsWhy plan b k model.Cut) (sym number) (subst (λ (x : List ℕ). IsWhy plan x (suc (length h)) model.Cut) (sym is) there) in
+    (reason_first plan b n model.Cut reason, reason)
+
 pub end_cut : (a : Auditor) (b : List ℕ) → is_some a.bad ≡ false → (a.rest ≡ Some [] → ⊥) → AuditorStandsFor a b → IsVerdict a.judge.plan b (No (a.judge.lines + 1) model.Cut)
 end_cut a b none some says =
     let g = good_of a b none says in
-    let plan = a.judge.plan in
     let left : g.rest ≢ [] = λ empty. some (none_kept a.rest (subst (λ (x : List ℕ). IsRest a.rest x) empty g.kept)) in
-    let cut = cut_behind plan g.whole g.rest g.list g.good.lawful g.good.stands (format_at_end plan g.whole g.rest g.list a.format g.good.stands g.good.told g.within) g.within left in
     let lines : a.judge.lines ≡ length g.list = g.good.judged.lines_are in
-    let number : suc (length g.list) ≡ a.judge.lines + 1 = omega (arith, lines) in
-    let there : IsWhy plan (g.whole ++ g.rest) (suc (length g.list)) model.Cut = (g.list, g.rest, cut.0, cut.1) in
-    let reason = subst (λ n. IsWhy plan b n model.Cut) number (subst (λ (x : List ℕ). IsWhy plan x (suc (length g.list)) model.Cut) (sym g.bytes_are) there) in
-    (reason_first plan b (a.judge.lines + 1) model.Cut reason, reason)
+    cut_bad a.judge.plan g.whole g.rest b g.list (a.judge.lines + 1) g.good.lawful g.good.stands (format_at_end a.judge.plan g.whole g.rest g.list a.format g.good.stands g.good.told g.within) g.within left
+    g.bytes_are (omega (arith, lines))
 
 pub not_empty : (kept : Option (List ℕ)) (b : Bool) → (b ≡ true → kept ≡ Some []) × (kept ≡ Some [] → b ≡ true) → b ≡ false → kept ≡ Some [] → ⊥
 not_empty kept b told some is = let empty = told.1 is in cc (empty, some)

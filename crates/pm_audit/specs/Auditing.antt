@@ -50,17 +50,20 @@ IsToldBy format.Untold whole = whole ≡ []
 IsToldBy format.One whole = (whole ≢ []) × (is_format2 whole ≡ false)
 IsToldBy format.Two whole = (whole ≢ []) × (is_format2 whole ≡ true)
 
--- what is said of a piece behind a lawful list, in format 2 where that is true: nothing where it is the text of a line
--- that may come next, and then the judge stands for the list with that line, else why it is bad
+-- why a piece behind a lawful list is bad, in format 2 where that is true
+abbrev pub IsBad : Bool → Plan → List Line → List ℕ → NoWhy → Type 0
+IsBad f plan h piece why.Cut = ⊥
+IsBad f plan h piece why.Text = (line : Line) → IsTextBehind f plan (last_time h) line piece → ⊥
+IsBad f plan h piece why.Limit = (line : Line) × IsTextBehind f plan (last_time h) line piece × (plan.lines ≤ length h)
+IsBad f plan h piece why.Step = (line : Line) × IsTextBehind f plan (last_time h) line piece × (length h < plan.lines) × IsNeverPermitted plan h line
+IsBad f plan h piece why.Time =
+    (line : Line) × IsTextBehind f plan (last_time h) line piece × (length h < plan.lines) × IsPermittedSometime plan h line × (Permits plan h line → ⊥)
+
+-- what is said of a piece behind a lawful list: nothing where it is the text of a line that may come next, and then the
+-- judge stands for the list with that line, else why it is bad
 abbrev pub IsRead : Bool → Plan → List Line → List ℕ → Judged → Option NoWhy → Type 0
 IsRead f plan h piece after None = (next : IsNext f plan h piece) × JudgeStandsFor after (next.line ∷ h)
-IsRead f plan h piece after (Some why.Cut) = ⊥
-IsRead f plan h piece after (Some why.Text) = (line : Line) → IsTextBehind f plan (last_time h) line piece → ⊥
-IsRead f plan h piece after (Some why.Limit) = (line : Line) × IsTextBehind f plan (last_time h) line piece × (plan.lines ≤ length h)
-IsRead f plan h piece after (Some why.Step) =
-    (line : Line) × IsTextBehind f plan (last_time h) line piece × (length h < plan.lines) × IsNeverPermitted plan h line
-IsRead f plan h piece after (Some why.Time) =
-    (line : Line) × IsTextBehind f plan (last_time h) line piece × (length h < plan.lines) × IsPermittedSometime plan h line × (Permits plan h line → ⊥)
+IsRead f plan h piece after (Some w) = IsBad f plan h piece w
 
 -- the bytes are whole lines that are the text of this lawful list, for which the judge stands; the first of them, if
 -- there is one, tells the format

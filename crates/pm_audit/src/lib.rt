@@ -1,12 +1,15 @@
 //! Audits traces: which bytes are the text of a lawful list of lines of a plan, and which line of other bytes
-//! is the first bad one (this project's own). Neither the lines nor the bytes are kept.
+//! is the first bad one (this project's own). An auditor keeps neither the lines nor the bytes; `load_trace`
+//! makes a book of the lines.
 #![tactic(auto)]
 
 mod auditor;
+mod loading;
 mod reading;
 mod rest;
 #[cfg(test)]
 mod tests;
 
 pub use auditor::{Auditor, Verdict};
+pub use loading::{LoadFault, load_trace};
 pub use reading::NoWhy;

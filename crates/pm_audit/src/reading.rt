@@ -1,6 +1,6 @@
 //! Reads whole lines of a trace.
 
-ghost use Rattle.std.specs.Prelude.{◌≡◌, ◌++◌, Bool, List, ℕ, IfNone, IfSome, Some, [], true};
+ghost use Rattle.std.specs.Prelude.{◌≡◌, ◌++◌, ◌<◌, ◌^◌, List, ℕ, IfNone, IfSome, Some, [], true};
 ghost use Rattle.pm_audit.specs.Auditing.{IsGood, IsRead, IsRest, IsTaken};
 ghost use Rattle.pm_judge.specs.Judging.{JudgeStandsFor};
 ghost use Rattle.pm_model.specs.declared.event.Line.{Line as ALine};
@@ -11,10 +11,10 @@ ghost use Rattle.pm_model.specs.Text.{IsTextBehind};
 use crate::rest::Rest;
 use pm_judge::{Bad, Judge};
 use pm_lineread::{read_line, read_line2};
-use pm_model::Line;
+use pm_model::{Line, Plan};
 
 /// The line with which a trace of format 2 begins.
-const HEADER: &[u8] = b"pm_trace 2";
+pub const HEADER: &[u8] = b"pm_trace 2";
 
 /// Why a line is bad. The first that holds, in this order, is the reason.
 #[derive(Clone, Copy, Debug, PartialEq, Eq)]
@@ -40,15 +40,16 @@ pub enum Format {
     Two,
 }
 
-// The line of the plan whose text this is behind the lines of a judge, in format 2 where that is true.
-fn line_of(judge: &Judge, is_format2: bool, text: &[u8]) -> Option<Line>
-    ensures some { IfSome result (λ line. IsTextBehind is_format2 judge.now.plan judge.now.last line text.now) }
-    ensures none { IfNone result ((line : ALine) → ¬ IsTextBehind is_format2 judge.now.plan judge.now.last line text.now) }
+// The line of the plan whose text this is behind a line of that time, in format 2 where that is true.
+pub(crate) fn line_of(plan: &Plan, last: u64, is_format2: bool, text: &[u8]) -> Option<Line>
+    requires { last < 2 ^ 63 }
+    ensures some { IfSome result (λ line. IsTextBehind is_format2 plan.now last line text.now) }
+    ensures none { IfNone result ((line : ALine) → ¬ IsTextBehind is_format2 plan.now last line text.now) }
 {
     if is_format2 {
-        return read_line2(judge.plan(), judge.last_time(), text).ok();
+        return read_line2(plan, last, text).ok();
     }
-    read_line(judge.plan(), text).ok()
+    read_line(plan, text).ok()
 }
 
 // Takes the line whose text this is, or says why it is bad.
@@ -56,7 +57,7 @@ fn read(judge: &mut Judge, is_format2: bool, text: &[u8]) -> Option<NoWhy>
     ensures read { (h : List ALine) → IsLawful judge.old.plan h → JudgeStandsFor judge.old h → IsRead is_format2 judge.old.plan h text.now judge.new result }
     ensures plan { judge.new.plan ≡ judge.old.plan }
 {
-    let Some(line) = line_of(judge, is_format2, text) else {
+    let Some(line) = line_of(judge.plan(), judge.last_time(), is_format2, text) else {
         return Some(NoWhy::Text);
     };
     match judge.judge(&line) {

@@ -95,7 +95,20 @@ fn said(alloc: Global, text: &[u8], len: usize) -> Result<Verdict, Fail>
     Ok(auditor.end())
 }
 
-static SAID: [(&str, Verdict); 19] = [
+// What is said of a text from which a book is loaded.
+fn loaded(alloc: Global, text: &[u8]) -> Result<Verdict, Fail> {
+    match load_trace(alloc, plan(alloc)?, text) {
+        Ok(book) => Ok(if book.finished() {
+            Verdict::YesFinished
+        } else {
+            Verdict::YesOpen
+        }),
+        Err(LoadFault::No { line, why }) => Ok(Verdict::No { line, why }),
+        Err(LoadFault::NoMemory) => Err("no memory".into()),
+    }
+}
+
+static SAID: [(&str, Verdict); 24] = [
     ("", Verdict::YesOpen),
     ("0 c pm_call: delay 5\n", Verdict::YesOpen),
     (
@@ -117,6 +130,27 @@ static SAID: [(&str, Verdict); 19] = [
         },
     ),
     (
+        "0 c\0 pm_call: delay 5\n",
+        Verdict::No {
+            line: 1,
+            why: NoWhy::Text,
+        },
+    ),
+    (
+        "0 c pm_call: delay 5\r\n5 c pm_ret: delay 0\n",
+        Verdict::No {
+            line: 1,
+            why: NoWhy::Text,
+        },
+    ),
+    (
+        "0 c pm_call: delay 5\n5 c pm_ret: delay 0\n5 c pm_ret: delay 0\nx\n",
+        Verdict::No {
+            line: 3,
+            why: NoWhy::Step,
+        },
+    ),
+    (
         "0 c pm_call: delay 5\n\n",
         Verdict::No {
             line: 2,
@@ -128,6 +162,20 @@ static SAID: [(&str, Verdict); 19] = [
         Verdict::No {
             line: 5,
             why: NoWhy::Limit,
+        },
+    ),
+    (
+        "0 c pm_call: delay 5\n5 c pm_ret: delay 0\n5 c pm_call: mark_last_busy d\n5 c pm_ret: mark_last_busy d 0\nx\n",
+        Verdict::No {
+            line: 5,
+            why: NoWhy::Text,
+        },
+    ),
+    (
+        "0 c pm_call: delay 5\n5 c pm_ret: delay 0\n5 c pm_call: mark_last_busy d\n5 c pm_ret: mark_last_busy d 0\nx",
+        Verdict::No {
+            line: 5,
+            why: NoWhy::Cut,
         },
     ),
     (
@@ -214,6 +262,7 @@ fn each_trace_is_judged_however_it_is_cut(rt: HostRuntime) -> Result<(), Fail> {
         for len in [text.len().max(1), 7, 1] {
             assert_eq!(rt; said(rt.alloc(), text, len)?, *wanted, "{text:?} {len}");
         }
+        assert_eq!(rt; loaded(rt.alloc(), text)?, *wanted, "{text:?}");
     }
     Ok(())
 }

@@ -1,4 +1,4 @@
-pub mod LineLemmas
 pub mod RunningLemmas
 pub mod EndLemmas
 pub mod PageLemmas
+pub mod TakeLemmas

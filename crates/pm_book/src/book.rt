@@ -1,9 +1,9 @@
 //! The book, and what it shows.
 
-ghost use Rattle.std.specs.Prelude.{◌≡◌, ◌≤◌, [], reverse, true, IfErr, IfOk, IfSome, IsOk, OnErr, OnOk};
+ghost use Rattle.std.specs.Prelude.{◌≡◌, ◌<◌, ◌≤◌, ◌^◌, [], reverse, true, IfErr, IfOk, IfSome, IsOk, OnErr, OnOk};
 ghost use Rattle.std.specs.List.{list_all};
 ghost use Rattle.pm_model.specs.LineOf.{is_line_of};
-ghost use Rattle.pm_model.specs.Lawful.{IsLawful, is_finished};
+ghost use Rattle.pm_model.specs.Lawful.{IsLawful, is_finished, last_time};
 ghost use Rattle.pm_state.specs.Standing.{IsActor, IsOf, counters};
 ghost use Rattle.pm_state.specs.Turns.{is_running};
 ghost use Rattle.pm_model.specs.World.{start};
@@ -106,6 +106,14 @@ impl Book {
     {
         lines_are_of_plan();
         self.lines.as_slice()
+    }
+
+    /// When the last line was written, in milliseconds of the run; 0 where there is none.
+    pub fn last_time(&self) -> u64
+        ensures time { result ≡ last_time self.now.lines }
+        ensures in_time { result < 2 ^ 63 }
+    {
+        self.lines.last_time()
     }
 
     /// The counters of the plan after the lines.

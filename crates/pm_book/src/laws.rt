@@ -1,40 +1,31 @@
 //! What the laws over all lawful lists give to a book: its state can take each line that may come next and has
 //! room for it, and each actor may go on where it stands.
 
-ghost use Rattle.std.specs.Prelude.{◌≡◌, ◌<◌, ◌^◌};
+ghost use Rattle.std.specs.Prelude.{◌≡◌};
 ghost use Rattle.pm_model.specs.declared.event.Line.{Line};
 ghost use Rattle.pm_model.specs.declared.plan.Plan.{Plan};
 ghost use Rattle.pm_model.specs.declared.stage.Change.{Change};
 ghost use Rattle.pm_model.specs.declared.stage.Stage.{Stage};
 ghost use Rattle.pm_model.specs.declared.stage.Then.{Then};
 ghost use Rattle.pm_model.specs.History.{History};
-ghost use Rattle.pm_model.specs.Lawful.{IsLawful, last_time};
+ghost use Rattle.pm_model.specs.Lawful.{IsLawful};
 ghost use Rattle.pm_model.specs.World.{World, world};
-ghost use Rattle.pm_state.specs.Standing.{AllStandWell, HasRoomFor, IsActor, IsOf, Standing, Takes};
+ghost use Rattle.pm_state.specs.Standing.{HasRoomFor, IsActor, IsOf, Standing, Takes};
 ghost use Rattle.pm_book.specs.Pages.{MayWrite};
 
-use pm_bounds::{counts_have_room, lines_are_taken, stages_can_be_told, stages_have_moves};
-use pm_stacks::stacks_are_shallow;
-
-// Each actor stands at a well formed stage that awaits no call, or at none.
-pub fn all_stand_well()
-    ensures { (plan : Plan) (h : History) (w : World) → IsLawful plan h → last_time h < 2 ^ 63 → w ≡ world plan h → AllStandWell plan w }
-{
-    stages_can_be_told();
-    stages_have_moves();
-}
+pub use pm_judge::all_stand_well;
+use pm_judge::each_line_fits;
 
 // No count falls below zero or passes its end with a line that may be written.
 pub fn each_line_is_taken()
     ensures { (plan : Plan) (h : History) (w : World) (s : Stage) (line : Line) (c : Change) (next : Then) → IsLawful plan h → w ≡ world plan h → MayWrite plan h s line c next → Takes plan w line.actor c line.event }
 {
-    lines_are_taken();
-    counts_have_room();
+    pm_judge::each_line_is_taken();
 }
 
 // A line that may be written leaves no more stages open at its actor's place than that has room for.
 pub fn stacks_have_room()
     ensures { (plan : Plan) (h : History) (state : Standing) (s : Stage) (line : Line) (c : Change) (next : Then) → IsLawful plan h → IsOf plan state → state.world ≡ world plan h → IsActor plan line.actor → MayWrite plan h s line c next → HasRoomFor state line.actor next }
 {
-    stacks_are_shallow();
+    each_line_fits();
 }

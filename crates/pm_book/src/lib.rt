@@ -5,7 +5,9 @@ mod book;
 mod laws;
 mod lines;
 mod steps;
+mod taking;
 mod writing;
 
 pub use book::Book;
 pub use steps::{EndStep, Step};
+pub use taking::TakeFault;

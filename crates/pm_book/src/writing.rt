@@ -45,7 +45,7 @@ impl Book {
     }
 
     // Writes a line that may come next.
-    fn write(
+    pub(crate) fn write(
         &mut self,
         stage: &Stage,
         line: &Line,
@@ -64,7 +64,7 @@ impl Book {
         self.lines.reserve(1)?;
         self.state.go(&self.plan, change, line, then);
         self.lines.push(*line, begins_callback(&line.event));
-        self.turns.settle(&self.plan, &self.state, *stage, line);
+        self.turns.settle(&self.plan, &self.state, stage, line);
         Ok(())
     }
 
@@ -80,7 +80,7 @@ impl Book {
         all_stand_well();
         self.state.go(&self.plan, change, line, then);
         self.lines.push_end(*line);
-        self.turns.settle(&self.plan, &self.state, *stage, line);
+        self.turns.settle(&self.plan, &self.state, stage, line);
     }
 }
 

@@ -1,6 +1,7 @@
 -- What the state of a run says of a line, and what a line makes of it.
 use Rattle.std.proofs.Common.{ℕ, ◌≡◌, ◌<◌, ◌≤◌, inl, inr, ◌+◌, ◌&&◌, Bool, true, false, List, [], ◌∷◌, length, drop, slice_get, Option, Some, None, option_map, is_some, nat_lt, slice_index_or, if◌then◌else◌, refl, sym, subst, ◌∙◌, ap, arith}
 use Rattle.std.specs.Option.{option_and_then, option_map_or}
+use Rattle.std.proofs.lemmas.Grind.{common_steps}
 use Rattle.std.proofs.lemmas.List.{get_or-set_same, length-set}
 use Rattle.std.proofs.lemmas.Option.{slice_get_cases}
 use Rattle.pm_base.specs.declared.ActorId.{ActorId}
@@ -25,7 +26,6 @@ use Rattle.pm_model.specs.Row.{Row, writes, waits, timed}
 use Rattle.pm_model.specs.Views.{Views}
 use Rattle.pm_model.specs.WellFormed.{called_for, is_well_formed}
 use Rattle.pm_model.specs.World.{World, after_line, called_by, counts_call, due, move, place, row, stage_at, with_place, world}
-use Rattle.pm_laws.specs.Sizes.{HasPlaces}
 use Rattle.pm_stacks.specs.Depth.{AreShallow, command_chain, greatest, longest_chain}
 use Rattle.pm_stacks.proofs.Chains.{quiet_le}
 use Rattle.pm_state.specs.Standing.{HasRoomFor, IsActor, IsOf, IsRoomy, Standing, StandsWell, Takes, after_write, can_count, can_go_on, is_awake}
@@ -178,27 +178,41 @@ fits plan h s line c next same is within may shallow =
     let deep = shallow_within plan (after_write plan s.world c line next) s.room line.actor is.roomy after within in
     subst (λ (stages : List Stage). length stages ≤ s.room) (placed_there plan _ line.actor (after_then next (drop 1 (place s.world line.actor))) is.callers is.works is.timers within) deep
 
+placed_of : (plan : Plan) (s : Standing) (w : World) (actor : ActorId) (stages : List Stage) → IsOf plan s
+    → w.caller_places ≡ s.world.caller_places → w.work_places ≡ s.world.work_places → w.timer_places ≡ s.world.timer_places → length w.called ≡ length s.world.called
+    → IsOf plan (record s { world = with_place w actor stages })
+placed_of plan s w (Caller c) stages is callers works timers called = record {
+  made_for = is.made_for;
+  callers = grind (arith, common_steps, is.callers);
+  works = grind (arith, common_steps, is.works);
+  timers = grind (arith, common_steps, is.timers);
+  called = grind (arith, common_steps, is.called);
+  roomy = is.roomy;
+}
+placed_of plan s w (Work d) stages is callers works timers called = record {
+  made_for = is.made_for;
+  callers = grind (arith, common_steps, is.callers);
+  works = grind (arith, common_steps, is.works);
+  timers = grind (arith, common_steps, is.timers);
+  called = grind (arith, common_steps, is.called);
+  roomy = is.roomy;
+}
+placed_of plan s w (Timer d) stages is callers works timers called = record {
+  made_for = is.made_for;
+  callers = grind (arith, common_steps, is.callers);
+  works = grind (arith, common_steps, is.works);
+  timers = grind (arith, common_steps, is.timers);
+  called = grind (arith, common_steps, is.called);
+  roomy = is.roomy;
+}
+
 -- the numbers of calls stay as many
 calls_length : (actor : ActorId) (e : Event) (called : List ℕ) → length (counts_call actor e called) ≡ length called
 calls_length (Caller c) (event.Call command) called = length-set called c (slice_index_or called c 0 + 1)
 calls_length (Caller c) _ called = refl
 calls_length _ e called = refl
 
-placed_calls : (w : World) (actor : ActorId) (stages : List Stage) → (with_place w actor stages).called ≡ w.called
-placed_calls w (Caller c) stages = refl
-placed_calls w (Work d) stages = refl
-placed_calls w (Timer d) stages = refl
-
--- a state whose world is that after a lawful list stays one of the plan
-pub stays_of : (plan : Plan) (s : Standing) (w : World) (c : Change) (line : Line) (next : Then) → IsOf plan s → after_write plan s.world c line next ≡ w → HasPlaces plan w
-    → IsOf plan (record s { world = after_write plan s.world c line next })
-stays_of plan s w c line next is same places =
-    let placed = subst (λ (x : World). HasPlaces plan x) (sym same) places in
-    record {
-      made_for = is.made_for;
-      callers = placed.callers;
-      works = placed.works;
-      timers = placed.timers;
-      roomy = is.roomy;
-      called = ap length (placed_calls _ line.actor _) ∙ (calls_length line.actor line.event s.world.called ∙ is.called);
-    }
+-- a state stays one of the plan with each line
+pub stays_of : (plan : Plan) (s : Standing) (c : Change) (line : Line) (next : Then) → IsOf plan s → IsOf plan (record s { world = after_write plan s.world c line next })
+stays_of plan s c line next is =
+    placed_of plan s _ line.actor (after_then next (drop 1 (place s.world line.actor))) is refl refl refl (calls_length line.actor line.event s.world.called)

@@ -7,9 +7,8 @@ ghost use Rattle.pm_model.specs.Lawful.{IsLawful, is_finished};
 ghost use Rattle.pm_model.specs.World.{world};
 ghost use Rattle.pm_state.specs.Standing.{IsActor};
 
+use crate::deciding::decide;
 use crate::laws::{all_stand_well, each_line_fits, each_line_is_taken};
-use crate::sometime::comes;
-use crate::standing::written;
 use pm_base::NoMemory;
 use pm_laws::sizes;
 use pm_model::{Line, Plan};
@@ -103,23 +102,14 @@ impl Judge {
         if self.lines >= self.plan.lines {
             return Err(Bad::Limit);
         }
-        sizes();
         all_stand_well();
         each_line_is_taken();
         each_line_fits();
-        let Some(stage) = self.state.stage_at(&self.plan, line.actor) else {
-            return Err(Bad::Step);
-        };
-        if let Some((change, then)) = written(&self.plan, &self.state, stage, self.last, line) {
-            self.state.go(&self.plan, change, line, &then);
-            self.last = line.time;
-            self.lines += 1;
-            return Ok(());
-        }
-        if comes(&self.plan, &self.state, stage, self.last, line.event) {
-            return Err(Bad::Time);
-        }
-        Err(Bad::Step)
+        let coming = decide(&self.plan, &self.state, self.last, line)?;
+        self.state.go(&self.plan, coming.change, line, &coming.next);
+        self.last = line.time;
+        self.lines += 1;
+        Ok(())
     }
 
     /// Whether the run is finished: each script has ended, each place is empty, no device is queued and no

@@ -1,6 +1,7 @@
 //! Judges lines: whether each may come next in a run of a plan, without keeping them (this project's own).
 #![tactic(auto)]
 
+mod deciding;
 mod judge;
 mod laws;
 mod sometime;
@@ -8,4 +9,6 @@ mod standing;
 #[cfg(test)]
 mod tests;
 
+pub use deciding::{Permitted, decide};
 pub use judge::{Bad, Judge};
+pub use laws::{all_stand_well, each_line_fits, each_line_is_taken};

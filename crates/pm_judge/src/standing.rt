@@ -6,7 +6,8 @@ ghost use Rattle.pm_model.specs.World.{due, stage_at};
 ghost use Rattle.pm_state.specs.Standing.{IsOf, can_go_on};
 ghost use Rattle.pm_times.specs.Times.{event_at};
 
-use pm_model::{Change, Event, Line, Move, Plan, Stage, Then};
+use crate::deciding::Permitted;
+use pm_model::{Event, Line, Move, Plan, Stage};
 use pm_state::State;
 
 // Whether two events are equal.
@@ -30,29 +31,33 @@ pub(crate) fn event_of(plan: &Plan, state: &State, stage: Stage, time: u64) -> O
     }
 }
 
-// The change that the row of a line names and what takes its stage's place, where the line may come next
-// at its time, and the last one was written at this.
+// A line that may come next at its time, where the last one was written at this.
 pub(crate) fn written(
     plan: &Plan,
     state: &State,
     stage: Stage,
     last: u64,
     line: &Line,
-) -> Option<(Change, Then)>
+) -> Option<Permitted>
     requires is_of { IsOf plan.now state.now }
     requires at { stage_at plan.now state.now.world line.now.actor ≡ Some stage }
     requires stands { can_go_on plan.now state.now.world.views stage ≡ true }
     requires in_time { line.now.time < 2 ^ 63 }
-    ensures some { IfSome result (λ p. Writes plan.now state.now.world last line.now p.0 p.1) }
+    ensures stage { IfSome result (λ coming. coming.stage ≡ stage) }
+    ensures some { IfSome result (λ coming. Writes plan.now state.now.world last line.now coming.change coming.next) }
     ensures none { IfNone result (¬ MayCome plan.now state.now.world last line.now) }
 {
     if line.time < last {
         return None;
     }
     match state.next(plan, &stage, line.time) {
-        Move::Write(event, change, then) => {
+        Move::Write(event, change, next) => {
             if same(event, line.event) {
-                Some((change, then))
+                Some(Permitted {
+                    stage,
+                    change,
+                    next,
+                })
             } else {
                 None
             }

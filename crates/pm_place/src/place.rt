@@ -1,6 +1,7 @@
 //! The open stages of one actor.
 
 ghost use Rattle.std.specs.Prelude.{◌≡◌, ◌+◌, ◌≤◌, ◌++◌, [], drop, length, reverse, vec_capacity, vec_len, IfOk, None};
+ghost use Rattle.std.specs.Option.{option_copied};
 ghost use Rattle.pm_model.specs.Handing.{after_code, after_then};
 ghost use Rattle.pm_model.specs.Lawful.{is_empty_place};
 ghost use Rattle.pm_model.specs.World.{top};
@@ -82,10 +83,10 @@ impl Place {
     }
 
     /// The stage that writes next; `None` comes exactly where no stage is open.
-    pub fn top(&self) -> Option<Stage>
-        ensures { result ≡ top None self.now.stages }
+    pub fn top(&self) -> Option<&Stage>
+        ensures { option_copied result ≡ top None self.now.stages }
     {
-        self.stages.last().copied()
+        self.stages.last()
     }
 
     /// What comes after the line of the top stage takes its place; a code is handed down. Where no

@@ -2,6 +2,7 @@
 
 ghost use Rattle.std.specs.Prelude.{◌≡◌, ◌<◌, ◌≤◌, [], drop, length, replicate, slice_index_or, slice_set, IfOk, None};
 ghost use Rattle.std.specs.List.{list_all};
+ghost use Rattle.std.specs.Option.{option_copied};
 ghost use Rattle.pm_model.specs.Handing.{after_then};
 ghost use Rattle.pm_model.specs.Lawful.{is_empty_place};
 ghost use Rattle.pm_model.specs.World.{top};
@@ -63,9 +64,9 @@ impl Places {
 
     /// The stage of an actor that writes next; `None` comes exactly where no stage is open at its place.
     #[tactic(auto, using(crate::proofs::StackLemmas::stack_at))]
-    pub fn top(&self, actor: usize) -> Option<Stage>
+    pub fn top(&self, actor: usize) -> Option<&Stage>
         requires { actor < length self.now.stages }
-        ensures { result ≡ top None (slice_index_or self.now.stages actor []) }
+        ensures { option_copied result ≡ top None (slice_index_or self.now.stages actor []) }
     {
         self.places[actor].top()
     }

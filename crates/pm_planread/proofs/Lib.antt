@@ -6,3 +6,4 @@ pub mod RowLemmas
 pub mod LinkLemmas
 pub mod EachLemmas
 pub mod LawLemmas
+pub mod ScriptLemmas

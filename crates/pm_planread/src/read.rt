@@ -9,7 +9,7 @@ ghost use Rattle.pm_planrows.specs.Rows.{device_rows, domain_rows, link_rows, na
 ghost use Rattle.pm_planread.specs.PlanOf.{IsFaultOf, contents_of, counted_plan, named_plan, ordered_plan, plan_of, tree_plan};
 
 use crate::refusal::{PlanFault, PlanWhy, refuse, refused};
-use crate::scripts::{caller_rows, script_fault};
+use crate::scripts::caller_rows;
 use pm_base::{MAX_LINES, PLAN_BYTES};
 use pm_model::{DeviceList, DomainList, LinkList, Plan};
 use pm_planrows::names::{Names, names_of};
@@ -115,10 +115,6 @@ fn counted_plan(
 {
     refuse(PlanWhy::Number, number_fault(raw))?;
     refuse(PlanWhy::Code, code_fault(raw))?;
-    refuse(
-        PlanWhy::Script,
-        script_fault(&devices, raw.callers.as_slice()),
-    )?;
     let callers = caller_rows(alloc, &devices, raw.callers.as_slice())?;
     Ok(Plan {
         lines: lines_of(raw),

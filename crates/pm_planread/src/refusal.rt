@@ -7,7 +7,7 @@ ghost use Rattle.pm_planread.specs.declared.refusal.PlanFault.TheVariants.{NoMem
 
 use pm_base::NoMemory;
 use pm_plantree::{Place, Section};
-use std::alloc::AllocError;
+use std::alloc::{AllocError, AllocFailed};
 
 /// Why a plan is refused, in the order in which the whole plan is looked at (this project's own).
 #[derive(Clone, Copy, Debug, PartialEq, Eq)]
@@ -92,6 +92,14 @@ impl From<AllocError> for PlanFault {
     ghost from_gives = { λ _ fault. fault ≡ NoMemory };
 
     fn from(_error: AllocError) -> PlanFault {
+        PlanFault::NoMemory
+    }
+}
+
+impl<T: Drop> From<AllocFailed<T>> for PlanFault {
+    ghost from_gives = { λ _ fault. fault ≡ NoMemory };
+
+    fn from(_failed: AllocFailed<T>) -> PlanFault {
         PlanFault::NoMemory
     }
 }

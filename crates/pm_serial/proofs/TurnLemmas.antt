@@ -1,5 +1,5 @@
 -- Whose turn it is writes its line, at the moment of its turn.
-use Rattle.std.proofs.Common.{◌≡◌, ◌∙◌, ◌+◌, ◌*◌, ◌-◌, ◌<◌, ◌≤◌, ◌^◌, ℕ, Bool, true, false, List, [], ◌∷◌, Option, Some, None, is_some, length, max, min, nat_le, nat_lt, option_map, unwrap_or, if◌then◌else◌, ap, arith, refl, sym}
+use Rattle.std.proofs.Common.{◌≡◌, ◌∙◌, ◌+◌, ◌*◌, ◌-◌, ◌<◌, ◌≤◌, ◌^◌, ℕ, Bool, true, false, List, [], ◌∷◌, Option, Some, None, is_some, length, max, min, nat_le, nat_lt, option_map, unwrap_or, if◌then◌else◌, ap, arith, refl, subst, sym}
 use Rattle.std.specs.Prelude.{IfNone, IfSome}
 use Rattle.std.specs.List.{cons_option, filter_map}
 use Rattle.std.specs.Option.{option_and_then, option_map_or}
@@ -36,7 +36,7 @@ use Rattle.pm_book.specs.declared.steps.EndStep.TheVariants as end
 use Rattle.pm_book.specs.declared.steps.Step.{Step}
 use Rattle.pm_book.specs.declared.steps.Step.TheVariants as step
 use Rattle.pm_book.specs.Pages.{Adds, Pages, by_move, by_running, by_stage, end_answer, end_by, has_written, is_full, moment_from, step_answer, world_of, written as answer_to}
-use Rattle.pm_serial.specs.Ends.{HasTime, IsTurn, Writes}
+use Rattle.pm_serial.specs.Ends.{HasTime, IsTurn, Writes, says_running}
 use Rattle.pm_serial.proofs.WholeLemmas.{has_room}
 
 -- a turn comes no later than the last line or the latest moment that is awaited
@@ -201,14 +201,62 @@ adds_next old new a now is at adds =
       added = adds.added;
     }
 
-pub step_writes : (old new : Pages) (a : ActorId) (now : ℕ) (answer : Step) → IsTurn old a now → is_full old ≡ false → HasTime old.plan old.lines → is_running old.plan (world_of old) a ≡ false
+step_writes : (old new : Pages) (a : ActorId) (now : ℕ) (answer : Step) → IsTurn old a now → is_full old ≡ false → HasTime old.plan old.lines → is_running old.plan (world_of old) a ≡ false
     → answer ≡ step_answer old a now → (has_written answer ≡ true → Adds old new a (moment_from old.lines now)) → Writes old new
 step_writes old new a now answer is free in_time rests answers writes =
     let at = turn_in_time old a now is free in_time in
     adds_next old new a now is at (writes (ap has_written answers ∙ step_wrote old a now is.turn free rests at))
 
-pub end_writes : (old new : Pages) (a : ActorId) (now : ℕ) (answer : EndStep) → IsTurn old a now → is_full old ≡ false → HasTime old.plan old.lines → is_running old.plan (world_of old) a ≡ true
+end_writes : (old new : Pages) (a : ActorId) (now : ℕ) (answer : EndStep) → IsTurn old a now → is_full old ≡ false → HasTime old.plan old.lines → is_running old.plan (world_of old) a ≡ true
     → answer ≡ end_answer old a now → (answer ≡ end.Wrote → Adds old new a (moment_from old.lines now)) → Writes old new
 end_writes old new a now answer is free in_time runs answers writes =
     let at = turn_in_time old a now is free in_time in
     adds_next old new a now is at (writes (answers ∙ end_wrote old a now is.turn free runs at))
+
+-- a step of an actor says whether its callback runs
+runs_where : (plan : Plan) (v : Views) (t : ℕ) (o : Option Stage) → says_running (by_stage plan v t o) ≡ runs_at plan o
+runs_where plan v t None = refl
+runs_where plan v t (Some s) = go (running_due plan s)
+  where
+    told : (e : Event) → says_running (answer_to v e) ≡ false
+    told (event.Begin d k) = refl
+    told _ = refl
+
+    moved : (o : Option Move) → says_running (by_move v o) ≡ false
+    moved None = refl
+    moved (Some (Late at)) = refl
+    moved (Some (Wait d)) = refl
+    moved (Some (Write e c next)) = told e
+
+    go : (o : Option ℕ) → says_running (by_running o (by_move v (move plan v s t))) ≡ is_some o
+    go (Some at) = refl
+    go None = moved (move plan v s t)
+
+step_runs : (p : Pages) (a : ActorId) (now : ℕ) → is_full p ≡ false → says_running (step_answer p a now) ≡ is_running p.plan (world_of p) a
+step_runs p a now free =
+    ap (λ b. says_running (if b then step.AtLimit else by_stage p.plan (world_of p).views (moment_from p.lines now) (stage_at p.plan (world_of p) a))) free
+    ∙ runs_where p.plan (world_of p).views (moment_from p.lines now) (stage_at p.plan (world_of p) a)
+
+-- such a step wrote nothing, and the callback ends behind it
+running_wrote : (s : Step) → says_running s ≡ true → has_written s ≡ false
+running_wrote (step.Running at) says = refl
+running_wrote _ says = absurd (false≢true says)
+
+pub runs_behind : (old mid : Pages) (a : ActorId) (now : ℕ) (s : Step) → is_full old ≡ false → s ≡ step_answer old a now → says_running s ≡ true → (has_written s ≡ false → mid ≡ old)
+    → is_running mid.plan (world_of mid) a ≡ true
+runs_behind old mid a now s free answers says stays =
+    subst (λ (p : Pages). is_running p.plan (world_of p) a ≡ true) (sym (stays (running_wrote s says))) (sym (step_runs old a now free) ∙ ap says_running (sym answers) ∙ says)
+
+pub end_behind : (old mid new : Pages) (a : ActorId) (now : ℕ) (s : Step) (answer : EndStep) → IsTurn old a now → is_full old ≡ false → HasTime old.plan old.lines → s ≡ step_answer old a now
+    → says_running s ≡ true → (has_written s ≡ false → mid ≡ old) → answer ≡ end_answer mid a now → (answer ≡ end.Wrote → Adds mid new a (moment_from mid.lines now)) → Writes old new
+end_behind old mid new a now s answer is free in_time answers says stays ends writes =
+    let same : mid ≡ old = stays (running_wrote s says) in
+    let runs : is_running old.plan (world_of old) a ≡ true = sym (step_runs old a now free) ∙ ap says_running (sym answers) ∙ says in
+    end_writes old new a now answer is free in_time runs (ends ∙ ap (λ (p : Pages). end_answer p a now) same)
+    (λ wrote. subst (λ (p : Pages). Adds p new a (moment_from p.lines now)) same (writes wrote))
+
+-- each other step of whose turn it is writes its line
+pub step_alone : (old new : Pages) (a : ActorId) (now : ℕ) (s : Step) → IsTurn old a now → is_full old ≡ false → HasTime old.plan old.lines → s ≡ step_answer old a now
+    → says_running s ≡ false → (has_written s ≡ true → Adds old new a (moment_from old.lines now)) → Writes old new
+step_alone old new a now s is free in_time answers says writes =
+    step_writes old new a now s is free in_time (sym (step_runs old a now free) ∙ ap says_running (sym answers) ∙ says) answers writes

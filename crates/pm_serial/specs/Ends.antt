@@ -1,5 +1,5 @@
 -- How a run on one thread goes on and ends (this project's own).
-use Rattle.std.specs.Prelude.{◌≡◌, ◌+◌, ◌++◌, ◌*◌, ◌-◌, ◌≤◌, ◌^◌, ℕ, false, true, List, Some, length, reverse}
+use Rattle.std.specs.Prelude.{◌≡◌, ◌+◌, ◌++◌, ◌*◌, ◌-◌, ◌≤◌, ◌^◌, ℕ, Bool, false, true, List, Some, length, reverse}
 use Rattle.pm_base.specs.declared.ActorId.{ActorId}
 use Rattle.pm_model.specs.declared.event.Line.{Line}
 use Rattle.pm_model.specs.declared.plan.Plan.{Plan}
@@ -8,6 +8,8 @@ use Rattle.pm_model.specs.Lawful.{IsFinished, is_finished, last_time}
 use Rattle.pm_model.specs.Serial.{goes_on, next_line, next_turn, serial}
 use Rattle.pm_model.specs.World.{world}
 use Rattle.pm_state.specs.Standing.{IsActor}
+use Rattle.pm_book.specs.declared.steps.Step.{Step}
+use Rattle.pm_book.specs.declared.steps.Step.TheVariants as step
 use Rattle.pm_book.specs.Pages.{Longer, Pages, is_full, world_of}
 use Rattle.pm_serial.specs.declared.running.End.{End}
 use Rattle.pm_serial.specs.declared.running.End.TheVariants as end
@@ -56,3 +58,8 @@ pub record Writes (old new : Pages) : Type 0 where
   pub next : next_line old.plan old.lines ≡ Some line
   pub soon : line.time ≤ last_time old.lines + 1000000
   pub added : Longer old new line
+
+-- a step that wrote nothing, since the actor's callback runs
+abbrev pub says_running : Step → Bool
+says_running (step.Running at) = true
+says_running _ = false

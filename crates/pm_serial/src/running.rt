@@ -5,10 +5,10 @@ ghost use Rattle.pm_book.specs.Pages.{is_full};
 ghost use Rattle.pm_model.specs.declared.plan.Plan.{Plan};
 ghost use Rattle.pm_model.specs.Lawful.{IsFinished};
 ghost use Rattle.pm_model.specs.Serial.{serial};
-ghost use Rattle.pm_serial.specs.Ends.{GoesOn, HasMemory, HasTime, IsEnd, IsSerialEnd, IsTurn, Writes, whole};
+ghost use Rattle.pm_serial.specs.Ends.{GoesOn, HasMemory, HasTime, IsEnd, IsSerialEnd, IsTurn, Writes, says_running, whole};
 
 use pm_base::{ActorId, NoMemory};
-use pm_book::Book;
+use pm_book::{Book, Step};
 use pm_bounds::due_moments;
 use pm_stuck::{serial_ends, serial_stops};
 
@@ -32,7 +32,15 @@ fn next_turn(book: &Book) -> Option<(ActorId, u64)>
     book.next_turn()
 }
 
-// Writes the line of the actor whose turn it is.
+// Whether a step wrote nothing, since the actor's callback runs.
+fn says_running(step: Step) -> bool
+    ensures { result ≡ says_running step }
+{
+    matches!(step, Step::Running(_))
+}
+
+// Writes the line of the actor whose turn it is: by a step, and where that says that a callback runs,
+// by the callback's end.
 fn write(book: &mut Book, actor: ActorId, now: u64) -> Result<(), NoMemory>
     requires turn { IsTurn book.old actor now }
     requires room { is_full book.old ≡ false }
@@ -41,11 +49,10 @@ fn write(book: &mut Book, actor: ActorId, now: u64) -> Result<(), NoMemory>
     ensures memory { 0 < book.old.spare → IsOk result }
     ensures err { OnErr result (GoesOn book.old book.new) }
 {
-    if book.running(actor) {
+    let step = book.step(actor, now)?;
+    if says_running(step) {
         book.end_callback(actor, now);
-        return Ok(());
     }
-    book.step(actor, now)?;
     Ok(())
 }
 

@@ -10,8 +10,8 @@ use pm_model::{
 };
 
 // The device of a stage of idle.
-fn idle_device(stage: IdleStage) -> DevId
-    ensures { result ≡ idle_device stage }
+fn idle_device(stage: &IdleStage) -> DevId
+    ensures { result ≡ idle_device stage.now }
 {
     match stage {
         IdleStage::Enter { dev, .. }
@@ -19,13 +19,13 @@ fn idle_device(stage: IdleStage) -> DevId
         | IdleStage::Running { dev, .. }
         | IdleStage::Done { dev, .. }
         | IdleStage::Queued { dev, .. }
-        | IdleStage::AfterPut { dev, .. } => dev,
+        | IdleStage::AfterPut { dev, .. } => *dev,
     }
 }
 
 // The device of a stage of suspend.
-fn suspend_device(stage: SuspendStage) -> DevId
-    ensures { result ≡ suspend_device stage }
+fn suspend_device(stage: &SuspendStage) -> DevId
+    ensures { result ≡ suspend_device stage.now }
 {
     match stage {
         SuspendStage::Enter { dev, .. }
@@ -36,13 +36,13 @@ fn suspend_device(stage: SuspendStage) -> DevId
         | SuspendStage::Links { dev, .. }
         | SuspendStage::Deferred { dev, .. }
         | SuspendStage::Parent { dev, .. }
-        | SuspendStage::Done { dev, .. } => dev,
+        | SuspendStage::Done { dev, .. } => *dev,
     }
 }
 
 // The device of a stage of resume.
-fn resume_device(stage: ResumeStage) -> DevId
-    ensures { result ≡ resume_device stage }
+fn resume_device(stage: &ResumeStage) -> DevId
+    ensures { result ≡ resume_device stage.now }
 {
     match stage {
         ResumeStage::Enter { call }
@@ -62,8 +62,8 @@ fn resume_device(stage: ResumeStage) -> DevId
 }
 
 // The device of a stage of a control function.
-fn control_device(stage: ControlStage) -> DevId
-    ensures { result ≡ control_device stage }
+fn control_device(stage: &ControlStage) -> DevId
+    ensures { result ≡ control_device stage.now }
 {
     match stage {
         ControlStage::Start { command } => command.dev,
@@ -75,7 +75,7 @@ fn control_device(stage: ControlStage) -> DevId
         | ControlStage::BarrierWait { dev, .. }
         | ControlStage::ActiveLinks { dev }
         | ControlStage::ActiveUnwind { dev, .. }
-        | ControlStage::SuppliersIdle { dev, .. } => dev,
+        | ControlStage::SuppliersIdle { dev, .. } => *dev,
     }
 }
 
@@ -91,21 +91,21 @@ fn called_for(helper: Helper, dev: DevId) -> Option<DevId>
 }
 
 // The device of a stage of a helper, of a work item or of a timer.
-fn helper_device(stage: HelperStage) -> Option<DevId>
-    ensures { result ≡ helper_device stage }
+fn helper_device(stage: &HelperStage) -> Option<DevId>
+    ensures { result ≡ helper_device stage.now }
 {
     match stage {
         HelperStage::Call { command } => called_for(command.helper, command.dev),
-        HelperStage::Work { dev } | HelperStage::Timer { dev } => Some(dev),
+        HelperStage::Work { dev } | HelperStage::Timer { dev } => Some(*dev),
         HelperStage::Start { command } | HelperStage::PutSuspends { command } => Some(command.dev),
         HelperStage::Delay { .. } => None,
-        HelperStage::Ret { helper, dev, .. } => called_for(helper, dev),
+        HelperStage::Ret { helper, dev, .. } => called_for(*helper, *dev),
     }
 }
 
 // The device of a stage under a call.
-fn await_device(stage: Await) -> Option<DevId>
-    ensures { result ≡ await_device stage }
+fn await_device(stage: &Await) -> Option<DevId>
+    ensures { result ≡ await_device stage.now }
 {
     match stage {
         Await::SuspendLinks { dev, .. }
@@ -115,21 +115,21 @@ fn await_device(stage: Await) -> Option<DevId>
         | Await::BarrierResume { dev }
         | Await::ActiveSupplier { dev, .. }
         | Await::ActiveUnwind { dev, .. }
-        | Await::SuppliersIdle { dev, .. } => Some(dev),
+        | Await::SuppliersIdle { dev, .. } => Some(*dev),
         Await::ResumeParent { call }
         | Await::ResumeSupplier { call, .. }
         | Await::ResumeIdle { call }
         | Await::ResumeUnwind { call, .. }
         | Await::ResumePut { call, .. } => Some(call.dev),
         Await::Return { helper, dev } | Await::ReturnZero { helper, dev } => called_for(
-            helper, dev,
+            *helper, *dev,
         ),
     }
 }
 
 /// The device of a stage; a delay has none.
-pub fn device_of(stage: Stage) -> Option<DevId>
-    ensures { result ≡ device_of stage }
+pub fn device_of(stage: &Stage) -> Option<DevId>
+    ensures { result ≡ device_of stage.now }
 {
     match stage {
         Stage::Idle(stage) => Some(idle_device(stage)),

@@ -6,6 +6,7 @@ mod devices;
 mod finished;
 mod going;
 mod moves;
+mod own;
 mod rooms;
 mod running;
 mod state;

@@ -4,9 +4,10 @@ ghost use Rattle.std.specs.Prelude.{◌≡◌, ◌<◌, ◌≤◌, length, max, 
 ghost use Rattle.std.specs.Option.{option_map_or};
 ghost use Rattle.pm_model.specs.PlanRows.{parent};
 ghost use Rattle.pm_stacks.specs.Depth.{greatest, of_supplier};
-ghost use Rattle.pm_state.specs.Chains.{AreChains, chain_at, chain_from};
+ghost use Rattle.pm_state.specs.Chains.{AreChains, AreOwn, chain_at, chain_from};
 ghost use Rattle.pm_state.specs.Standing.{IsRoomy};
 
+use crate::own::OwnLinks;
 use pm_base::{DevId, NoMemory};
 use pm_model::{LinkRow, Plan};
 use std::alloc::Global;
@@ -29,13 +30,19 @@ fn link_chain(link: &LinkRow, chains: &[usize], dev: DevId) -> usize
     }
 }
 
-// The longest of the chains from the suppliers of a device, present or not.
-fn supplier_chain(links: &[LinkRow], chains: &[usize], dev: DevId) -> usize
+// The longest of the chains from the suppliers of a device, present or not. It looks at its own links
+// alone, from the last.
+fn supplier_chain(links: &[LinkRow], own: &OwnLinks, chains: &[usize], dev: DevId) -> usize
+    requires in_range { dev.0 < length own.now.last }
+    requires own { AreOwn links.now (length links.now) own.now.last own.now.before }
     ensures { result ≡ greatest (of_supplier dev (chain_at chains.now)) links.now }
 {
     let mut longest = 0;
-    for link in links {
-        longest = longest.max(link_chain(link, chains, dev));
+    let mut left = own.last(dev);
+    while left > 0 {
+        let link = left - 1;
+        longest = longest.max(link_chain(&links[link], chains, dev));
+        left = own.before(link);
     }
     longest
 }
@@ -53,13 +60,15 @@ fn parent_chain(plan: &Plan, chains: &[usize], dev: DevId) -> usize
 }
 
 // The chain from a device whose parent and suppliers the list has.
-fn chain_from(plan: &Plan, chains: &[usize], dev: DevId) -> usize
+fn chain_from(plan: &Plan, own: &OwnLinks, chains: &[usize], dev: DevId) -> usize
     requires in_range { dev.0 < length plan.now.devices }
+    requires each { length own.now.last ≡ length plan.now.devices }
+    requires own { AreOwn plan.now.links (length plan.now.links) own.now.last own.now.before }
     requires few { AreChains plan.now chains.now }
     requires next { dev.0 ≡ length chains.now }
     ensures { result ≡ chain_from plan.now chains.now dev }
 {
-    let suppliers = supplier_chain(plan.links.as_slice(), chains, dev);
+    let suppliers = supplier_chain(plan.links.as_slice(), own, chains, dev);
     parent_chain(plan, chains, dev).max(suppliers) + 1
 }
 
@@ -69,9 +78,10 @@ fn chains_of(alloc: Global, plan: &Plan) -> Result<Vec<usize>, NoMemory>
     ensures all { IfOk result (λ chains. length chains.items ≡ length plan.now.devices) }
 {
     let devices = plan.devices.len();
+    let own = OwnLinks::of(alloc, plan)?;
     let mut chains = Vec::with_capacity(alloc, devices)?;
     for device in 0..devices {
-        let chain = chain_from(plan, &chains, DevId(device as u32));
+        let chain = chain_from(plan, &own, &chains, DevId(device as u32));
         chains.push(chain)?;
     }
     Ok(chains)

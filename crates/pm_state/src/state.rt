@@ -1,8 +1,8 @@
 //! The state of a run, and at which stage each actor stands.
 
-ghost use Rattle.std.specs.Prelude.{◌≡◌, ◌<◌, map, length, slice_get, IfOk, None};
-ghost use Rattle.std.specs.Option.{option_and_then};
-ghost use Rattle.pm_model.specs.World.{place, ready, stage_at, start, top};
+ghost use Rattle.std.specs.Prelude.{◌≡◌, ◌<◌, map, length, option_map, slice_get, IfOk, None};
+ghost use Rattle.std.specs.Option.{option_and_then, option_copied};
+ghost use Rattle.pm_model.specs.World.{due, place, ready, stage_at, start, top};
 ghost use Rattle.pm_state.specs.Standing.{IsActor, IsOf, counters};
 
 use crate::rooms::stack_room;
@@ -85,11 +85,12 @@ impl State {
         &self.parts
     }
 
-    // The stage of an actor that is open and writes next.
-    fn top(&self, plan: &Plan, actor: ActorId) -> Option<Stage>
+    /// The stage of an actor that is open and writes next; `None` comes exactly where its place is
+    /// empty. It takes no memory.
+    pub fn top(&self, plan: &Plan, actor: ActorId) -> Option<&Stage>
         requires is_of { IsOf plan.now self.now }
         requires in_range { IsActor plan.now actor }
-        ensures { result ≡ top None (place self.now.world actor) }
+        ensures { option_copied result ≡ top None (place self.now.world actor) }
     {
         match actor {
             ActorId::Caller(caller) => self.callers.top(caller as usize),
@@ -134,8 +135,35 @@ impl State {
         ensures { result ≡ stage_at plan.now self.now.world actor }
     {
         match self.top(plan, actor) {
-            Some(stage) => Some(stage),
+            Some(stage) => Some(*stage),
             None => self.ready(plan, actor),
+        }
+    }
+
+    /// From when an actor with an empty place may start, in milliseconds of the run; `None` comes
+    /// exactly where it has nothing to start. It takes no memory.
+    pub fn ready_from(&self, plan: &Plan, actor: ActorId) -> Option<u64>
+        requires is_of { IsOf plan.now self.now }
+        requires in_range { IsActor plan.now actor }
+        ensures { result ≡ option_map (due plan.now self.now.world.views) (ready plan.now self.now.world actor) }
+    {
+        match actor {
+            ActorId::Caller(caller) => {
+                let called = self.called[caller as usize];
+                let _ = next_command_of(plan, caller, called)?;
+                Some(0)
+            }
+            ActorId::Work(device) => {
+                if self.parts.pending(DevId(device)).queued {
+                    Some(0)
+                } else {
+                    None
+                }
+            }
+            ActorId::Timer(device) => {
+                let armed = self.parts.timer(DevId(device))?;
+                Some(armed.deadline)
+            }
         }
     }
 }

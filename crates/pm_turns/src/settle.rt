@@ -139,15 +139,15 @@ impl Turns {
     /// Takes note of a line that was written at this stage and led to this state. It takes no memory,
     /// and looks anew at the line's writer, at the work item and the timer of the device of the stage
     /// and of the device of the event, and at those who wait for these devices.
-    pub fn settle(&mut self, plan: &Plan, state: &State, stage: Stage, line: &Line)
+    pub fn settle(&mut self, plan: &Plan, state: &State, stage: &Stage, line: &Line)
         requires is_of { IsOf plan.now state.now }
         requires stand { AllStandWell plan.now state.now.world }
         requires seats { AreOf plan.now self.old.rows }
         requires in_range { IsActor plan.now line.now.actor }
         requires in_time { line.now.time < 2 ^ 63 }
-        ensures { (h : History) → Leads plan.now h line.now stage state.now.world → IsIndex plan.now h self.old → IsIndex plan.now (line.now ∷ h) self.new }
+        ensures { (h : History) → Leads plan.now h line.now stage.now state.now.world → IsIndex plan.now h self.old → IsIndex plan.now (line.now ∷ h) self.new }
     {
-        self.note(&stage, line);
+        self.note(stage, line);
         self.refresh(plan, state, line.actor);
         let at = device_at(stage);
         self.touch_any(plan, state, at, line.actor);

@@ -27,8 +27,8 @@ fn waits_at(stage: &Stage) -> Option<DevId>
 }
 
 // The device that a line at this stage may change; a call line only names one.
-pub(crate) fn device_at(stage: Stage) -> Option<DevId>
-    ensures { result ≡ device_at stage }
+pub(crate) fn device_at(stage: &Stage) -> Option<DevId>
+    ensures { result ≡ device_at stage.now }
 {
     match stage {
         Stage::Helper(HelperStage::Call { .. }) => None,

@@ -125,15 +125,15 @@ fn stage_wakes(plan: &Plan, parts: &Parts, stage: &Stage) -> Option<u64>
 
 /// From when an actor may write, in milliseconds of the run, as things stand; `None` where it rests or
 /// waits. No move is made to learn it.
-#[tactic(auto, using(crate::proofs::WakeLemmas::well_at, crate::proofs::WakeLemmas::stage_wakes, crate::proofs::WakeLemmas::rest_wakes))]
+#[tactic(auto, using(crate::proofs::WakeLemmas::well_at, crate::proofs::WakeLemmas::stage_wakes, crate::proofs::WakeLemmas::start_wakes))]
 pub fn wakes(plan: &Plan, state: &State, actor: ActorId) -> Option<u64>
     requires is_of { IsOf plan.now state.now }
     requires in_range { IsActor plan.now actor }
     requires stands { StandsWell plan.now state.now.world actor }
     ensures { result ≡ wakes plan.now state.now.world actor }
 {
-    match state.stage_at(plan, actor) {
-        Some(stage) => stage_wakes(plan, state.parts(), &stage),
-        None => None,
+    match state.top(plan, actor) {
+        Some(stage) => stage_wakes(plan, state.parts(), stage),
+        None => state.ready_from(plan, actor),
     }
 }

@@ -1,6 +1,6 @@
 -- By whether there is a rest.
 use Rattle.std.proofs.Common.{◌≡◌, ◌++◌, ℕ, [], List, Option, Some, subst, sym}
-use Rattle.pm_audit.specs.Auditing.{IsRest, IsTaken, rest_with}
+use Rattle.pm_audit.specs.Auditing.{IsRest, IsTaken}
 use Rattle.pm_audit.proofs.Taking.{rest_on, within_on}
 use Rattle.pm_audit.proofs.reading.end_line.Goals as goal
 

@@ -1,5 +1,5 @@
 -- By whether the rest is kept.
-use Rattle.std.proofs.Common.{◌≡◌, ℕ, List, Option, None, Some, subst, sym, true}
+use Rattle.std.proofs.Common.{◌≡◌, ℕ, List, Option, subst, sym, true}
 use Rattle.pm_model.specs.NoWhy.{is_within_line}
 use Rattle.pm_audit.specs.Auditing.{IsRest, IsTaken}
 use Rattle.pm_audit.proofs.Taking.{take_long}

@@ -1,5 +1,5 @@
 -- By what is said of the line.
-use Rattle.std.proofs.Common.{◌≡◌, ◌∙◌, ◌+◌, ℕ, Option, Some, ap, refl, sym}
+use Rattle.std.proofs.Common.{◌≡◌, ◌∙◌, ◌+◌, ℕ, Some, ap, refl, sym}
 use Rattle.pm_audit.specs.declared.auditor.Auditor.{Auditor}
 use Rattle.pm_audit.specs.declared.auditor.BadLine.{BadLine}
 use Rattle.pm_audit.proofs.Telling.{line_bad, line_good, says_on}

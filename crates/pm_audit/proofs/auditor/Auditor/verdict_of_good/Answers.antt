@@ -1,8 +1,8 @@
 -- By the rest, and by whether the run is finished.
-use Rattle.std.proofs.Common.{◌≡◌, ◌∙◌, ◌+◌, Bool, Some, ap, false, is_some, subst, sym, true}
+use Rattle.std.proofs.Common.{◌∙◌, ◌+◌, ap, is_some, subst, sym}
 use Rattle.pm_model.specs.NoWhy as model
 use Rattle.pm_model.specs.Verdict.{IsVerdict, No}
-use Rattle.pm_audit.proofs.Telling.{end_cut, end_finished, end_open, not_empty}
+use Rattle.pm_audit.proofs.Telling.{end_cut, not_empty}
 use Rattle.pm_audit.proofs.auditor.Auditor.verdict_of_good.Goals as goal
 
 pub returns-then-not-is_empty : goal.returns-then-not-is_empty

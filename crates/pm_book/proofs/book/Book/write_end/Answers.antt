@@ -4,7 +4,7 @@ use Rattle.pm_state.specs.Standing.{AllStandWell, IsActor, IsOf, Standing, after
 use Rattle.pm_state.specs.Turns.{is_running}
 use Rattle.pm_turns.specs.Turning.{Leads}
 use Rattle.pm_book.specs.Pages.{IsKept, MayWrite, Pages, world_of}
-use Rattle.pm_book.proofs.LineLemmas.{write_of}
+use Rattle.pm_judge.proofs.Moves.{stays_of}
 use Rattle.pm_book.proofs.PageLemmas.{kept_step, leads, reverse-push}
 use Rattle.pm_book.proofs.RunningLemmas.{room_ends, room_is}
 use Rattle.pm_book.proofs.book.Book.write_end.Goals as goal
@@ -26,7 +26,7 @@ go-requires-clause-room c =
 pub settle-requires-clause-is_of : goal.settle-requires-clause-is_of
 settle-requires-clause-is_of c =
     let b = c.self.inside in
-    subst (IsOf b.plan) (sym c.go.ensures) (write_of b.plan b.state c.args.change c.args.line.now c.args.then.now c.self.invariant.is_of)
+    subst (IsOf b.plan) (sym c.go.ensures) (stays_of b.plan b.state c.args.change c.args.line.now c.args.then.now c.self.invariant.is_of)
 
 pub settle-requires-clause-stand : goal.settle-requires-clause-stand
 settle-requires-clause-stand c =

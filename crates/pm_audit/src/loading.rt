@@ -1,0 +1,97 @@
+//! Makes a book of a trace.
+
+ghost use Rattle.std.specs.Prelude.{◌≡◌, ◌+◌, ◌++◌, [], IfErr, IfNone, IfOk, IfSome, OnOk, false, length};
+ghost use Rattle.pm_audit.specs.Loading.{AreLoaded, HasTaken, IsLineFault, IsRefused};
+ghost use Rattle.pm_model.specs.FirstBad.{StandsFor, is_format2};
+ghost use Rattle.pm_model.specs.Lawful.{IsLawful};
+ghost use Rattle.pm_model.specs.Spelling.{header};
+
+use crate::reading::{HEADER, NoWhy, line_of};
+use bstr::ByteSlice;
+use pm_book::{Book, TakeFault};
+use pm_model::Plan;
+use std::alloc::Global;
+
+/// Why no book is made of a trace.
+#[derive(Clone, Copy, Debug, PartialEq, Eq)]
+pub enum LoadFault {
+    /// It is the text of no lawful list.
+    No {
+        /// The number of the first bad line, counted from 1 behind the header, where there is one.
+        line: u64,
+        why: NoWhy,
+    },
+    /// Memory ran out.
+    NoMemory,
+}
+
+// What is said where the line behind those of a book is bad.
+fn bad_line(book: &Book, why: NoWhy) -> LoadFault
+    ensures { result ≡ LoadFault.No (length book.now.lines + 1) why }
+{
+    LoadFault::No {
+        line: book.lines().len() as u64 + 1,
+        why,
+    }
+}
+
+// Takes the line of the plan whose text this is, in format 2 where that is true, or says why it is bad.
+fn take(book: &mut Book, is_format2: bool, text: &[u8]) -> Result<(), LoadFault>
+    ensures ok { OnOk result (HasTaken is_format2 book.old.plan book.old.lines book.new text.now) }
+    ensures err { IfErr result (λ fault. IsLineFault is_format2 book.old text.now fault) }
+{
+    let Some(line) = line_of(book.plan(), book.last_time(), is_format2, text) else {
+        return Err(bad_line(book, NoWhy::Text));
+    };
+    match book.take_line(&line) {
+        Ok(()) => Ok(()),
+        Err(TakeFault::Limit) => Err(bad_line(book, NoWhy::Limit)),
+        Err(TakeFault::Step) => Err(bad_line(book, NoWhy::Step)),
+        Err(TakeFault::Time) => Err(bad_line(book, NoWhy::Time)),
+        Err(TakeFault::NoMemory) => Err(LoadFault::NoMemory),
+    }
+}
+
+// The bytes behind the header, where there is one.
+fn behind_header(bytes: &[u8]) -> Option<&[u8]>
+    ensures some { IfSome result (λ left. bytes.now ≡ header ++ left.now) }
+    ensures none { IfNone result (is_format2 bytes.now ≡ false) }
+{
+    bytes.strip_prefix(HEADER)?.strip_prefix(b"\n")
+}
+
+// Takes the lines of a trace, which a book without lines then has, or says why it can't.
+fn take_all(book: &mut Book, bytes: &[u8]) -> Result<(), LoadFault>
+    requires { book.old.lines ≡ [] }
+    ensures ok { OnOk result (AreLoaded book.old.plan bytes.now book.new) }
+    ensures err { IfErr result (λ fault. IsRefused book.old.plan bytes.now fault) }
+{
+    let (is_format2, mut left) = match behind_header(bytes) {
+        Some(lines) => (true, lines),
+        None => (false, bytes),
+    };
+    'lines: while let Some(at) = left.find_byte(b'\n') {
+        let (text, behind) = left.split_at(at);
+        take(book, is_format2, text)?;
+        left = behind.split_at(1).1;
+    }
+    if left.is_empty() {
+        return Ok(());
+    }
+    Err(bad_line(book, NoWhy::Cut))
+}
+
+/// The book of a plan whose lines these bytes are the text of, in either format. Where they are the text
+/// of no lawful list, it says which line is the first bad one and why, as an auditor does.
+pub fn load_trace(alloc: Global, plan: Plan, bytes: &[u8]) -> Result<Book, LoadFault>
+    ensures plan { IfOk result (λ book. book.plan ≡ plan) }
+    ensures lawful { IfOk result (λ book. IsLawful plan book.lines) }
+    ensures stands { IfOk result (λ book. StandsFor plan bytes.now book.lines) }
+    ensures refused { IfErr result (λ fault. IsRefused plan bytes.now fault) }
+{
+    let Ok(mut book) = Book::start(alloc, plan) else {
+        return Err(LoadFault::NoMemory);
+    };
+    take_all(&mut book, bytes)?;
+    Ok(book)
+}
