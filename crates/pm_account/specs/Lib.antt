@@ -1,3 +1,4 @@
 pub mod Times
 pub mod Kept
 pub mod Account
+pub mod Texts

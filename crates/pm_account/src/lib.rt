@@ -14,11 +14,13 @@ mod shown;
 mod stay;
 #[cfg(test)]
 mod tests;
+mod texts;
 
 use pm_base::NoMemory;
 use pm_model::{Line, Plan};
 use stay::{Stay, UNSAID, keep};
 use std::alloc::Global;
+pub use texts::times_text;
 
 /// For how many milliseconds of a run a device was in which status (this project's own).
 #[derive(Clone, Copy, Debug, PartialEq, Eq)]

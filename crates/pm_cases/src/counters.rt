@@ -5,7 +5,7 @@ ghost use Rattle.std.specs.Prelude.{◌≡◌, ◌<◌, [], IfOk, length};
 use anyhow::Result;
 use pm_base::{DevId, NoMemory, PLAN_BYTES};
 use pm_book::Book;
-use pm_commands::Fault;
+use pm_endings::Fault;
 use pm_io::{Files, read_all};
 use pm_model::{LinkRow, Plan};
 use pm_planread::read_plan;

@@ -1,26 +1,24 @@
 -- What each command may come to: its own endings (this project's own). Those that it shares with the others stand in
--- `Ending`, and what comes of a plan's file in `Reading`.
-use Rattle.std.specs.Prelude.{◌≡◌, ℕ, Bool, true, false, Option, Some, None, List, reverse, option_and_then}
+-- `Ending` of pm_endings, what comes of a plan's file in `Reading`, and those of the commands over a trace in pm_traces.
+use Rattle.std.specs.Prelude.{◌≡◌, ℕ, Bool, true, false, Option, Some, None, List, Ok, Err, reverse, option_and_then}
 use Rattle.pm_make.specs.Generator.{IsGenerated}
 use Rattle.pm_model.specs.declared.plan.Plan.{Plan}
-use Rattle.pm_model.specs.declared.event.Line.{Line}
 use Rattle.pm_model.specs.Islands.{Numbering}
 use Rattle.pm_model.specs.Lawful.{IsLawful}
-use Rattle.pm_model.specs.Promises.{gets_succeed, is_exclusive, is_kept, is_safe}
 use Rattle.pm_model.specs.Serial.{serial}
 use Rattle.pm_model.specs.Text.{text}
 use Rattle.pm_report.specs.Report.{summary, summary_text}
 use Rattle.pm_serial.specs.declared.running.End.{End}
 use Rattle.pm_serial.specs.declared.running.End.TheVariants as end
 use Rattle.pm_serial.specs.Ends.{IsSerialEnd}
-use Rattle.pm_words.specs.Request.{Asked, Check, Make, Serial, asked_by}
+use Rattle.pm_traces.specs.Commands.{OfAudit}
+use Rattle.pm_words.specs.Request.{Asked, Audit, Check, Make, Serial, asked_by}
 use Rattle.pm_commands.specs.Counts.{counts_text}
-use Rattle.pm_commands.specs.Ending.{AtLimit, Done, Ending}
-use Rattle.pm_commands.specs.Reading.{OfPlan}
-
--- the promises of a run: it is safe, exclusive and kept, and where nothing disturbs its gets succeed
-unfoldable pub KeepsPromises : Plan → List Line → Type 0
-KeepsPromises plan h = (is_safe plan h ≡ true) × (is_exclusive plan h ≡ true) × (is_kept plan h ≡ true) × (gets_succeed plan h ≡ true)
+use Rattle.pm_endings.specs.Coming.{Work}
+use Rattle.pm_endings.specs.Ending.{AtLimit, Done, Ending}
+use Rattle.pm_endings.specs.Promised.{KeepsPromises}
+use Rattle.pm_endings.specs.Reading.{OfPlan}
+use Rattle.pm_endings.specs.declared.ending.Fault.TheVariants as fault
 
 -- the run that one thread makes of a plan is lawful, keeps its promises, and ends so
 pub record IsRun (plan : Plan) (e : End) : Type 0 where
@@ -32,6 +30,11 @@ pub record IsRun (plan : Plan) (e : End) : Type 0 where
 abbrev pub run_ending : End → List ℕ → Ending
 run_ending end.Finished bytes = Done bytes
 run_ending end.AtLimit bytes = AtLimit bytes
+
+-- the work of a command whose run ended so, and was written
+abbrev pub ended : End → Work
+ended end.Finished = Ok tt
+ended end.AtLimit = Err fault.AtLimit
 
 abbrev pub is_whole : End → Bool
 is_whole end.Finished = true
@@ -61,6 +64,7 @@ pub record MakeEnds (number devices : ℕ) (ending : Ending) : Type 0 where
 abbrev pub here : Asked → Option Asked
 here (Serial plan) = Some (Serial plan)
 here (Check plan) = Some (Check plan)
+here (Audit plan trace) = Some (Audit plan trace)
 here (Make number devices) = Some (Make number devices)
 here _ = None
 
@@ -71,5 +75,6 @@ named words = option_and_then here (asked_by words)
 abbrev pub AskedEnds : Bool → (List ℕ → Option (List ℕ)) → Asked → Ending → Type 0
 AskedEnds all told (Serial plan) = OfPlan all (told plan) SerialEnds
 AskedEnds all told (Check plan) = OfPlan all (told plan) CheckEnds
+AskedEnds all told (Audit plan trace) = OfPlan all (told plan) (OfAudit all (told trace))
 AskedEnds all told (Make number devices) = MakeEnds number devices
 AskedEnds all told _ = λ _. ⊥

@@ -1,6 +1,6 @@
 -- The statuses that a command may answer by what its plan's file has (this project's own).
 use Rattle.std.specs.Prelude.{ℕ, List, [], ◌∷◌}
-use Rattle.pm_commands.specs.declared.ending.TheConstants.{AT_LIMIT, DONE, NO_MEMORY, READ_FAILED, REFUSED}
+use Rattle.pm_endings.specs.declared.ending.TheConstants.{AT_LIMIT, DONE, NO_MEMORY, READ_FAILED, REFUSED}
 
 -- where the plan is refused, or isn't there
 abbrev pub refused_statuses : List ℕ

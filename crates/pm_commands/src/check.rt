@@ -1,14 +1,13 @@
 //! `check PLAN`: reads the plan and counts.
 
 ghost use Rattle.pm_io.specs.Faults.{Rose};
-ghost use Rattle.pm_commands.specs.Coming.{Came};
+ghost use Rattle.pm_endings.specs.Coming.{Came};
 ghost use Rattle.pm_commands.specs.Commands.{CheckEnds};
-ghost use Rattle.pm_commands.specs.Ending.{Answered, taking};
-ghost use Rattle.pm_commands.specs.Reading.{OfPlan};
+ghost use Rattle.pm_endings.specs.Ending.{Answered, taking};
+ghost use Rattle.pm_endings.specs.Reading.{OfPlan};
 
 use crate::counts::counts_text;
-use crate::ending::{Fault, finish};
-use crate::running::load;
+use pm_endings::{Fault, finish, load};
 use pm_io::{Files, Sink, write_whole};
 use pm_islands::islands;
 use pm_model::Plan;

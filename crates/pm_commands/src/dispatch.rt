@@ -3,20 +3,22 @@
 ghost use Rattle.std.specs.Prelude.{◌≡◌, ◌↔◌, map, string_bytes, IfSome, IsNone};
 ghost use Rattle.pm_io.specs.Faults.{Rose};
 ghost use Rattle.pm_commands.specs.Commands.{AskedEnds, named};
-ghost use Rattle.pm_commands.specs.Ending.{Answered, Told, taking, usage};
+ghost use Rattle.pm_endings.specs.Ending.{Answered, Told, taking, usage};
 
 use crate::check::check_top;
-use crate::ending::{WRONG_WORDS, refuse_words};
 use crate::make::make_top;
 use crate::serial::serial_top;
+use pm_endings::{WRONG_WORDS, refuse_words};
 use pm_io::{Files, Sink};
+use pm_traces::audit_top;
 use pm_words::{Request, read_words};
 use std::alloc::Global;
 
 /// Runs the command that the words name: they are those after the program's name. The answer is the status
 /// that the program ends with. Wrong words are answered by the usage text, which goes to `err`.
 ///
-/// `serial`, `check` and `make` are here as yet; the words of the other commands are answered as wrong ones.
+/// `serial`, `check`, `audit` and `make` are here as yet; the words of the other commands are answered as
+/// wrong ones.
 pub fn top<F: Files, O: Sink, E: Sink>(
     alloc: Global,
     words: &[String],
@@ -37,6 +39,7 @@ pub fn top<F: Files, O: Sink, E: Sink>(
     match read_words(words) {
         Some(Request::Serial { plan }) => serial_top(alloc, plan, files, out, err),
         Some(Request::Check { plan }) => check_top(alloc, plan, files, out, err),
+        Some(Request::Audit { plan, trace }) => audit_top(alloc, plan, trace, files, out, err),
         Some(Request::Make { number, devices }) => make_top(alloc, number, devices, out, err),
         _ => refuse_words(err),
     }

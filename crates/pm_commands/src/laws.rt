@@ -4,9 +4,9 @@ ghost use Rattle.std.specs.Prelude.{ℕ, Bool, List, Some, None, Contains, IsErr
 ghost use Rattle.pm_io.specs.Faults.{Rose};
 ghost use Rattle.pm_planread.specs.PlanOf.{plan_of};
 ghost use Rattle.pm_commands.specs.Commands.{SerialEnds};
-ghost use Rattle.pm_commands.specs.Ending.{Answered, Failed, Taking};
+ghost use Rattle.pm_endings.specs.Ending.{Answered, Failed, Taking};
 ghost use Rattle.pm_commands.specs.Exactly.{refused_statuses, run_statuses};
-ghost use Rattle.pm_commands.specs.Reading.{OfPlan};
+ghost use Rattle.pm_endings.specs.Reading.{OfPlan};
 
 /// `serial` says that a plan is refused exactly where its bytes are none, unless reading or memory fails
 /// first, and runs it where they are one and neither reading nor writing nor memory fails. Where all files

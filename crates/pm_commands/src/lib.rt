@@ -4,10 +4,8 @@
 mod check;
 mod counts;
 mod dispatch;
-mod ending;
 mod laws;
 mod make;
-mod output;
 mod running;
 mod serial;
 #[cfg(test)]
@@ -16,9 +14,6 @@ mod tests;
 pub use check::check_top;
 pub use counts::counts_text;
 pub use dispatch::top;
-pub use ending::{
-    AT_LIMIT, DONE, Fault, NO_MEMORY, READ_FAILED, REFUSED, WRITE_FAILED, WRONG_WORDS, refuse_words,
-};
 pub use laws::serial_answers_exactly;
 pub use make::make_top;
 pub use serial::serial_top;

@@ -3,12 +3,12 @@
 ghost use Rattle.std.specs.Prelude.{◌≤◌, reverse};
 ghost use Rattle.pm_base.specs.declared.limits.TheConstants.{MAX_DEVICES};
 ghost use Rattle.pm_report.specs.Report.{summary, summary_text};
-ghost use Rattle.pm_commands.specs.Coming.{Came, Wrote};
+ghost use Rattle.pm_endings.specs.Coming.{Came, Wrote};
 ghost use Rattle.pm_commands.specs.Commands.{MakeEnds, is_whole};
-ghost use Rattle.pm_commands.specs.Ending.{Answered, taking};
+ghost use Rattle.pm_endings.specs.Ending.{Answered, taking};
 
-use crate::ending::{Fault, finish};
 use crate::running::{Ran, ended, is_whole, run};
+use pm_endings::{Fault, finish};
 use pm_io::{Sink, write_whole};
 use pm_make::make_plan;
 use pm_report::{summary, summary_text};

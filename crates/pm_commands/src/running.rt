@@ -1,34 +1,16 @@
-//! Plans that are read from their files, and their runs on one thread.
+//! Runs of plans on one thread.
 
-ghost use Rattle.std.specs.Prelude.{◌≡◌, [], reverse, IfErr, IfOk};
-ghost use Rattle.pm_io.specs.Faults.{Rose};
+ghost use Rattle.std.specs.Prelude.{◌≡◌, [], reverse, IfOk};
 ghost use Rattle.pm_model.specs.Serial.{serial};
 ghost use Rattle.pm_serial.specs.Ends.{HasMemory, IsSerialEnd};
-ghost use Rattle.pm_commands.specs.Coming.{IsUnread, ended};
-ghost use Rattle.pm_commands.specs.Commands.{IsRun, is_whole};
-ghost use Rattle.pm_commands.specs.Reading.{IsRead};
+ghost use Rattle.pm_commands.specs.Commands.{IsRun, ended, is_whole};
 
-use crate::ending::Fault;
-use pm_base::{NoMemory, PLAN_BYTES};
+use pm_base::NoMemory;
 use pm_book::Book;
-use pm_io::{Files, read_all};
-use pm_kept::kept;
+use pm_endings::{Fault, promises_are_kept};
 use pm_model::Plan;
-use pm_planread::read_plan;
-use pm_running::{runs_are_exclusive, runs_are_safe};
 use pm_serial::{End, drain, fresh_books_have_time};
-use pm_succeed::gets_succeed;
 use std::alloc::Global;
-
-/// Reads the plan from its file.
-pub(crate) fn load<F: Files>(alloc: Global, plan: &str, files: &mut F) -> Result<Plan, Fault>
-    ensures read { IfOk result (IsRead F.tells_all (F.told files.old plan.now)) }
-    ensures unread { IfErr result (IsUnread F.tells_all (F.told files.old plan.now)
-        (Rose (F.faults files.old) (F.faults files.new))) }
-{
-    let bytes = read_all(alloc, files, plan, PLAN_BYTES)?;
-    Ok(read_plan(alloc, &bytes)?)
-}
 
 /// A plan's run on one thread, and how it ended.
 #[derive(Drop)]
@@ -43,10 +25,7 @@ pub(crate) fn run(alloc: Global, plan: Plan) -> Result<Ran, NoMemory>
     ensures lines { IfOk result (λ ran. reverse ran.book.lines ≡ serial plan) }
     ensures run { IfOk result (λ ran. IsRun plan ran.end) }
 {
-    runs_are_safe();
-    runs_are_exclusive();
-    kept();
-    gets_succeed();
+    promises_are_kept();
     let mut book = start(alloc, plan)?;
     let end = run_book(&mut book);
     Ok(Ran { book, end })

@@ -3,15 +3,14 @@
 ghost use Rattle.std.specs.Prelude.{reverse};
 ghost use Rattle.pm_io.specs.Faults.{Rose};
 ghost use Rattle.pm_model.specs.Text.{text};
-ghost use Rattle.pm_commands.specs.Coming.{Came, Wrote};
+ghost use Rattle.pm_endings.specs.Coming.{Came, Wrote};
 ghost use Rattle.pm_commands.specs.Commands.{SerialEnds};
-ghost use Rattle.pm_commands.specs.Ending.{Answered, taking};
-ghost use Rattle.pm_commands.specs.Reading.{OfPlan};
+ghost use Rattle.pm_endings.specs.Ending.{Answered, taking};
+ghost use Rattle.pm_endings.specs.Reading.{OfPlan};
 
-use crate::ending::{Fault, finish};
-use crate::output::write_text;
-use crate::running::{ended, load, run};
+use crate::running::{ended, run};
 use pm_book::Book;
+use pm_endings::{Fault, Format, finish, load, write_text};
 use pm_io::{Files, Sink};
 use pm_linetext::LineSpeller;
 use pm_model::Plan;
@@ -66,6 +65,6 @@ fn write_book<O: Sink>(alloc: Global, book: &Book, out: &mut O) -> Result<(), Fa
     let plan = book.plan();
     let lines = book.lines();
     let speller = LineSpeller::new(alloc, plan)?;
-    write_text(out, plan, &speller, lines)?;
+    write_text(out, &speller, Format::of(plan), lines)?;
     Ok(())
 }

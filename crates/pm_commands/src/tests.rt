@@ -210,13 +210,14 @@ fn the_counts_of_a_plan_are_one_line(rt: HostRuntime) -> Result<(), Fail> {
 }
 
 /// Words, and the status that they give where `plan` is the one file.
-static WORDS: [(&str, u8); 7] = [
+static WORDS: [(&str, u8); 8] = [
     ("serial plan", 0),
     ("serial -- plan", 0),
     ("serial -", 4),
     ("serial", 2),
     ("serial plan plan", 2),
     ("check -", 4),
+    ("audit plan -", 4),
     ("desk plan", 2),
 ];
 

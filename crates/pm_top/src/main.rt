@@ -1,7 +1,8 @@
 //! Runs a plan of `pm_runtime_*` calls and writes one trace line per atomic step.
 #![tactic(auto)]
 
-use pm_commands::{Fault, refuse_words, top};
+use pm_commands::top;
+use pm_endings::{Fault, refuse_words};
 use pm_io::{DiskFiles, StdErr, StdOut};
 use std::process::ExitCode;
 use std::rt::Env;

@@ -1,8 +1,8 @@
 use Rattle.pm_io.specs.Faults.{Rose}
 use Rattle.pm_commands.specs.Commands.{CheckEnds}
-use Rattle.pm_commands.specs.Ending.{taking}
-use Rattle.pm_commands.specs.Reading.{OfPlan}
-use Rattle.pm_commands.proofs.EndLemmas.{answered}
+use Rattle.pm_endings.specs.Ending.{taking}
+use Rattle.pm_endings.specs.Reading.{OfPlan}
+use Rattle.pm_endings.proofs.EndLemmas.{answered}
 use Rattle.pm_commands.proofs.check.check_top.Goals as goal
 
 pub returns : goal.returns

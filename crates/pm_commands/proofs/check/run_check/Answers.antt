@@ -2,8 +2,8 @@ use Rattle.std.proofs.Common.{refl}
 use Rattle.std.proofs.lemmas.Result.{err_from_is_err_and}
 use Rattle.pm_io.specs.Faults.{Rose}
 use Rattle.pm_commands.specs.Commands.{CheckEnds}
-use Rattle.pm_commands.specs.Ending.{taking}
-use Rattle.pm_commands.proofs.ReadLemmas.{came_read, came_unread}
+use Rattle.pm_endings.specs.Ending.{taking}
+use Rattle.pm_endings.proofs.ReadLemmas.{came_read, came_unread}
 use Rattle.pm_commands.proofs.check.run_check.Goals as goal
 
 pub returns-in_err-plan : goal.returns-in_err-plan
@@ -19,5 +19,5 @@ pub returns : goal.returns
 returns g c =
     let told = g.F.Files.told c.args.files.now c.args.plan.now in
     let faults = g.F.Files.faults in
-    came_read g.F.Files.tells_all told c.in_ok-plan.plan CheckEnds (Rose (faults c.args.files.now) (faults c.load.new.files))
-    (taking g.O.Sink.taken g.O.Sink.faults c.args.out.now c.write_counts.new.out) c.write_counts.result c.in_ok-plan.ensures.read c.write_counts.ensures
+    came_read g.F.Files.tells_all told c.in_ok-plan.plan CheckEnds ⊥ (Rose (faults c.args.files.now) (faults c.load.new.files))
+    (taking g.O.Sink.taken g.O.Sink.faults c.args.out.now c.write_counts.new.out) c.write_counts.result (λ none. absurd none) c.in_ok-plan.ensures.read c.write_counts.ensures

@@ -2,8 +2,8 @@ use Rattle.std.proofs.Common.{◌∙◌, refl}
 use Rattle.std.proofs.lemmas.Result.{err_from_is_err_and}
 use Rattle.pm_commands.specs.Commands.{CheckEnds}
 use Rattle.pm_commands.specs.Counts.{counts_text}
-use Rattle.pm_commands.specs.Ending.{taking}
-use Rattle.pm_commands.proofs.EndLemmas.{done_part, wrote_all}
+use Rattle.pm_endings.specs.Ending.{taking}
+use Rattle.pm_endings.proofs.EndLemmas.{done_part, wrote_all}
 use Rattle.pm_commands.proofs.check.write_counts.Goals as goal
 
 pub returns-in_err-write_whole : goal.returns-in_err-write_whole

@@ -4,8 +4,8 @@ use Rattle.std.specs.declared.option.Option.{Option}
 use Rattle.pm_io.specs.Faults.{Rose}
 use Rattle.pm_words.specs.Request.{Asked}
 use Rattle.pm_commands.specs.Commands.{AskedEnds, MakeEnds, here}
-use Rattle.pm_commands.specs.Ending.{Answered, taking}
-use Rattle.pm_commands.proofs.EndLemmas.{answered_unread}
+use Rattle.pm_endings.specs.Ending.{Answered, taking}
+use Rattle.pm_endings.proofs.EndLemmas.{answered_unread}
 use Rattle.pm_commands.proofs.dispatch.top.Goals as goal
 
 pub returns-in-Some-Serial-clause-answer : goal.returns-in-Some-Serial-clause-answer
@@ -27,6 +27,16 @@ returns-in-Some-Check-clause-answer g c =
     let names = rw c.in-Some-Check.field-0-is at c.in-Some-Check.ensures.request in
     subst (λ (o : Option Asked). IfSome o (λ asked. Answered (AskedEnds files.tells_all (files.told c.args.files.now) asked) c.check_top.result unread out err))
     (ap (option_and_then here) names) c.check_top.ensures
+
+pub returns-in-Some-Audit-clause-answer : goal.returns-in-Some-Audit-clause-answer
+returns-in-Some-Audit-clause-answer g c =
+    let files = g.F.Files in
+    let unread = Rose (files.faults c.args.files.now) (files.faults c.audit_top.new.files) in
+    let out = taking g.O.Sink.taken g.O.Sink.faults c.args.out.now c.audit_top.new.out in
+    let err = taking g.E.Sink.taken g.E.Sink.faults c.args.err.now c.audit_top.new.err in
+    let names = rw c.in-Some-Audit.field-0-is at c.in-Some-Audit.ensures.request in
+    subst (λ (o : Option Asked). IfSome o (λ asked. Answered (AskedEnds files.tells_all (files.told c.args.files.now) asked) c.audit_top.result unread out err))
+    (ap (option_and_then here) names) c.audit_top.ensures
 
 pub returns-in-Some-Make-clause-answer : goal.returns-in-Some-Make-clause-answer
 returns-in-Some-Make-clause-answer g c =

@@ -1,6 +1,6 @@
 use Rattle.pm_commands.specs.Commands.{MakeEnds}
-use Rattle.pm_commands.specs.Ending.{taking}
-use Rattle.pm_commands.proofs.EndLemmas.{answered}
+use Rattle.pm_endings.specs.Ending.{taking}
+use Rattle.pm_endings.proofs.EndLemmas.{answered}
 use Rattle.pm_commands.proofs.make.make_top.Goals as goal
 
 pub returns : goal.returns

@@ -7,4 +7,4 @@ use Rattle.pm_commands.proofs.running.run.Goals as goal
 pub returns-clause-run : goal.returns-clause-run
 returns-clause-run c =
     is_run c.args.plan c.run_book-end.result (subst (λ (q : Plan). IsSerialEnd q c.run_book-end.result) c.in_ok-book.ensures.plan c.run_book-end.ensures.end)
-    c.runs_are_safe.ensures c.runs_are_exclusive.ensures c.kept.ensures c.gets_succeed.ensures
+    c.promises_are_kept.ensures

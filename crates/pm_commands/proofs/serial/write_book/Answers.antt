@@ -1,8 +1,9 @@
 use Rattle.std.proofs.Common.{reverse}
 use Rattle.std.proofs.lemmas.Result.{err_from_is_err_and}
-use Rattle.pm_commands.specs.Ending.{taking}
+use Rattle.pm_endings.specs.Ending.{taking}
+use Rattle.pm_endings.specs.Pieces.{text_in}
 use Rattle.pm_model.specs.Text.{text}
-use Rattle.pm_commands.proofs.EndLemmas.{wrote_all, wrote_part}
+use Rattle.pm_endings.proofs.EndLemmas.{wrote_all, wrote_part}
 use Rattle.pm_commands.proofs.RunLemmas.{shown_text}
 use Rattle.pm_commands.proofs.serial.write_book.Goals as goal
 
@@ -13,8 +14,8 @@ returns-in_err-write_text g c =
     let shown = c.plan-plan.result.now in
     let lines = c.lines-lines.result.now in
     let out = taking g.O.Sink.taken g.O.Sink.faults c.args.out.now c.write_text.new.out in
-    wrote_part c.from_residual-in_err-write_text.result p.0 _ (text shown lines) out p.1 p.2
-    (shown_text plan shown lines c.args.book.now.lines c.plan-plan.ensures c.lines-lines.ensures.lines)
+    wrote_part c.from_residual-in_err-write_text.result p.0 _ (text_in c.of.result c.in_ok-speller.speller lines) out p.1 p.2
+    (shown_text plan shown c.in_ok-speller.speller lines c.args.book.now.lines c.of.result c.in_ok-speller.ensures c.plan-plan.ensures c.of.ensures c.lines-lines.ensures.lines)
     c.in_err-write_text.ensures.prefix c.in_err-write_text.ensures.failed
 
 pub returns : goal.returns
@@ -23,5 +24,5 @@ returns g c =
     let shown = c.plan-plan.result.now in
     let lines = c.lines-lines.result.now in
     let out = taking g.O.Sink.taken g.O.Sink.faults c.args.out.now c.write_text.new.out in
-    wrote_all (text plan (reverse c.args.book.now.lines)) (text shown lines) out
-    (shown_text plan shown lines c.args.book.now.lines c.plan-plan.ensures c.lines-lines.ensures.lines) c.in_ok-write_text.ensures.text
+    wrote_all (text plan (reverse c.args.book.now.lines)) (text_in c.of.result c.in_ok-speller.speller lines) out
+    (shown_text plan shown c.in_ok-speller.speller lines c.args.book.now.lines c.of.result c.in_ok-speller.ensures c.plan-plan.ensures c.of.ensures c.lines-lines.ensures.lines) c.in_ok-write_text.ensures.text

@@ -1,0 +1,4 @@
+pub mod EndLemmas
+pub mod OutputLemmas
+pub mod ReadLemmas
+pub mod Writing

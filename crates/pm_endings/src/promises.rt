@@ -1,0 +1,20 @@
+//! What every lawful list of lines keeps.
+
+ghost use Rattle.pm_model.specs.declared.plan.Plan.{Plan};
+ghost use Rattle.pm_model.specs.History.{History};
+ghost use Rattle.pm_model.specs.Lawful.{IsLawful};
+ghost use Rattle.pm_endings.specs.Promised.{KeepsPromises};
+
+use pm_kept::kept;
+use pm_running::{runs_are_exclusive, runs_are_safe};
+use pm_succeed::gets_succeed;
+
+/// Each lawful list is safe, exclusive and kept, and where nothing disturbs its gets succeed.
+pub fn promises_are_kept()
+    ensures { (plan : Plan) (h : History) → IsLawful plan h → KeepsPromises plan h }
+{
+    runs_are_safe();
+    runs_are_exclusive();
+    kept();
+    gets_succeed();
+}

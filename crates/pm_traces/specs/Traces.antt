@@ -1,0 +1,37 @@
+-- What a command that reads a trace may come to (this project's own). Lists of lines have the newest line first.
+use Rattle.std.specs.Prelude.{ℕ, Bool, Option, List, ⊤}
+use Rattle.pm_base.specs.declared.limits.TheConstants.{TRACE_BYTES}
+use Rattle.pm_io.specs.declared.reading.FileFault.{FileFault}
+use Rattle.pm_io.specs.declared.reading.FileFault.TheVariants as file
+use Rattle.pm_model.specs.declared.plan.Plan.{Plan}
+use Rattle.pm_model.specs.FirstBad.{StandsFor}
+use Rattle.pm_model.specs.History.{History}
+use Rattle.pm_model.specs.Lawful.{IsLawful}
+use Rattle.pm_model.specs.NoWhy.{NoWhy}
+use Rattle.pm_model.specs.Verdict.{IsVerdict, No}
+use Rattle.pm_endings.specs.Coming.{trace_too_long}
+use Rattle.pm_endings.specs.Ending.{Ending, Refused}
+use Rattle.pm_endings.specs.Reading.{Holds, IsTooLong}
+use Rattle.pm_endings.specs.Said.{no_line}
+use Rattle.pm_endings.specs.declared.ending.Fault.{Fault}
+use Rattle.pm_endings.specs.declared.ending.Fault.TheVariants as fault
+
+-- Of a command over a trace's file: it has too many bytes; or its bytes have a first bad line, and the ending tells it;
+-- or they stand for a lawful list, over which the command has endings of its own.
+pub data OfTrace (all : Bool) (told : Option (List ℕ)) (plan : Plan) (refuse : List ℕ → Ending) (Ends : History → Ending → Type 0) : Ending → Type 0 where
+  too_many : IsTooLong told TRACE_BYTES → OfTrace all told plan refuse Ends (Refused trace_too_long)
+  bad : (bytes : List ℕ) → Holds all told TRACE_BYTES bytes → (n : ℕ) (why : NoWhy) → IsVerdict plan bytes (No n why) → OfTrace all told plan refuse Ends (refuse (no_line n why))
+  stands : (bytes : List ℕ) → Holds all told TRACE_BYTES bytes → (h : History) → IsLawful plan h → StandsFor plan bytes h → (ending : Ending) → Ends h ending → OfTrace all told plan refuse Ends ending
+
+-- the fault of its file, as that of a command
+abbrev pub trace_fault : FileFault → Fault
+trace_fault file.Failed = fault.ReadFailed
+trace_fault file.TooLong = fault.TraceTooLong
+trace_fault file.NoMemory = fault.NoMemory
+
+-- why a trace's file isn't read to its end: it is too long, a read failed, or memory ran out
+abbrev pub IsTraceUnread : Option (List ℕ) → Type 0 → Fault → Type 0
+IsTraceUnread told Unread fault.TraceTooLong = IsTooLong told TRACE_BYTES
+IsTraceUnread told Unread fault.ReadFailed = Unread
+IsTraceUnread told Unread fault.NoMemory = ⊤
+IsTraceUnread told Unread _ = ⊥
