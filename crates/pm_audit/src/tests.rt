@@ -1,4 +1,4 @@
-//! Traces of a small plan, fed in pieces of any length.
+//! Traces of two small plans, fed in pieces of any length, and loaded.
 
 ghost use Rattle.std.specs.Prelude.{◌≡◌, ◌<◌, [], ◌∷◌, None, IfOk, false, pos};
 ghost use Rattle.pm_model.specs.declared.event.Helper.TheVariants as helper;
@@ -11,7 +11,7 @@ use std::test::Fail;
 
 fn device(alloc: Global) -> Result<DeviceRow, NoMemory>
     ensures { IfOk result (λ row. row ≡ record {
-      name = 100 ∷ [];
+      name = 97 ∷ [];
       parent = None;
       domain = None;
       ignore_children = false;
@@ -26,7 +26,7 @@ fn device(alloc: Global) -> Result<DeviceRow, NoMemory>
     }) }
 {
     Ok(DeviceRow {
-        name: Items::new(Vec::from_slice(alloc, b"d")?),
+        name: Items::new(Vec::from_slice(alloc, b"a")?),
         parent: None,
         domain: None,
         ignore_children: false,
@@ -67,7 +67,40 @@ fn caller(alloc: Global) -> Result<CallerRow, NoMemory>
     })
 }
 
-fn plan(alloc: Global) -> Result<Plan, NoMemory> {
+// It enables the device, gets it and puts it, as in the worked run.
+fn user(alloc: Global) -> Result<CallerRow, NoMemory>
+    ensures { IfOk result (λ row. row ≡ record {
+      name = 99 ∷ [];
+      script =
+          record { helper = helper.Enable; dev = record { 0 = 0 }; number = pos 0 }
+          ∷ record { helper = helper.GetSync; dev = record { 0 = 0 }; number = pos 0 }
+          ∷ record { helper = helper.PutNoidle; dev = record { 0 = 0 }; number = pos 0 }
+          ∷ [];
+    }) }
+{
+    let enable = Command {
+        helper: Helper::Enable,
+        dev: DevId(0),
+        number: 0,
+    };
+    let get = Command {
+        helper: Helper::GetSync,
+        dev: DevId(0),
+        number: 0,
+    };
+    let put = Command {
+        helper: Helper::PutNoidle,
+        dev: DevId(0),
+        number: 0,
+    };
+    Ok(CallerRow {
+        name: Items::new(Vec::from_slice(alloc, b"c")?),
+        script: Items::new(Vec::from_slice(alloc, &[enable, get, put])?),
+    })
+}
+
+// The plan of the delay, which allows four lines.
+fn short_plan(alloc: Global) -> Result<Plan, NoMemory> {
     let mut devices = Vec::new(alloc);
     devices.push(device(alloc)?)?;
     let mut callers = Vec::new(alloc);
@@ -82,11 +115,27 @@ fn plan(alloc: Global) -> Result<Plan, NoMemory> {
     })
 }
 
+// The plan of the worked run.
+fn worked_plan(alloc: Global) -> Result<Plan, NoMemory> {
+    let mut devices = Vec::new(alloc);
+    devices.push(device(alloc)?)?;
+    let mut callers = Vec::new(alloc);
+    callers.push(user(alloc)?)?;
+    Ok(Plan {
+        lines: 200_000,
+        trace: 1,
+        domains: NamedList::new(alloc, Vec::new(alloc))?,
+        devices: NamedList::new(alloc, devices)?,
+        links: Items::new(Vec::new(alloc)),
+        callers: NamedList::new(alloc, callers)?,
+    })
+}
+
 // What is said of a text that is fed in pieces of this length.
-fn said(alloc: Global, text: &[u8], len: usize) -> Result<Verdict, Fail>
+fn said(alloc: Global, plan: Plan, text: &[u8], len: usize) -> Result<Verdict, Fail>
     requires { 0 < len }
 {
-    let Ok(mut auditor) = Auditor::new(alloc, plan(alloc)?) else {
+    let Ok(mut auditor) = Auditor::new(alloc, plan) else {
         return Err("no memory".into());
     };
     for piece in text.chunks(len) {
@@ -96,8 +145,8 @@ fn said(alloc: Global, text: &[u8], len: usize) -> Result<Verdict, Fail>
 }
 
 // What is said of a text from which a book is loaded.
-fn loaded(alloc: Global, text: &[u8]) -> Result<Verdict, Fail> {
-    match load_trace(alloc, plan(alloc)?, text) {
+fn loaded(alloc: Global, plan: Plan, text: &[u8]) -> Result<Verdict, Fail> {
+    match load_trace(alloc, plan, text) {
         Ok(book) => Ok(if book.finished() {
             Verdict::YesFinished
         } else {
@@ -112,7 +161,7 @@ static SAID: [(&str, Verdict); 24] = [
     ("", Verdict::YesOpen),
     ("0 c pm_call: delay 5\n", Verdict::YesOpen),
     (
-        "0 c pm_call: delay 5\n5 c pm_ret: delay 0\n5 c pm_call: mark_last_busy d\n5 c pm_ret: mark_last_busy d 0\n",
+        "0 c pm_call: delay 5\n5 c pm_ret: delay 0\n5 c pm_call: mark_last_busy a\n5 c pm_ret: mark_last_busy a 0\n",
         Verdict::YesFinished,
     ),
     (
@@ -158,21 +207,21 @@ static SAID: [(&str, Verdict); 24] = [
         },
     ),
     (
-        "0 c pm_call: delay 5\n5 c pm_ret: delay 0\n5 c pm_call: mark_last_busy d\n5 c pm_ret: mark_last_busy d 0\n6 c pm_call: delay 5\n",
+        "0 c pm_call: delay 5\n5 c pm_ret: delay 0\n5 c pm_call: mark_last_busy a\n5 c pm_ret: mark_last_busy a 0\n6 c pm_call: delay 5\n",
         Verdict::No {
             line: 5,
             why: NoWhy::Limit,
         },
     ),
     (
-        "0 c pm_call: delay 5\n5 c pm_ret: delay 0\n5 c pm_call: mark_last_busy d\n5 c pm_ret: mark_last_busy d 0\nx\n",
+        "0 c pm_call: delay 5\n5 c pm_ret: delay 0\n5 c pm_call: mark_last_busy a\n5 c pm_ret: mark_last_busy a 0\nx\n",
         Verdict::No {
             line: 5,
             why: NoWhy::Text,
         },
     ),
     (
-        "0 c pm_call: delay 5\n5 c pm_ret: delay 0\n5 c pm_call: mark_last_busy d\n5 c pm_ret: mark_last_busy d 0\nx",
+        "0 c pm_call: delay 5\n5 c pm_ret: delay 0\n5 c pm_call: mark_last_busy a\n5 c pm_ret: mark_last_busy a 0\nx",
         Verdict::No {
             line: 5,
             why: NoWhy::Cut,
@@ -193,7 +242,7 @@ static SAID: [(&str, Verdict); 24] = [
         },
     ),
     (
-        "0 c pm_call: delay 5\n5 c pm_ret: delay 0\n4 c pm_call: mark_last_busy d\n",
+        "0 c pm_call: delay 5\n5 c pm_ret: delay 0\n4 c pm_call: mark_last_busy a\n",
         Verdict::No {
             line: 3,
             why: NoWhy::Time,
@@ -208,7 +257,7 @@ static SAID: [(&str, Verdict); 24] = [
     ),
     ("pm_trace 2\n", Verdict::YesOpen),
     (
-        "pm_trace 2\n0 c pm_call: delay 5\n5 c pm_ret: delay 0\n0 c pm_call: mark_last_busy d\n0 c pm_ret: mark_last_busy d 0\n",
+        "pm_trace 2\n0 c pm_call: delay 5\n5 c pm_ret: delay 0\n0 c pm_call: mark_last_busy a\n0 c pm_ret: mark_last_busy a 0\n",
         Verdict::YesFinished,
     ),
     (
@@ -226,7 +275,7 @@ static SAID: [(&str, Verdict); 24] = [
         },
     ),
     (
-        "pm_trace 2\n0 c pm_call: delay 5\n5 c pm_ret: delay 0\n0 c pm_call: mark_last_busy d\n0 c pm_ret: mark_last_busy d 0\n1 c pm_call: delay 5\n",
+        "pm_trace 2\n0 c pm_call: delay 5\n5 c pm_ret: delay 0\n0 c pm_call: mark_last_busy a\n0 c pm_ret: mark_last_busy a 0\n1 c pm_call: delay 5\n",
         Verdict::No {
             line: 5,
             why: NoWhy::Limit,
@@ -260,9 +309,65 @@ fn each_trace_is_judged_however_it_is_cut(rt: HostRuntime) -> Result<(), Fail> {
     for (text, wanted) in &SAID {
         let text = text.as_bytes();
         for len in [text.len().max(1), 7, 1] {
-            assert_eq!(rt; said(rt.alloc(), text, len)?, *wanted, "{text:?} {len}");
+            assert_eq!(rt;
+                said(rt.alloc(), short_plan(rt.alloc())?, text, len)?,
+                *wanted,
+                "{text:?} {len}"
+            );
         }
-        assert_eq!(rt; loaded(rt.alloc(), text)?, *wanted, "{text:?}");
+        assert_eq!(rt;
+            loaded(rt.alloc(), short_plan(rt.alloc())?, text)?,
+            *wanted,
+            "{text:?}"
+        );
+    }
+    Ok(())
+}
+
+static WORKED: [(&str, Verdict); 4] = [
+    (
+        "0 c pm_call: enable a\n0 c pm_ret: enable a 0\n0 c pm_call: get_sync a\n0 c pm_get: a caller\n0 c rpm_resume: a flags-4 cnt-1  dep-0  auto-1 p-0 irq-0 child-0\n0 c pm_status: a resuming\n0 c pm_callback: a resume begin\n0 c pm_callback: a resume end 0\n0 c pm_status: a active\n0 c rpm_idle: a flags-1 cnt-1  dep-0  auto-1 p-0 irq-0 child-0\n0 c rpm_return_int: rpm_idle:a ret=-11\n0 c rpm_return_int: rpm_resume:a ret=0\n0 c pm_ret: get_sync a 0\n0 c pm_call: put_noidle a\n0 c pm_put: a caller\n0 c pm_ret: put_noidle a 0\n",
+        Verdict::YesFinished,
+    ),
+    (
+        "0 c pm_call: enable a\n0 c pm_ret: enable a 0\n0 c pm_call: get_sync a\n0 c pm_get: a caller\n0 c rpm_resume: a flags-4 cnt-2  dep-0  auto-1 p-0 irq-0 child-0\n",
+        Verdict::No {
+            line: 5,
+            why: NoWhy::Step,
+        },
+    ),
+    (
+        "0 c pm_call: enable a\n0 c pm_ret: enable a 0\n0 c pm_call: get_sync a\n0 c pm_get: a caller\n0 c rpm_resume: a flags-4 cnt-1 dep-0  auto-1 p-0 irq-0 child-0\n",
+        Verdict::No {
+            line: 5,
+            why: NoWhy::Text,
+        },
+    ),
+    (
+        "0 c pm_call: enable a\n0 c pm_ret: enable a 0\n0 c pm_call: get_sync a\n0 c pm_get: a caller\n0 c rpm_resume: a flags-4",
+        Verdict::No {
+            line: 5,
+            why: NoWhy::Cut,
+        },
+    ),
+];
+
+#[test]
+fn a_worked_run_is_judged(rt: HostRuntime) -> Result<(), Fail> {
+    for (text, wanted) in &WORKED {
+        let text = text.as_bytes();
+        for len in [text.len().max(1), 7, 1] {
+            assert_eq!(rt;
+                said(rt.alloc(), worked_plan(rt.alloc())?, text, len)?,
+                *wanted,
+                "{text:?} {len}"
+            );
+        }
+        assert_eq!(rt;
+            loaded(rt.alloc(), worked_plan(rt.alloc())?, text)?,
+            *wanted,
+            "{text:?}"
+        );
     }
     Ok(())
 }
@@ -271,7 +376,7 @@ fn each_trace_is_judged_however_it_is_cut(rt: HostRuntime) -> Result<(), Fail> {
 fn a_long_line_is_no_text(rt: HostRuntime) -> Result<(), Fail> {
     let long = [b'0'; 193];
     assert_eq!(rt;
-        said(rt.alloc(), &long, 7)?,
+        said(rt.alloc(), short_plan(rt.alloc())?, &long, 7)?,
         Verdict::No {
             line: 1,
             why: NoWhy::Cut
@@ -280,7 +385,7 @@ fn a_long_line_is_no_text(rt: HostRuntime) -> Result<(), Fail> {
     let mut text = Vec::from_slice(rt.alloc(), &long)?;
     text.push(b'\n')?;
     assert_eq!(rt;
-        said(rt.alloc(), &text, 7)?,
+        said(rt.alloc(), short_plan(rt.alloc())?, &text, 7)?,
         Verdict::No {
             line: 1,
             why: NoWhy::Text

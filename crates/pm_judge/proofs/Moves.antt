@@ -1,7 +1,6 @@
 -- What the state of a run says of a line, and what a line makes of it.
 use Rattle.std.proofs.Common.{ℕ, ◌≡◌, ◌<◌, ◌≤◌, inl, inr, ◌+◌, ◌&&◌, Bool, true, false, List, [], ◌∷◌, length, drop, slice_get, Option, Some, None, option_map, is_some, nat_lt, slice_index_or, if◌then◌else◌, refl, sym, subst, ◌∙◌, ap, arith}
 use Rattle.std.specs.Option.{option_and_then, option_map_or}
-use Rattle.std.proofs.lemmas.Grind.{common_steps}
 use Rattle.std.proofs.lemmas.List.{get_or-set_same, length-set}
 use Rattle.std.proofs.lemmas.Option.{slice_get_cases}
 use Rattle.pm_base.specs.declared.ActorId.{ActorId}
@@ -178,33 +177,18 @@ fits plan h s line c next same is within may shallow =
     let deep = shallow_within plan (after_write plan s.world c line next) s.room line.actor is.roomy after within in
     subst (λ (stages : List Stage). length stages ≤ s.room) (placed_there plan _ line.actor (after_then next (drop 1 (place s.world line.actor))) is.callers is.works is.timers within) deep
 
+-- a state stays one of the plan while its lists stay as long
+as_long : (plan : Plan) (s : Standing) (w : World) → IsOf plan s → length w.caller_places ≡ length s.world.caller_places → length w.work_places ≡ length s.world.work_places
+    → length w.timer_places ≡ length s.world.timer_places → length w.called ≡ length s.world.called → IsOf plan (record s { world = w })
+as_long plan s w is callers works timers called =
+    record { made_for = is.made_for; callers = callers ∙ is.callers; works = works ∙ is.works; timers = timers ∙ is.timers; called = called ∙ is.called; roomy = is.roomy }
+
 placed_of : (plan : Plan) (s : Standing) (w : World) (actor : ActorId) (stages : List Stage) → IsOf plan s
     → w.caller_places ≡ s.world.caller_places → w.work_places ≡ s.world.work_places → w.timer_places ≡ s.world.timer_places → length w.called ≡ length s.world.called
     → IsOf plan (record s { world = with_place w actor stages })
-placed_of plan s w (Caller c) stages is callers works timers called = record {
-  made_for = is.made_for;
-  callers = grind (arith, common_steps, is.callers);
-  works = grind (arith, common_steps, is.works);
-  timers = grind (arith, common_steps, is.timers);
-  called = grind (arith, common_steps, is.called);
-  roomy = is.roomy;
-}
-placed_of plan s w (Work d) stages is callers works timers called = record {
-  made_for = is.made_for;
-  callers = grind (arith, common_steps, is.callers);
-  works = grind (arith, common_steps, is.works);
-  timers = grind (arith, common_steps, is.timers);
-  called = grind (arith, common_steps, is.called);
-  roomy = is.roomy;
-}
-placed_of plan s w (Timer d) stages is callers works timers called = record {
-  made_for = is.made_for;
-  callers = grind (arith, common_steps, is.callers);
-  works = grind (arith, common_steps, is.works);
-  timers = grind (arith, common_steps, is.timers);
-  called = grind (arith, common_steps, is.called);
-  roomy = is.roomy;
-}
+placed_of plan s w (Caller c) stages is callers works timers called = as_long plan s _ is (length-set w.caller_places c stages ∙ ap length callers) (ap length works) (ap length timers) called
+placed_of plan s w (Work d) stages is callers works timers called = as_long plan s _ is (ap length callers) (length-set w.work_places d stages ∙ ap length works) (ap length timers) called
+placed_of plan s w (Timer d) stages is callers works timers called = as_long plan s _ is (ap length callers) (ap length works) (length-set w.timer_places d stages ∙ ap length timers) called
 
 -- the numbers of calls stay as many
 calls_length : (actor : ActorId) (e : Event) (called : List ℕ) → length (counts_call actor e called) ≡ length called
@@ -212,7 +196,7 @@ calls_length (Caller c) (event.Call command) called = length-set called c (slice
 calls_length (Caller c) _ called = refl
 calls_length _ e called = refl
 
--- a state stays one of the plan with each line
+-- so it stays one with each line
 pub stays_of : (plan : Plan) (s : Standing) (c : Change) (line : Line) (next : Then) → IsOf plan s → IsOf plan (record s { world = after_write plan s.world c line next })
 stays_of plan s c line next is =
     placed_of plan s _ line.actor (after_then next (drop 1 (place s.world line.actor))) is refl refl refl (calls_length line.actor line.event s.world.called)
