@@ -11,8 +11,8 @@ use Rattle.pm_report.specs.Report.{summary, summary_text}
 use Rattle.pm_serial.specs.declared.running.End.{End}
 use Rattle.pm_serial.specs.declared.running.End.TheVariants as end
 use Rattle.pm_serial.specs.Ends.{IsSerialEnd}
-use Rattle.pm_traces.specs.Commands.{OfAudit}
-use Rattle.pm_words.specs.Request.{Asked, Audit, Check, Make, Serial, asked_by}
+use Rattle.pm_traces.specs.Commands.{OfAudit, OfConvert, OfTimes, OfWhy}
+use Rattle.pm_words.specs.Request.{Asked, Audit, Check, Convert, Make, Serial, Times, Why, asked_by}
 use Rattle.pm_commands.specs.Counts.{counts_text}
 use Rattle.pm_endings.specs.Coming.{Work}
 use Rattle.pm_endings.specs.Ending.{AtLimit, Done, Ending}
@@ -65,6 +65,9 @@ abbrev pub here : Asked → Option Asked
 here (Serial plan) = Some (Serial plan)
 here (Check plan) = Some (Check plan)
 here (Audit plan trace) = Some (Audit plan trace)
+here (Convert plan trace) = Some (Convert plan trace)
+here (Times plan trace) = Some (Times plan trace)
+here (Why plan trace device) = Some (Why plan trace device)
 here (Make number devices) = Some (Make number devices)
 here _ = None
 
@@ -76,5 +79,8 @@ abbrev pub AskedEnds : Bool → (List ℕ → Option (List ℕ)) → Asked → E
 AskedEnds all told (Serial plan) = OfPlan all (told plan) SerialEnds
 AskedEnds all told (Check plan) = OfPlan all (told plan) CheckEnds
 AskedEnds all told (Audit plan trace) = OfPlan all (told plan) (OfAudit all (told trace))
+AskedEnds all told (Convert plan trace) = OfPlan all (told plan) (OfConvert all (told trace))
+AskedEnds all told (Times plan trace) = OfPlan all (told plan) (OfTimes all (told trace))
+AskedEnds all told (Why plan trace device) = OfPlan all (told plan) (OfWhy all (told trace) device)
 AskedEnds all told (Make number devices) = MakeEnds number devices
 AskedEnds all told _ = λ _. ⊥

@@ -10,15 +10,14 @@ use crate::make::make_top;
 use crate::serial::serial_top;
 use pm_endings::{WRONG_WORDS, refuse_words};
 use pm_io::{Files, Sink};
-use pm_traces::audit_top;
+use pm_traces::{audit_top, convert_top, times_top, why_top};
 use pm_words::{Request, read_words};
 use std::alloc::Global;
 
 /// Runs the command that the words name: they are those after the program's name. The answer is the status
 /// that the program ends with. Wrong words are answered by the usage text, which goes to `err`.
 ///
-/// `serial`, `check`, `audit` and `make` are here as yet; the words of the other commands are answered as
-/// wrong ones.
+/// `run` and `desk` aren't here yet; their words are answered as wrong ones.
 pub fn top<F: Files, O: Sink, E: Sink>(
     alloc: Global,
     words: &[String],
@@ -40,6 +39,15 @@ pub fn top<F: Files, O: Sink, E: Sink>(
         Some(Request::Serial { plan }) => serial_top(alloc, plan, files, out, err),
         Some(Request::Check { plan }) => check_top(alloc, plan, files, out, err),
         Some(Request::Audit { plan, trace }) => audit_top(alloc, plan, trace, files, out, err),
+        Some(Request::Convert { plan, trace }) => convert_top(alloc, plan, trace, files, out, err),
+        Some(Request::Times { plan, trace }) => times_top(alloc, plan, trace, files, out, err),
+        Some(
+            Request::Why {
+                plan,
+                trace,
+                device,
+            },
+        ) => why_top(alloc, plan, trace, device, files, out, err),
         Some(Request::Make { number, devices }) => make_top(alloc, number, devices, out, err),
         _ => refuse_words(err),
     }

@@ -210,7 +210,7 @@ fn the_counts_of_a_plan_are_one_line(rt: HostRuntime) -> Result<(), Fail> {
 }
 
 /// Words, and the status that they give where `plan` is the one file.
-static WORDS: [(&str, u8); 8] = [
+static WORDS: [(&str, u8); 11] = [
     ("serial plan", 0),
     ("serial -- plan", 0),
     ("serial -", 4),
@@ -218,6 +218,9 @@ static WORDS: [(&str, u8); 8] = [
     ("serial plan plan", 2),
     ("check -", 4),
     ("audit plan -", 4),
+    ("convert plan -", 4),
+    ("times plan -", 4),
+    ("why plan - b", 3),
     ("desk plan", 2),
 ];
 

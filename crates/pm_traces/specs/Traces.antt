@@ -1,5 +1,6 @@
 -- What a command that reads a trace may come to (this project's own). Lists of lines have the newest line first.
 use Rattle.std.specs.Prelude.{ℕ, Bool, Option, List, ⊤}
+use Rattle.pm_audit.specs.Auditing.{reason_of}
 use Rattle.pm_base.specs.declared.limits.TheConstants.{TRACE_BYTES}
 use Rattle.pm_io.specs.declared.reading.FileFault.{FileFault}
 use Rattle.pm_io.specs.declared.reading.FileFault.TheVariants as file
@@ -35,3 +36,21 @@ IsTraceUnread told Unread fault.TraceTooLong = IsTooLong told TRACE_BYTES
 IsTraceUnread told Unread fault.ReadFailed = Unread
 IsTraceUnread told Unread fault.NoMemory = ⊤
 IsTraceUnread told Unread _ = ⊥
+
+-- a trace's file stands for this lawful list
+pub record IsLoaded (all : Bool) (told : Option (List ℕ)) (plan : Plan) (h : History) : Type 0 where
+  pub bytes : List ℕ
+  pub holds : Holds all told TRACE_BYTES bytes
+  pub lawful : IsLawful plan h
+  pub stands_for : StandsFor plan bytes h
+
+-- why bytes are made no book: they have a first bad line, or memory ran out
+abbrev pub IsNoBook : Plan → List ℕ → Fault → Type 0
+IsNoBook plan bytes (fault.NotLawful n why) = IsVerdict plan bytes (No n (reason_of why))
+IsNoBook plan bytes fault.NoMemory = ⊤
+IsNoBook plan bytes _ = ⊥
+
+-- why it stands for none, or isn't read: its bytes have a first bad line, or it isn't read to its end
+abbrev pub IsUnloaded : Bool → Option (List ℕ) → Plan → Type 0 → Fault → Type 0
+IsUnloaded all told plan Unread (fault.NotLawful n why) = (bytes : List ℕ) × Holds all told TRACE_BYTES bytes × IsVerdict plan bytes (No n (reason_of why))
+IsUnloaded all told plan Unread f = IsTraceUnread told Unread f

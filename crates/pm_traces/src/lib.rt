@@ -2,9 +2,16 @@
 #![tactic(auto)]
 
 mod audit;
+mod books;
+mod convert;
 mod fault;
 mod feeding;
 #[cfg(test)]
 mod tests;
+mod times;
+mod why;
 
 pub use audit::audit_top;
+pub use convert::convert_top;
+pub use times::times_top;
+pub use why::why_top;

@@ -7,4 +7,3 @@ pub mod Moves
 pub mod UsageLemmas
 pub mod FreeLemmas
 pub mod GetLemmas
-pub mod TextLemmas

@@ -20,7 +20,7 @@ use pm_book::Book;
 use pm_device::{Parts, parent};
 use pm_model::{Line, Plan};
 use std::alloc::Global;
-pub use texts::{ReasonLine, free_text, reason_text};
+pub use texts::{free_text, reason_text};
 
 /// One thing that keeps a device from suspending (this project's own; the rules: `runtime_pm.rst`,
 /// sections 2 to 5). Lines are counted from 1.

@@ -38,6 +38,36 @@ returns-in-Some-Audit-clause-answer g c =
     subst (λ (o : Option Asked). IfSome o (λ asked. Answered (AskedEnds files.tells_all (files.told c.args.files.now) asked) c.audit_top.result unread out err))
     (ap (option_and_then here) names) c.audit_top.ensures
 
+pub returns-in-Some-Convert-clause-answer : goal.returns-in-Some-Convert-clause-answer
+returns-in-Some-Convert-clause-answer g c =
+    let files = g.F.Files in
+    let unread = Rose (files.faults c.args.files.now) (files.faults c.convert_top.new.files) in
+    let out = taking g.O.Sink.taken g.O.Sink.faults c.args.out.now c.convert_top.new.out in
+    let err = taking g.E.Sink.taken g.E.Sink.faults c.args.err.now c.convert_top.new.err in
+    let names = rw c.in-Some-Convert.field-0-is at c.in-Some-Convert.ensures.request in
+    subst (λ (o : Option Asked). IfSome o (λ asked. Answered (AskedEnds files.tells_all (files.told c.args.files.now) asked) c.convert_top.result unread out err))
+    (ap (option_and_then here) names) c.convert_top.ensures
+
+pub returns-in-Some-Times-clause-answer : goal.returns-in-Some-Times-clause-answer
+returns-in-Some-Times-clause-answer g c =
+    let files = g.F.Files in
+    let unread = Rose (files.faults c.args.files.now) (files.faults c.times_top.new.files) in
+    let out = taking g.O.Sink.taken g.O.Sink.faults c.args.out.now c.times_top.new.out in
+    let err = taking g.E.Sink.taken g.E.Sink.faults c.args.err.now c.times_top.new.err in
+    let names = rw c.in-Some-Times.field-0-is at c.in-Some-Times.ensures.request in
+    subst (λ (o : Option Asked). IfSome o (λ asked. Answered (AskedEnds files.tells_all (files.told c.args.files.now) asked) c.times_top.result unread out err))
+    (ap (option_and_then here) names) c.times_top.ensures
+
+pub returns-in-Some-Why-clause-answer : goal.returns-in-Some-Why-clause-answer
+returns-in-Some-Why-clause-answer g c =
+    let files = g.F.Files in
+    let unread = Rose (files.faults c.args.files.now) (files.faults c.why_top.new.files) in
+    let out = taking g.O.Sink.taken g.O.Sink.faults c.args.out.now c.why_top.new.out in
+    let err = taking g.E.Sink.taken g.E.Sink.faults c.args.err.now c.why_top.new.err in
+    let names = rw c.in-Some-Why.field-0-is at c.in-Some-Why.ensures.request in
+    subst (λ (o : Option Asked). IfSome o (λ asked. Answered (AskedEnds files.tells_all (files.told c.args.files.now) asked) c.why_top.result unread out err))
+    (ap (option_and_then here) names) c.why_top.ensures
+
 pub returns-in-Some-Make-clause-answer : goal.returns-in-Some-Make-clause-answer
 returns-in-Some-Make-clause-answer g c =
     let files = g.F.Files in
