@@ -7,6 +7,7 @@ use std::test::Fail;
 use std::thread;
 
 const A: DevId = DevId(0);
+
 const B: DevId = DevId(1);
 
 #[test]

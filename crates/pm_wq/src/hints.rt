@@ -34,11 +34,10 @@ impl Hints {
         Ok(Hints { queue })
     }
 
-    /// A pass, for one thread.
-    pub fn pass(&mut self) -> HintPass
-        ensures of { IsOf self.new result }
+    /// A pass, for one thread. Any thread may make its own.
+    pub fn pass(&self) -> HintPass
+        ensures of { IsOf self.now result }
         ensures nothing { log result ≡ nothing }
-        ensures same { self.new ≡ self.old }
     {
         HintPass {
             pass: self.queue.pass(),

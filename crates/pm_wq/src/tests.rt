@@ -5,7 +5,7 @@ use std::test::Fail;
 
 #[test]
 fn hints_come_in_order_and_a_full_queue_loses_one(rt: HostRuntime) -> Result<(), Fail> {
-    let mut hints = Hints::new(rt.alloc(), 2)?;
+    let hints = Hints::new(rt.alloc(), 2)?;
     let mut teller = hints.pass();
     let mut asker = hints.pass();
     assert!(rt; hints.tell(&rt, &mut teller, 7));
