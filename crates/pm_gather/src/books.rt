@@ -1,0 +1,74 @@
+//! The book of one island.
+
+ghost use Rattle.std.specs.Prelude.{◌≡◌, ◌≤◌, ◌^◌, ◌↔◌, [], IfOk, IfSome, IsTrue};
+ghost use Rattle.pm_model.specs.Lawful.{IsFinished, IsLawful, last_time};
+ghost use Rattle.pm_serial.specs.Ends.{HasTime};
+
+use pm_base::NoMemory;
+use pm_book::Book;
+use pm_model::Plan;
+use pm_serial::{End, drain, fresh_books_have_time};
+use std::alloc::Global;
+
+/// Milliseconds from one line to the next on one thread, at most.
+const STEP: u64 = 1_000_000;
+
+/// The lines of a book that is drained come no later, in milliseconds of the run.
+const LATEST: u64 = 1 << 62;
+
+// Whether there is time for every line that a book's plan still allows: the condition of `drain`.
+fn has_time(book: &Book) -> bool
+    ensures { IsTrue result ↔ HasTime book.now.plan book.now.lines }
+{
+    let lines = book.lines();
+    let last = match lines.last() {
+        Some(line) => line.time,
+        None => 0,
+    };
+    let free = (book.plan().lines as usize).saturating_sub(lines.len());
+    last.saturating_add(STEP * free as u64) <= LATEST
+}
+
+// The book of a plan with no lines.
+fn fresh(alloc: Global, plan: Plan) -> Result<Book, NoMemory>
+    ensures plan { IfOk result (λ book. book.plan ≡ plan) }
+    ensures lines { IfOk result (λ book. book.lines ≡ []) }
+{
+    match Book::start(alloc, plan) {
+        Ok(book) => Ok(book),
+        Err((_plan, error)) => Err(error),
+    }
+}
+
+/// The book of this plan that can be drained: the one that came from behind a lock, or where that is a
+/// book of another plan or there isn't time for its lines, a fresh one. Fails where memory runs out.
+pub fn mended(alloc: Global, plan: Plan, book: Book) -> Result<Book, NoMemory>
+    ensures plan { IfOk result (λ mended. mended.plan ≡ plan) }
+    ensures in_time { IfOk result (λ mended. HasTime mended.plan mended.lines) }
+    ensures kept { book.plan ≡ plan → HasTime book.plan book.lines → IfOk result (λ mended. mended ≡ book) }
+{
+    fresh_books_have_time();
+    if book.plan().same(&plan) && has_time(&book) {
+        return Ok(book);
+    }
+    fresh(alloc, plan)
+}
+
+/// The book of this plan whose run is finished: one from behind a lock that is mended, and drained. There
+/// is none where its list has all lines that the plan allows, and the run isn't finished. Fails where
+/// memory runs out.
+pub fn finished(alloc: Global, plan: Plan, book: Book) -> Result<Option<Book>, NoMemory>
+    ensures plan { IfOk result (λ o. IfSome o (λ book. book.plan ≡ plan)) }
+    ensures lawful { IfOk result (λ o. IfSome o (λ book. IsLawful book.plan book.lines)) }
+    ensures finished { IfOk result (λ o. IfSome o (λ book. IsFinished book.plan book.lines)) }
+    ensures in_time { IfOk result (λ o. IfSome o (λ book. last_time book.lines ≤ 2 ^ 62)) }
+{
+    let mut book = mended(alloc, plan, book)?;
+    match drain(&mut book)? {
+        End::Finished => {
+            let _ = book.lines();
+            Ok(Some(book))
+        }
+        End::AtLimit => Ok(None),
+    }
+}

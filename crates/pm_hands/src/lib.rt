@@ -1,0 +1,10 @@
+//! Runs books by several threads, one lock round each book (this project's own).
+#![tactic(auto)]
+
+mod hands;
+mod turn;
+mod way;
+
+pub use hands::run_hands;
+pub use turn::{Callback, Turn, Wrote, end, take_turn};
+pub use way::next_island;

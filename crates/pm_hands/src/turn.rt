@@ -1,0 +1,258 @@
+//! What a hand does with a book in one hold of its lock.
+
+ghost use Rattle.std.specs.Prelude.{◌≡◌, ◌+◌, ◌*◌, false, true, IfNone, IfOk, IfSome, IsTrue, MatchOption, OnErr, length};
+ghost use Rattle.pm_model.specs.Lawful.{IsFinished};
+ghost use Rattle.pm_model.specs.PlanRows.{ms_of};
+ghost use Rattle.pm_book.specs.Pages.{has_written, is_full, step_answer, world_of};
+ghost use Rattle.pm_serial.specs.Ends.{IsTurn};
+ghost use Rattle.pm_state.specs.Standing.{IsActor};
+ghost use Rattle.pm_state.specs.Turns.{is_running};
+ghost use Rattle.pm_hands.specs.Turning.{AddsOne, ByTurn, ByWrote, Goes, SomeRuns};
+
+use pm_base::{ActorId, Cb, DevId, NoMemory};
+use pm_book::{Book, EndStep, Step};
+use pm_bounds::due_moments;
+use pm_device::ms_of;
+use pm_model::Plan;
+use pm_stuck::serial_stops;
+
+/// A callback that a hand began.
+#[derive(Clone, Copy, Debug, PartialEq, Eq)]
+pub struct Callback {
+    /// Who began it.
+    pub actor: ActorId,
+    /// The device's.
+    pub dev: DevId,
+    pub cb: Cb,
+    /// Which of its kind on the device it is, counted from 1.
+    pub nth: u64,
+    /// How long it takes by the plan, in milliseconds.
+    pub ms: u32,
+}
+
+/// A line that was written.
+#[derive(Clone, Copy, Debug, PartialEq, Eq)]
+pub enum Wrote {
+    /// It began this callback.
+    Began(Callback),
+    /// It began none.
+    Line,
+}
+
+/// What came of a hand's turn with a book.
+#[derive(Clone, Copy, Debug, PartialEq, Eq)]
+pub enum Turn {
+    /// A line was written.
+    Wrote(Wrote),
+    /// No line may be written now: a callback runs, or others are early while one does.
+    Waits,
+    /// The run is finished, or its list has all the lines that the plan allows, or its time is at an end.
+    Over,
+}
+
+// How long a callback of a device takes, in milliseconds; 0 of a device that isn't the plan's.
+#[tactic(auto, using(crate::proofs::StepLemmas::no_device))]
+fn callback_ms(plan: &Plan, dev: DevId, cb: Cb) -> u32
+    ensures { result ≡ ms_of plan.now cb dev }
+{
+    if (dev.0 as usize) < plan.devices.len() {
+        ms_of(plan, cb, dev)
+    } else {
+        0
+    }
+}
+
+// How many actors a plan has.
+fn actor_count(plan: &Plan) -> usize
+    ensures { result ≡ length plan.now.callers + 2 * length plan.now.devices }
+{
+    plan.callers.len() + 2 * plan.devices.len()
+}
+
+// The actor at a place: callers come first, then work items, then timers.
+fn actor_at(plan: &Plan, place: usize) -> Option<ActorId>
+    ensures { IfSome result (IsActor plan.now) }
+{
+    let callers = plan.callers.len();
+    let devices = plan.devices.len();
+    if place < callers {
+        Some(ActorId::Caller(place as u32))
+    } else if place < callers + devices {
+        Some(ActorId::Work((place - callers) as u32))
+    } else if place < callers + 2 * devices {
+        Some(ActorId::Timer((place - callers - devices) as u32))
+    } else {
+        None
+    }
+}
+
+// Whether the actor is one of the plan's.
+fn is_actor(plan: &Plan, actor: ActorId) -> bool
+    ensures { IsTrue result → IsActor plan.now actor }
+{
+    match actor {
+        ActorId::Caller(caller) => (caller as usize) < plan.callers.len(),
+        ActorId::Work(device) | ActorId::Timer(device) => (device as usize) < plan.devices.len(),
+    }
+}
+
+// Whose turn it is on one thread, and when; nobody's where the run is finished.
+fn next_turn(book: &Book) -> Option<(ActorId, u64)>
+    ensures none { IfNone result (IsFinished book.now.plan book.now.lines) }
+    ensures some { IfSome result (λ turn. IsTurn book.now turn.0 turn.1) }
+{
+    due_moments();
+    serial_stops();
+    let _ = book.lines();
+    book.next_turn()
+}
+
+// Lets an actor go on by one line, if it may.
+fn try_step(book: &mut Book, actor: ActorId, now: u64) -> Result<Option<Wrote>, NoMemory>
+    requires { IsActor book.old.plan actor }
+    ensures ok { IfOk result (λ wrote. MatchOption wrote
+        ((book.new ≡ book.old) × (has_written (step_answer book.old actor now) ≡ false))
+        (ByWrote book.old book.new)) }
+    ensures err { OnErr result (book.new ≡ book.old) }
+{
+    match book.step(actor, now)? {
+        Step::Begun(dev, cb, nth) => Ok(Some(Wrote::Began(Callback {
+            actor,
+            dev,
+            cb,
+            nth,
+            ms: callback_ms(book.plan(), dev, cb),
+        }))),
+        Step::Wrote => Ok(Some(Wrote::Line)),
+        _ => Ok(None),
+    }
+}
+
+// Lets the first actor go on by one line that may.
+fn step_any(book: &mut Book, now: u64) -> Result<Option<Wrote>, NoMemory>
+    ensures ok { IfOk result (λ wrote. MatchOption wrote (book.new ≡ book.old) (ByWrote book.old book.new)) }
+    ensures err { OnErr result (book.new ≡ book.old) }
+{
+    for place in 0..actor_count(book.plan()) {
+        let Some(actor) = actor_at(book.plan(), place) else {
+            break;
+        };
+        if let Some(wrote) = try_step(book, actor, now)? {
+            return Ok(Some(wrote));
+        }
+    }
+    Ok(None)
+}
+
+// Whether a callback runs that some actor began.
+fn any_runs(book: &Book) -> bool
+    ensures { IsTrue result → SomeRuns book.now }
+{
+    for place in 0..actor_count(book.plan()) {
+        let Some(actor) = actor_at(book.plan(), place) else {
+            break;
+        };
+        if book.running(actor) {
+            return true;
+        }
+    }
+    false
+}
+
+// Where the callback of the actor runs whose turn it is, lets another go on.
+fn step_beside(book: &mut Book, now: u64) -> Result<Turn, NoMemory>
+    requires full { is_full book.old ≡ false }
+    requires runs { SomeRuns book.old }
+    ensures ok { IfOk result (ByTurn book.old book.new) }
+    ensures err { OnErr result (book.new ≡ book.old) }
+{
+    match step_any(book, now)? {
+        Some(wrote) => Ok(Turn::Wrote(wrote)),
+        None => Ok(Turn::Waits),
+    }
+}
+
+// Where no callback runs, lets the actor go on whose turn it is, at the moment of its turn.
+fn step_due(book: &mut Book, actor: ActorId, moment: u64) -> Result<Turn, NoMemory>
+    requires full { is_full book.old ≡ false }
+    requires turn { IsTurn book.old actor moment }
+    requires rests { is_running book.old.plan (world_of book.old) actor ≡ false }
+    ensures ok { IfOk result (ByTurn book.old book.new) }
+    ensures err { OnErr result (book.new ≡ book.old) }
+{
+    if any_runs(book) {
+        return Ok(Turn::Waits);
+    }
+    match try_step(book, actor, moment)? {
+        Some(wrote) => Ok(Turn::Wrote(wrote)),
+        None => Ok(Turn::Over),
+    }
+}
+
+// Lets the actor go on whose turn it is, now or, where no callback runs, at the moment of its turn.
+fn step_next(book: &mut Book, actor: ActorId, moment: u64, now: u64) -> Result<Turn, NoMemory>
+    requires full { is_full book.old ≡ false }
+    requires turn { IsTurn book.old actor moment }
+    requires rests { is_running book.old.plan (world_of book.old) actor ≡ false }
+    ensures ok { IfOk result (ByTurn book.old book.new) }
+    ensures err { OnErr result (book.new ≡ book.old) }
+{
+    match try_step(book, actor, now)? {
+        Some(wrote) => Ok(Turn::Wrote(wrote)),
+        None => step_due(book, actor, moment),
+    }
+}
+
+/// Lets an actor that may go on by one line, at the moment of the last line, or at this later one by the
+/// clock, in milliseconds of the run. Where all are early and no callback runs, the earliest moment at
+/// which a line is due counts as now. All answers but `Wrote` change nothing, and so does `NoMemory`.
+pub fn take_turn(book: &mut Book, now: u64) -> Result<Turn, NoMemory>
+    ensures ok { IfOk result (ByTurn book.old book.new) }
+    ensures err { OnErr result (book.new ≡ book.old) }
+{
+    if book.is_full() {
+        return Ok(Turn::Over);
+    }
+    let Some((actor, moment)) = next_turn(book) else {
+        return Ok(Turn::Over);
+    };
+    if book.running(actor) {
+        return step_beside(book, now);
+    }
+    step_next(book, actor, moment, now)
+}
+
+// Ends a running callback, and says whether it did or the list is full. A late one ends at the moment at
+// which its end is due.
+fn end_running(book: &mut Book, actor: ActorId, now: u64, is_late: bool) -> bool
+    requires in_range { IsActor book.old.plan actor }
+    requires runs { is_running book.old.plan (world_of book.old) actor ≡ true }
+    ensures goes { Goes book.old book.new }
+    ensures late { is_late ≡ true → result ≡ true }
+    ensures open { result ≡ false → book.new ≡ book.old }
+{
+    match book.end_callback(actor, now) {
+        EndStep::Wrote | EndStep::AtLimit => true,
+        EndStep::Early(at) => {
+            if is_late {
+                book.end_callback(actor, at);
+            }
+            is_late
+        }
+    }
+}
+
+/// Writes the end line of a callback that the actor began, and says whether nothing of it is left to do:
+/// the line was written, or the list is full, or no callback of the actor runs. It is written at this
+/// moment by the clock, or where it is late, at the moment at which it is due.
+pub fn end(book: &mut Book, actor: ActorId, now: u64, is_late: bool) -> bool
+    ensures goes { Goes book.old book.new }
+    ensures late { is_late ≡ true → result ≡ true }
+    ensures open { result ≡ false → book.new ≡ book.old }
+{
+    if is_actor(book.plan(), actor) && book.running(actor) {
+        end_running(book, actor, now, is_late)
+    } else {
+        true
+    }
+}
