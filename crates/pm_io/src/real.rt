@@ -1,15 +1,15 @@
 //! The files and streams of the system. They tell no content.
-ghost use Rattle.std.specs.Prelude.{◌≡◌, ◌<◌, ◌≤◌, length, false, None, IfOk, OnErr};
+ghost use Rattle.std.specs.Prelude.{◌≡◌, ◌<◌, ◌≤◌, length, false, None, IfOk, IfSome, OnErr};
 ghost use Rattle.pm_io.specs.Faults.{Rose};
 
 use crate::faults::fault;
 use crate::reading::Files;
 use crate::writing::Sink;
 use pm_base::{Failed, PIECE_BYTES};
-use std::fs;
-use std::io::{Print, Read, Stderr, Stdout};
+use std::io::{ErrorKind, Print, Read, Stderr, Stdout};
 use std::marker::Model;
 use std::rt::Files as FileSystem;
+use std::{fs, io};
 
 /// The files of a file system, by their paths.
 #[derive(Drop)]
@@ -66,7 +66,7 @@ impl<R: FileSystem + Drop> Files for DiskFiles<R> {
 
     fn start_file(&mut self, name: &str) -> Result<(), Failed> {
         self.place = 0;
-        self.file = fs::open(&self.rt, name).ok();
+        self.file = open_file(&self.rt, name);
         match &self.file {
             Some(_) => Ok(()),
             None => Err(fault(&mut self.faults)),
@@ -80,15 +80,47 @@ impl<R: FileSystem + Drop> Files for DiskFiles<R> {
         let Some(file) = &mut self.file else {
             unreachable!()
         };
-        match file.read(&mut piece[..most]) {
-            Ok(count) => {
+        match read_some(file, &mut piece[..most]) {
+            Some(count) => {
                 buf[..count].copy_from_slice(&piece[..count]);
                 self.place += count as u64;
                 Ok(count)
             }
-            Err(_) => Err(fault(&mut self.faults)),
+            None => Err(fault(&mut self.faults)),
         }
     }
+}
+
+/// Whether the system interrupted a call. It is made again then.
+fn is_interrupted(error: &io::Error) -> bool {
+    error.kind() == ErrorKind::Interrupted
+}
+
+/// The file of this name; `None` where it can't be opened.
+fn open_file<R: FileSystem>(rt: &R, name: &str) -> Option<R::File> {
+    for _ in 0..u64::MAX {
+        match fs::open(rt, name) {
+            Ok(file) => return Some(file),
+            Err(error) if is_interrupted(&error) => {}
+            Err(_) => return None,
+        }
+    }
+    None
+}
+
+/// Reads some bytes into the buffer; `None` where that fails.
+fn read_some<F: Read>(file: &mut F, buf: &mut [u8]) -> Option<usize>
+    ensures within { IfSome result (λ n. n ≤ length buf.old) }
+    ensures length { length buf.new ≡ length buf.old }
+{
+    for _ in 0..u64::MAX {
+        match file.read(buf) {
+            Ok(count) => return Some(count),
+            Err(error) if is_interrupted(&error) => {}
+            Err(_) => return None,
+        }
+    }
+    None
 }
 
 /// The standard output.
@@ -121,7 +153,7 @@ impl Sink for StdOut {
     ghost faults = { λ faults. faults };
 
     fn write(&mut self, piece: &[u8]) -> Result<usize, Failed> {
-        write_some(&self.stream, piece, &mut self.faults)
+        write_to(&self.stream, piece, &mut self.faults)
     }
 }
 
@@ -155,20 +187,35 @@ impl Sink for StdErr {
     ghost faults = { λ faults. faults };
 
     fn write(&mut self, piece: &[u8]) -> Result<usize, Failed> {
-        write_some(&self.stream, piece, &mut self.faults)
+        write_to(&self.stream, piece, &mut self.faults)
     }
 }
 
-/// Writes some of the piece. A failure, and 0 for a piece that isn't empty, count as a fault.
-fn write_some(stream: &impl Print, piece: &[u8], faults: &mut u64) -> Result<usize, Failed>
+/// Writes some of the piece; `None` where that fails, or takes nothing of a piece that isn't empty.
+fn write_some<P: Print>(stream: &P, piece: &[u8]) -> Option<usize>
+    ensures within { IfSome result (λ n. n ≤ length piece.now) }
+    ensures some { IfSome result (λ n. 0 < length piece.now → 0 < n) }
+{
+    for _ in 0..u64::MAX {
+        match stream.write_some(piece) {
+            Ok(count) if count > 0 || piece.is_empty() => return Some(count),
+            Err(error) if is_interrupted(&error) => {}
+            _ => return None,
+        }
+    }
+    None
+}
+
+/// Writes some of the piece to a stream, and counts a fault where that fails.
+fn write_to<P: Print>(stream: &P, piece: &[u8], faults: &mut u64) -> Result<usize, Failed>
     ensures within { IfOk result (λ n. n ≤ length piece.now) }
     ensures some { IfOk result (λ n. 0 < length piece.now → 0 < n) }
     ensures failed { OnErr result (Rose faults.old faults.new) }
     ensures never_falls { faults.old ≤ faults.new }
 {
-    match stream.write_some(piece) {
-        Ok(count) if count > 0 || piece.is_empty() => Ok(count),
-        _ => Err(fault(faults)),
+    match write_some(stream, piece) {
+        Some(count) => Ok(count),
+        None => Err(fault(faults)),
     }
 }
 
