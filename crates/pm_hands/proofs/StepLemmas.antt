@@ -1,6 +1,6 @@
 -- What a step's answer tells.
 use Rattle.std.proofs.Common.{◌≡◌, ◌+◌, ◌≤◌, ℕ, Bool, true, false, Option, Some, None, length, MatchOption, refl, sym, ap, arith, inr, ◌∙◌, if◌then◌else◌}
-use Rattle.std.proofs.lemmas.Bool.{false≢true}
+use Rattle.std.proofs.lemmas.Bool.{false_from_ne_true, false≢true}
 use Rattle.std.proofs.lemmas.Option.{slice_get_past}
 use Rattle.std.specs.Option.{option_map_or}
 use Rattle.pm_base.specs.declared.ActorId.{ActorId}
@@ -18,8 +18,8 @@ use Rattle.pm_model.specs.World.{move, stage_at}
 use Rattle.pm_book.specs.declared.steps.Step.{Step}
 use Rattle.pm_book.specs.declared.steps.Step.TheVariants as step
 use Rattle.pm_book.specs.Pages.{Adds, Pages, by_move, by_running, by_stage, has_written, is_full, moment_from, step_answer, world_of, written}
-use Rattle.pm_serial.specs.Ends.{HasTime, IsTurn}
-use Rattle.pm_serial.proofs.TurnLemmas.{step_writes}
+use Rattle.pm_serial.specs.Ends.{HasTime, IsTurn, says_running}
+use Rattle.pm_serial.proofs.TurnLemmas.{runs_behind, step_alone}
 use Rattle.pm_state.specs.Turns.{is_running, running_due}
 use Rattle.pm_hands.specs.declared.turn.Wrote.{Wrote}
 use Rattle.pm_hands.specs.Turning.{Begins, ByWrote, IsOver}
@@ -33,7 +33,9 @@ no_device plan k d past = ap (λ o. option_map_or (ms_of_row k) o 0) (slice_get_
 pub out_of_time : (p : Pages) (a : ActorId) (now : ℕ) → IsTurn p a now → is_full p ≡ false → is_running p.plan (world_of p) a ≡ false → has_written (step_answer p a now) ≡ false
     → ¬ HasTime p.plan p.lines
 out_of_time p a now turn free rests silent time =
-    let w = step_writes p p a now (step_answer p a now) turn free time rests refl (λ yes. absurd (false≢true (sym silent ∙ yes))) in
+    let s = step_answer p a now in
+    let says : says_running s ≡ false = false_from_ne_true (says_running s) (λ runs. absurd (false≢true (sym rests ∙ runs_behind p p a now s free refl runs (λ same. refl)))) in
+    let w = step_alone p p a now s turn free time refl says (λ yes. absurd (false≢true (sym silent ∙ yes))) in
     let longer = ap length w.added.lines in
     absurd (omega (arith, longer))
 
