@@ -5,8 +5,6 @@
 mod books;
 mod lists;
 mod locks;
-#[cfg(test)]
-mod tests;
 
 pub use books::{finished, mended};
 pub use lists::gather;

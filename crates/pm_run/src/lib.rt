@@ -1,8 +1,11 @@
-//! `run PLAN`: runs the plan by several threads (this project's own).
+//! Runs of plans, on one thread and by several, and what writes their lines (this project's own).
 #![tactic(auto)]
 
-mod alone;
-mod top;
+mod running;
+mod serial;
+mod threads;
 mod writing;
 
-pub use top::run_top;
+pub use running::{Ran, ended, is_whole, run_alone};
+pub use serial::serial_top;
+pub use threads::run_top;

@@ -15,9 +15,9 @@ use pm_linetext::LineSpeller;
 use pm_model::{Line, Plan};
 use std::alloc::Global;
 
-/// Writes the text of lines of the plan, in the format of its trace. Everything that takes memory comes
-/// before the first write.
-pub fn write_lines<O: Sink>(
+/// Writes lines of the plan, in the format of its traces. Everything that takes memory comes before the
+/// first write.
+pub(crate) fn write_lines<O: Sink>(
     alloc: Global,
     plan: &Plan,
     lines: &[Line],
@@ -32,8 +32,8 @@ pub fn write_lines<O: Sink>(
     Ok(())
 }
 
-/// Writes the text of a book's lines.
-pub fn write_book<O: Sink>(alloc: Global, book: &Book, out: &mut O) -> Result<(), Fault>
+/// Writes the lines of a book.
+pub(crate) fn write_book<O: Sink>(alloc: Global, book: &Book, out: &mut O) -> Result<(), Fault>
     ensures { Wrote (text book.now.plan (reverse book.now.lines)) result
         (taking O.taken O.faults out.old out.new) }
 {

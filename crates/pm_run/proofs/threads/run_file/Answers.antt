@@ -3,8 +3,8 @@ use Rattle.std.proofs.lemmas.Result.{err_from_is_err_and}
 use Rattle.pm_io.specs.Faults.{Rose}
 use Rattle.pm_endings.specs.Ending.{taking}
 use Rattle.pm_endings.proofs.ReadLemmas.{came_read, came_unread}
-use Rattle.pm_run.specs.RunEnds.{RunEnds}
-use Rattle.pm_run.proofs.top.run_file.Goals as goal
+use Rattle.pm_run.specs.Runs.{RunEnds}
+use Rattle.pm_run.proofs.threads.run_file.Goals as goal
 
 pub returns-in_err-plan : goal.returns-in_err-plan
 returns-in_err-plan g c =

@@ -2,8 +2,8 @@ use Rattle.pm_io.specs.Faults.{Rose}
 use Rattle.pm_endings.specs.Ending.{taking}
 use Rattle.pm_endings.specs.Reading.{OfPlan}
 use Rattle.pm_endings.proofs.EndLemmas.{answered}
-use Rattle.pm_run.specs.RunEnds.{RunEnds}
-use Rattle.pm_run.proofs.top.run_top.Goals as goal
+use Rattle.pm_run.specs.Runs.{RunEnds}
+use Rattle.pm_run.proofs.threads.run_top.Goals as goal
 
 pub returns : goal.returns
 returns g c =
