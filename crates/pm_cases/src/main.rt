@@ -14,8 +14,11 @@ use comparing::{stored, verdict};
 use counters::counters_text;
 use pm_base::PIECE_BYTES;
 use pm_commands::top;
+use pm_gate::{Quiet, Ticker};
 use pm_io::{DiskFiles, Files, MemSink};
 use std::alloc::{AllocError, Global};
+use std::sync::Wait;
+use std::thread::Threads;
 
 fn main(rt: HostRuntime) -> Result<()> {
     let alloc = rt.alloc();
@@ -23,7 +26,7 @@ fn main(rt: HostRuntime) -> Result<()> {
     let commands = stored(alloc, &mut files, "commands.list")?;
     for case in str::from_utf8(&commands)?.lines() {
         if let Some((kept, words)) = case_in(case) {
-            let told = run_command(alloc, &mut files, kept, words)?;
+            let told = run_command(&rt, alloc, &mut files, kept, words)?;
             println!(rt; "{words}: {told}")?;
         }
     }
@@ -48,11 +51,18 @@ fn case_in(line: &str) -> Option<(&str, &str)> {
 
 /// Runs the command that the words name, and tells its status, its message and how its output compares
 /// with what is stored.
-fn run_command<F: Files>(alloc: Global, files: &mut F, kept: &str, words: &str) -> Result<String> {
+fn run_command<R: Threads + Wait + Sync, F: Files>(
+    rt: &R,
+    alloc: Global,
+    files: &mut F,
+    kept: &str,
+    words: &str,
+) -> Result<String> {
     let mut out = MemSink::new(alloc, PIECE_BYTES, Vec::new(alloc));
     let mut err = MemSink::new(alloc, PIECE_BYTES, Vec::new(alloc));
     let words = words_of(alloc, words)?;
-    let status = top(alloc, &words, files, &mut out, &mut err);
+    let clock = Ticker::new(Vec::from_slice(alloc, &[0])?);
+    let status = top(rt, alloc, &words, files, &mut out, &mut err, &clock, &Quiet);
     let message = str::from_utf8(err.taken())?;
     let told = verdict(alloc, files, out.taken(), kept)?;
     Ok(format!(in alloc; "status {status}, err {message:?}, out {told}")?)

@@ -11,7 +11,7 @@ use Rattle.pm_planread.specs.PlanOf.{plan_of}
 use Rattle.pm_plantree.specs.declared.place.Section.TheVariants.{Top}
 use Rattle.pm_serial.specs.declared.running.End.{End}
 use Rattle.pm_serial.specs.declared.running.End.TheVariants as end
-use Rattle.pm_commands.specs.Commands.{SerialEnds, run_ending}
+use Rattle.pm_run.specs.Runs.{SerialEnds, run_ending}
 use Rattle.pm_endings.specs.Ending.{Answered, Ending, Failed, Taking, TookTextPart, ended, no_memory, status_of, text_of, unread, unwritten}
 use Rattle.pm_commands.specs.Exactly.{refused_statuses, run_statuses}
 use Rattle.pm_endings.specs.Reading.{OfBytes, OfPlan, held, read, refused, too_long}

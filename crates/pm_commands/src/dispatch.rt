@@ -7,23 +7,31 @@ ghost use Rattle.pm_endings.specs.Ending.{Answered, Told, taking, usage};
 
 use crate::check::check_top;
 use crate::make::make_top;
-use crate::serial::serial_top;
 use pm_endings::{WRONG_WORDS, refuse_words};
+use pm_gate::{Clock, Gate};
 use pm_io::{Files, Sink};
+use pm_run::{run_top, serial_top};
 use pm_traces::{audit_top, convert_top, times_top, why_top};
 use pm_words::{Request, read_words};
 use std::alloc::Global;
+use std::sync::Wait;
+use std::thread::Threads;
 
 /// Runs the command that the words name: they are those after the program's name. The answer is the status
 /// that the program ends with. Wrong words are answered by the usage text, which goes to `err`.
 ///
-/// `run` and `desk` aren't here yet; their words are answered as wrong ones.
-pub fn top<F: Files, O: Sink, E: Sink>(
+/// `run` hands `clock` and `gate` on to its threads and may wait for them; no other command does.
+///
+/// `desk` isn't here yet; its words are answered as wrong ones.
+pub fn top<R: Threads + Wait + Sync, F: Files, O: Sink, E: Sink, C: Clock + Sync, G: Gate + Sync>(
+    rt: &R,
     alloc: Global,
     words: &[String],
     files: &mut F,
     out: &mut O,
     err: &mut E,
+    clock: &C,
+    gate: &G,
 ) -> u8
     ensures words { (result ≡ WRONG_WORDS) ↔ IsNone (named (map string_bytes words.now)) }
     ensures untouched { result ≡ WRONG_WORDS → (files.new ≡ files.old) × (out.new ≡ out.old) }
@@ -37,6 +45,9 @@ pub fn top<F: Files, O: Sink, E: Sink>(
 {
     match read_words(words) {
         Some(Request::Serial { plan }) => serial_top(alloc, plan, files, out, err),
+        Some(Request::Run { plan, hands }) => {
+            run_top(rt, alloc, plan, hands, files, out, err, clock, gate)
+        }
         Some(Request::Check { plan }) => check_top(alloc, plan, files, out, err),
         Some(Request::Audit { plan, trace }) => audit_top(alloc, plan, trace, files, out, err),
         Some(Request::Convert { plan, trace }) => convert_top(alloc, plan, trace, files, out, err),

@@ -3,7 +3,7 @@
 ghost use Rattle.std.specs.Prelude.{ℕ, Bool, List, Some, None, Contains, IsErr, IsOk, IsTrue};
 ghost use Rattle.pm_io.specs.Faults.{Rose};
 ghost use Rattle.pm_planread.specs.PlanOf.{plan_of};
-ghost use Rattle.pm_commands.specs.Commands.{SerialEnds};
+ghost use Rattle.pm_run.specs.Runs.{SerialEnds};
 ghost use Rattle.pm_endings.specs.Ending.{Answered, Failed, Taking};
 ghost use Rattle.pm_commands.specs.Exactly.{refused_statuses, run_statuses};
 ghost use Rattle.pm_endings.specs.Reading.{OfPlan};

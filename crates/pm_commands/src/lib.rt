@@ -6,8 +6,6 @@ mod counts;
 mod dispatch;
 mod laws;
 mod make;
-mod running;
-mod serial;
 #[cfg(test)]
 mod tests;
 
@@ -16,4 +14,3 @@ pub use counts::counts_text;
 pub use dispatch::top;
 pub use laws::serial_answers_exactly;
 pub use make::make_top;
-pub use serial::serial_top;

@@ -3,15 +3,16 @@
 ghost use Rattle.std.specs.Prelude.{◌≤◌, reverse};
 ghost use Rattle.pm_base.specs.declared.limits.TheConstants.{MAX_DEVICES};
 ghost use Rattle.pm_report.specs.Report.{summary, summary_text};
+ghost use Rattle.pm_run.specs.Runs.{is_whole};
 ghost use Rattle.pm_endings.specs.Coming.{Came, Wrote};
-ghost use Rattle.pm_commands.specs.Commands.{MakeEnds, is_whole};
+ghost use Rattle.pm_commands.specs.Commands.{MakeEnds};
 ghost use Rattle.pm_endings.specs.Ending.{Answered, taking};
 
-use crate::running::{Ran, ended, is_whole, run};
 use pm_endings::{Fault, finish};
 use pm_io::{Sink, write_whole};
 use pm_make::make_plan;
 use pm_report::{summary, summary_text};
+use pm_run::{Ran, ended, is_whole, run_alone};
 use std::alloc::Global;
 
 /// Runs `make NUMBER DEVICES`: makes the plan of the generator for the number and 1 to 1,024 devices, runs
@@ -39,7 +40,7 @@ fn run_make<O: Sink>(alloc: Global, number: u64, devices: u32, out: &mut O) -> R
     ensures { Came (MakeEnds number devices) result ⊥ (taking O.taken O.faults out.old out.new) }
 {
     let plan = make_plan(alloc, number, devices)?;
-    let ran = run(alloc, plan)?;
+    let ran = run_alone(alloc, plan)?;
     write_summary(alloc, &ran, out)?;
     ended(ran.end)
 }

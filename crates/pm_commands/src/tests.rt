@@ -1,9 +1,11 @@
 //! What no clause says: that calls succeed, and how a failure in mid-stream ends. Whole texts stand in the
 //! cases of `pm_cases`.
 
-use crate::{counts_text, make_top, serial_top, top};
+use crate::{counts_text, make_top, top};
+use pm_gate::{Quiet, Ticker};
 use pm_io::{MemFiles, MemSink};
 use pm_planread::read_plan;
+use pm_run::serial_top;
 use std::alloc::{AllocError, Global};
 use std::process::Abort;
 use std::test::Fail;
@@ -210,12 +212,14 @@ fn the_counts_of_a_plan_are_one_line(rt: HostRuntime) -> Result<(), Fail> {
 }
 
 /// Words, and the status that they give where `plan` is the one file.
-static WORDS: [(&str, u8); 11] = [
+static WORDS: [(&str, u8); 13] = [
     ("serial plan", 0),
     ("serial -- plan", 0),
     ("serial -", 4),
     ("serial", 2),
     ("serial plan plan", 2),
+    ("run -", 4),
+    ("run plan --hands 17", 2),
     ("check -", 4),
     ("audit plan -", 4),
     ("convert plan -", 4),
@@ -227,6 +231,7 @@ static WORDS: [(&str, u8); 11] = [
 #[test]
 fn the_words_name_the_command(rt: HostRuntime) -> Result<(), Fail> {
     let alloc = rt.alloc();
+    let clock = Ticker::new(vec![in alloc; 0]?);
     for (line, status) in &WORDS {
         let mut words = Vec::new(alloc);
         for word in line.split_whitespace() {
@@ -235,7 +240,9 @@ fn the_words_name_the_command(rt: HostRuntime) -> Result<(), Fail> {
         let mut files = one_plan(alloc, FIRST_PLAN.as_bytes(), vec![in alloc]?)?;
         let mut out = MemSink::new(alloc, 4096, vec![in alloc]?);
         let mut err = MemSink::new(alloc, 4096, vec![in alloc]?);
-        let answer = top(alloc, &words, &mut files, &mut out, &mut err);
+        let answer = top(
+            &rt, alloc, &words, &mut files, &mut out, &mut err, &clock, &Quiet,
+        );
         assert_eq!(rt; answer, *status, "{line}");
         assert_eq!(rt; out.taken() == FIRST_TEXT.as_bytes(), *status == 0);
         assert_eq!(rt; err.taken() == USAGE.as_bytes(), *status == 2);

@@ -3,6 +3,7 @@
 
 use pm_commands::top;
 use pm_endings::{Fault, refuse_words};
+use pm_gate::{Quiet, Stopwatch};
 use pm_io::{DiskFiles, StdErr, StdOut};
 use std::process::ExitCode;
 use std::rt::Env;
@@ -12,8 +13,18 @@ fn main(rt: HostRuntime) -> ExitCode {
     let mut files = DiskFiles::new(&rt);
     let mut out = StdOut::new(rt.stdout());
     let mut err = StdErr::new(rt.stderr());
+    let clock = Stopwatch::start(&rt);
     let status = match arguments(&rt) {
-        Ok(words) => top(rt.alloc(), &words, &mut files, &mut out, &mut err),
+        Ok(words) => top(
+            &rt,
+            rt.alloc(),
+            &words,
+            &mut files,
+            &mut out,
+            &mut err,
+            &clock,
+            &Quiet,
+        ),
         Err(error) if error.kind() == io::ErrorKind::OutOfMemory => {
             Fault::NoMemory.report(&mut err)
         }

@@ -18,6 +18,16 @@ returns-in-Some-Serial-clause-answer g c =
     subst (λ (o : Option Asked). IfSome o (λ asked. Answered (AskedEnds files.tells_all (files.told c.args.files.now) asked) c.serial_top.result unread out err))
     (ap (option_and_then here) names) c.serial_top.ensures
 
+pub returns-in-Some-Run-clause-answer : goal.returns-in-Some-Run-clause-answer
+returns-in-Some-Run-clause-answer g c =
+    let files = g.F.Files in
+    let unread = Rose (files.faults c.args.files.now) (files.faults c.run_top.new.files) in
+    let out = taking g.O.Sink.taken g.O.Sink.faults c.args.out.now c.run_top.new.out in
+    let err = taking g.E.Sink.taken g.E.Sink.faults c.args.err.now c.run_top.new.err in
+    let names = rw c.in-Some-Run.field-0-is at c.in-Some-Run.ensures.request in
+    subst (λ (o : Option Asked). IfSome o (λ asked. Answered (AskedEnds files.tells_all (files.told c.args.files.now) asked) c.run_top.result unread out err))
+    (ap (option_and_then here) names) c.run_top.ensures
+
 pub returns-in-Some-Check-clause-answer : goal.returns-in-Some-Check-clause-answer
 returns-in-Some-Check-clause-answer g c =
     let files = g.F.Files in

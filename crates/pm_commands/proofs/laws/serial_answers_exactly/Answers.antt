@@ -1,5 +1,5 @@
 use Rattle.pm_io.specs.Faults.{Rose}
-use Rattle.pm_commands.specs.Commands.{SerialEnds}
+use Rattle.pm_run.specs.Runs.{SerialEnds}
 use Rattle.pm_commands.proofs.Exactly.{missing_exactly, refused_exactly, run_exactly}
 use Rattle.pm_commands.proofs.laws.serial_answers_exactly.Goals as goal
 

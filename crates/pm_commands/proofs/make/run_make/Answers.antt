@@ -1,11 +1,13 @@
 use Rattle.std.proofs.Common.{List, ℕ, Err, refl, subst, sym}
 use Rattle.std.proofs.lemmas.Result.{err_from_is_err_and}
 use Rattle.pm_endings.specs.Coming.{Came, Work, Wrote}
-use Rattle.pm_commands.specs.Commands.{MakeEnds, is_whole}
+use Rattle.pm_commands.specs.Commands.{MakeEnds}
+use Rattle.pm_run.specs.Runs.{is_whole}
 use Rattle.pm_endings.specs.Ending.{Took, taking}
 use Rattle.pm_model.specs.Serial.{serial}
 use Rattle.pm_report.specs.Report.{summary, summary_text}
-use Rattle.pm_commands.proofs.RunLemmas.{not_wrote, run_summary, wrote}
+use Rattle.pm_run.proofs.RunLemmas.{not_wrote, wrote}
+use Rattle.pm_commands.proofs.SummaryLemmas.{run_summary}
 use Rattle.pm_commands.proofs.make.run_make.Goals as goal
 
 pub returns-in_err-write_summary : goal.returns-in_err-write_summary

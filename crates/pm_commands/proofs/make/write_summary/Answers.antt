@@ -1,8 +1,8 @@
 use Rattle.std.proofs.lemmas.Result.{err_from_is_err_and}
-use Rattle.pm_commands.specs.Commands.{is_whole}
+use Rattle.pm_run.specs.Runs.{is_whole}
 use Rattle.pm_endings.specs.Ending.{taking}
 use Rattle.pm_endings.proofs.EndLemmas.{wrote_all, wrote_part}
-use Rattle.pm_commands.proofs.RunLemmas.{few_shown, shown_summary}
+use Rattle.pm_commands.proofs.SummaryLemmas.{few_shown, shown_summary}
 use Rattle.pm_commands.proofs.make.write_summary.Goals as goal
 
 pub summary-sum-requires : goal.summary-sum-requires

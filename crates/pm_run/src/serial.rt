@@ -1,18 +1,15 @@
 //! `serial PLAN`: runs the plan on one thread.
 
-ghost use Rattle.std.specs.Prelude.{reverse};
 ghost use Rattle.pm_io.specs.Faults.{Rose};
-ghost use Rattle.pm_model.specs.Text.{text};
-ghost use Rattle.pm_endings.specs.Coming.{Came, Wrote};
-ghost use Rattle.pm_commands.specs.Commands.{SerialEnds};
+ghost use Rattle.pm_endings.specs.Coming.{Came};
 ghost use Rattle.pm_endings.specs.Ending.{Answered, taking};
 ghost use Rattle.pm_endings.specs.Reading.{OfPlan};
+ghost use Rattle.pm_run.specs.Runs.{SerialEnds};
 
-use crate::running::{ended, run};
-use pm_book::Book;
-use pm_endings::{Fault, Format, finish, load, write_text};
+use crate::running::{ended, run_alone};
+use crate::writing::write_book;
+use pm_endings::{Fault, finish, load};
 use pm_io::{Files, Sink};
-use pm_linetext::LineSpeller;
 use pm_model::Plan;
 use std::alloc::Global;
 
@@ -44,27 +41,15 @@ fn run_serial<F: Files, O: Sink>(
         (taking O.taken O.faults out.old out.new) }
 {
     let plan = load(alloc, plan, files)?;
-    run_plan(alloc, plan, out)
+    write_serial(alloc, plan, out)
 }
 
 /// Runs the plan on one thread and writes the lines of its run. Everything that takes memory comes
 /// before the first write.
-fn run_plan<O: Sink>(alloc: Global, plan: Plan, out: &mut O) -> Result<(), Fault>
+pub(crate) fn write_serial<O: Sink>(alloc: Global, plan: Plan, out: &mut O) -> Result<(), Fault>
     ensures { Came (SerialEnds plan) result ⊥ (taking O.taken O.faults out.old out.new) }
 {
-    let ran = run(alloc, plan)?;
+    let ran = run_alone(alloc, plan)?;
     write_book(alloc, &ran.book, out)?;
     ended(ran.end)
-}
-
-/// Writes the lines of a book.
-fn write_book<O: Sink>(alloc: Global, book: &Book, out: &mut O) -> Result<(), Fault>
-    ensures { Wrote (text book.now.plan (reverse book.now.lines)) result
-        (taking O.taken O.faults out.old out.new) }
-{
-    let plan = book.plan();
-    let lines = book.lines();
-    let speller = LineSpeller::new(alloc, plan)?;
-    write_text(out, &speller, Format::of(plan), lines)?;
-    Ok(())
 }

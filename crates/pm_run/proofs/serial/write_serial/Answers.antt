@@ -1,12 +1,12 @@
 use Rattle.std.proofs.Common.{List, ℕ, Err, refl, subst, sym}
 use Rattle.std.proofs.lemmas.Result.{err_from_is_err_and}
 use Rattle.pm_endings.specs.Coming.{Came, Work, Wrote}
-use Rattle.pm_commands.specs.Commands.{SerialEnds}
+use Rattle.pm_run.specs.Runs.{SerialEnds}
 use Rattle.pm_endings.specs.Ending.{Took, taking}
 use Rattle.pm_model.specs.Serial.{serial}
 use Rattle.pm_model.specs.Text.{text}
-use Rattle.pm_commands.proofs.RunLemmas.{not_wrote, run_text, wrote}
-use Rattle.pm_commands.proofs.serial.run_plan.Goals as goal
+use Rattle.pm_run.proofs.RunLemmas.{not_wrote, run_text, wrote}
+use Rattle.pm_run.proofs.serial.write_serial.Goals as goal
 
 pub returns-in_err-write_book : goal.returns-in_err-write_book
 returns-in_err-write_book g c =

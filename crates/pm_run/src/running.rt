@@ -3,7 +3,7 @@
 ghost use Rattle.std.specs.Prelude.{◌≡◌, [], reverse, IfOk};
 ghost use Rattle.pm_model.specs.Serial.{serial};
 ghost use Rattle.pm_serial.specs.Ends.{HasMemory, IsSerialEnd};
-ghost use Rattle.pm_commands.specs.Commands.{IsRun, ended, is_whole};
+ghost use Rattle.pm_run.specs.Runs.{IsRun, ended, is_whole};
 
 use pm_base::NoMemory;
 use pm_book::Book;
@@ -14,13 +14,14 @@ use std::alloc::Global;
 
 /// A plan's run on one thread, and how it ended.
 #[derive(Drop)]
-pub(crate) struct Ran {
-    pub(crate) book: Book,
-    pub(crate) end: End,
+pub struct Ran {
+    pub book: Book,
+    pub end: End,
 }
 
-/// The run of the plan on one thread. All memory is taken before its first turn.
-pub(crate) fn run(alloc: Global, plan: Plan) -> Result<Ran, NoMemory>
+/// The run of the plan on one thread. All memory is taken before its first turn, and it fails where that
+/// runs out.
+pub fn run_alone(alloc: Global, plan: Plan) -> Result<Ran, NoMemory>
     ensures plan { IfOk result (λ ran. ran.book.plan ≡ plan) }
     ensures lines { IfOk result (λ ran. reverse ran.book.lines ≡ serial plan) }
     ensures run { IfOk result (λ ran. IsRun plan ran.end) }
@@ -63,14 +64,14 @@ fn start(alloc: Global, plan: Plan) -> Result<Book, NoMemory>
 }
 
 /// Whether the run is finished. Else it has all the lines that its plan allows.
-pub(crate) fn is_whole(end: End) -> bool
+pub fn is_whole(end: End) -> bool
     ensures { result ≡ is_whole end }
 {
     matches!(end, End::Finished)
 }
 
 /// How the work of a command is done whose run ended so, and was written.
-pub(crate) fn ended(end: End) -> Result<(), Fault>
+pub fn ended(end: End) -> Result<(), Fault>
     ensures { result ≡ ended end }
 {
     match end {

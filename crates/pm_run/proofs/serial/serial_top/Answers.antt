@@ -1,9 +1,9 @@
 use Rattle.pm_io.specs.Faults.{Rose}
-use Rattle.pm_commands.specs.Commands.{SerialEnds}
+use Rattle.pm_run.specs.Runs.{SerialEnds}
 use Rattle.pm_endings.specs.Ending.{taking}
 use Rattle.pm_endings.specs.Reading.{OfPlan}
 use Rattle.pm_endings.proofs.EndLemmas.{answered}
-use Rattle.pm_commands.proofs.serial.serial_top.Goals as goal
+use Rattle.pm_run.proofs.serial.serial_top.Goals as goal
 
 pub returns : goal.returns
 returns g c =

@@ -1,8 +1,8 @@
 use Rattle.std.proofs.Common.{subst}
 use Rattle.pm_model.specs.declared.plan.Plan.{Plan}
 use Rattle.pm_serial.specs.Ends.{IsSerialEnd}
-use Rattle.pm_commands.proofs.RunLemmas.{is_run}
-use Rattle.pm_commands.proofs.running.run.Goals as goal
+use Rattle.pm_run.proofs.RunLemmas.{is_run}
+use Rattle.pm_run.proofs.running.run_alone.Goals as goal
 
 pub returns-clause-run : goal.returns-clause-run
 returns-clause-run c =

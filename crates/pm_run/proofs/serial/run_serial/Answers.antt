@@ -1,10 +1,10 @@
 use Rattle.std.proofs.Common.{refl}
 use Rattle.std.proofs.lemmas.Result.{err_from_is_err_and}
 use Rattle.pm_io.specs.Faults.{Rose}
-use Rattle.pm_commands.specs.Commands.{SerialEnds}
+use Rattle.pm_run.specs.Runs.{SerialEnds}
 use Rattle.pm_endings.specs.Ending.{taking}
 use Rattle.pm_endings.proofs.ReadLemmas.{came_read, came_unread}
-use Rattle.pm_commands.proofs.serial.run_serial.Goals as goal
+use Rattle.pm_run.proofs.serial.run_serial.Goals as goal
 
 pub returns-in_err-plan : goal.returns-in_err-plan
 returns-in_err-plan g c =
@@ -20,4 +20,4 @@ returns g c =
     let told = g.F.Files.told c.args.files.now c.args.plan.now in
     let faults = g.F.Files.faults in
     came_read g.F.Files.tells_all told c.in_ok-plan.plan SerialEnds ⊥ (Rose (faults c.args.files.now) (faults c.load.new.files))
-    (taking g.O.Sink.taken g.O.Sink.faults c.args.out.now c.run_plan.new.out) c.run_plan.result (λ none. absurd none) c.in_ok-plan.ensures.read c.run_plan.ensures
+    (taking g.O.Sink.taken g.O.Sink.faults c.args.out.now c.write_serial.new.out) c.write_serial.result (λ none. absurd none) c.in_ok-plan.ensures.read c.write_serial.ensures
