@@ -37,6 +37,13 @@ impl Finder {
         Ok(Finder { places })
     }
 
+    /// A finder that keeps no place. It takes no memory.
+    pub fn none(alloc: Global) -> Finder {
+        Finder {
+            places: Vec::new(alloc),
+        }
+    }
+
     /// The place, counted from 0, of the row that has exactly this name. No two rows have one name. It takes
     /// no memory.
     pub fn find<T: Named>(&self, list: &NamedList<T>, name: &[u8]) -> Option<usize>
@@ -53,6 +60,19 @@ impl Finder {
             }
         }
         list.find(name)
+    }
+}
+
+/// The place, counted from 0, of the row that has exactly this name, and of several the first. Where there is
+/// a finder, no two rows have one name. It takes no memory.
+pub fn find<T: Named>(finder: Option<&Finder>, list: &NamedList<T>, name: &[u8]) -> Option<usize>
+    requires { IfSome finder (λ _. all_distinct (map T.name_of list.now) ≡ true) }
+    ensures place { result ≡ place_named name.now (map T.name_of list.now) }
+    ensures in_range { IfSome result (λ place. place < length list.now) }
+{
+    match finder {
+        Some(finder) => finder.find(list, name),
+        None => list.find(name),
     }
 }
 

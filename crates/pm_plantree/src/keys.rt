@@ -74,7 +74,9 @@ fn is_number_key(section: Section, key: &str) -> bool
 {
     match section {
         Section::Top => is_word(key, "lines") || is_word(key, "trace"),
-        Section::Device => is_word(key, "idle_ms") || is_word(key, "suspend_ms") || is_word(key, "resume_ms"),
+        Section::Device => is_word(key, "idle_ms")
+            || is_word(key, "suspend_ms")
+            || is_word(key, "resume_ms"),
         Section::Domain | Section::Link | Section::Caller => false,
     }
 }
@@ -84,7 +86,9 @@ fn is_switch_key(section: Section, key: &str) -> bool
 {
     match section {
         Section::Domain => is_word(key, "always_on"),
-        Section::Device => is_word(key, "ignore_children") || is_word(key, "no_callbacks") || is_word(key, "busy"),
+        Section::Device => is_word(key, "ignore_children")
+            || is_word(key, "no_callbacks")
+            || is_word(key, "busy"),
         Section::Link => is_word(key, "pm_runtime") || is_word(key, "later"),
         Section::Top | Section::Caller => false,
     }
@@ -94,7 +98,9 @@ fn is_numbers_key(section: Section, key: &str) -> bool
     ensures { result ≡ is_numbers_key section key.now }
 {
     match section {
-        Section::Device => is_word(key, "idle") || is_word(key, "suspend") || is_word(key, "resume"),
+        Section::Device => is_word(key, "idle")
+            || is_word(key, "suspend")
+            || is_word(key, "resume"),
         Section::Top | Section::Domain | Section::Link | Section::Caller => false,
     }
 }
@@ -112,7 +118,10 @@ fn is_tables_key(section: Section, key: &str) -> bool
     ensures { result ≡ is_tables_key section key.now }
 {
     match section {
-        Section::Top => is_word(key, "domain") || is_word(key, "device") || is_word(key, "link") || is_word(key, "caller"),
+        Section::Top => is_word(key, "domain")
+            || is_word(key, "device")
+            || is_word(key, "link")
+            || is_word(key, "caller"),
         Section::Domain | Section::Device | Section::Link | Section::Caller => false,
     }
 }
