@@ -1,5 +1,5 @@
 -- The names of a plan: each name of a list is another, and none has a byte that ends it in a line.
-use Rattle.std.proofs.Common.{◌≡◌, ℕ, ◌+◌, Bool, true, false, not, List, [], ◌∷◌, length, map, nat_eq, refl, inl, inr, arith}
+use Rattle.std.proofs.Common.{◌≡◌, ℕ, ◌+◌, Bool, true, false, not, List, [], ◌∷◌, length, map, nat_eq, Option, Some, None, IfSome, refl, inl, inr, arith}
 use Rattle.std.specs.List.{list_all, list_any}
 use Rattle.std.specs.Str.{bytes_eq}
 use Rattle.std.proofs.lemmas.Bool.{and_from, and_parts, cases_Bool, eqb-true}
@@ -79,3 +79,12 @@ are_names plan =
       devices_distinct = distinct_names (map (λ row. row.name) plan.devices) law.device_names;
       callers_distinct = distinct_names (map (λ row. row.name) plan.callers) law.caller_names;
     }
+
+-- no two devices and no two callers have one name, as whoever finds them must know
+pub devices_apart : {F : Type 0} (plan : Plan) (finder : Option F) → IfSome finder (λ _. all_distinct (map (λ row. row.name) plan.devices) ≡ true)
+devices_apart plan None = tt
+devices_apart plan (Some finder) = (are_names plan).devices_distinct
+
+pub callers_apart : {F : Type 0} (plan : Plan) (finder : Option F) → IfSome finder (λ _. all_distinct (map (λ row. row.name) plan.callers) ≡ true)
+callers_apart plan None = tt
+callers_apart plan (Some finder) = (are_names plan).callers_distinct

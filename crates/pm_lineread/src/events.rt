@@ -1,20 +1,21 @@
 //! The events of a line, each read to the end of the line.
 
-ghost use Rattle.std.specs.Prelude.{◌≡◌, ℕ, true, if◌then◌else◌};
+ghost use Rattle.std.specs.Prelude.{◌≡◌, ℕ, true, codes, if◌then◌else◌};
 ghost use Rattle.pm_model.specs.Spelling.{operand_of, takes_device};
 ghost use Rattle.pm_model.specs.Text.{names_of};
 ghost use Rattle.pm_linetext.specs.Words.{all_cbs, all_reqs, all_statuses};
 ghost use Rattle.pm_names.specs.Words.{cb_words, event_words, req_words, status_words};
 ghost use Rattle.pm_lineread.specs.Gives.{Gives};
 ghost use Rattle.pm_lineread.specs.Kinds.{all_kinds};
-ghost use Rattle.pm_lineread.specs.Pieces.{item_at, literal_at};
+ghost use Rattle.pm_lineread.specs.Pieces.{either_of, item_at, literal_at};
 ghost use Rattle.pm_lineread.specs.Reading.{act_at, any_event_at, arm_at, bit_at, call_at, callback_at, child_at};
 ghost use Rattle.pm_lineread.specs.Reading.{command_of, delay_at, delay_call_at, device_command_at, device_ret_at, domain_at};
 ghost use Rattle.pm_lineread.specs.Reading.{end_at, event_at, event_of, fields_at, fire_at, get_at, helper_at, idle_at, link_at};
 ghost use Rattle.pm_lineread.specs.Reading.{milliseconds_at, operand_at, padding, payload_at, put_at, queue_at, queued_at, ret_at, return_at};
 ghost use Rattle.pm_lineread.specs.Reading.{resume_at, run_at, state_at, states_at, supplier_at, suspend_at, switch_at, switched_at, timer_at, timer_kind_at};
-ghost use Rattle.pm_lineread.specs.Reading.{usage_at, wait_at, why_at, work_at};
+ghost use Rattle.pm_lineread.specs.Reading.{usage_at, wait_at, why_at, word_at, work_at};
 
+use crate::finders::Finders;
 use crate::kinds::{Kind, kind_at};
 use crate::pieces::{
     Left, code, count, device, either, end, listed, literal, long, number, placed, word,
@@ -35,10 +36,10 @@ fn helper(bytes: &[u8]) -> Result<(Helper, &[u8]), Left>
 
 /// The supplier of a link, by its place.
 #[tactic(auto, unfolding(crate::specs::Reading::supplier_at))]
-fn supplier(plan: &Plan, bytes: &[u8]) -> Result<i64, Left>
+fn supplier(plan: &Plan, by: Option<&Finders>, bytes: &[u8]) -> Result<i64, Left>
     ensures { result ≡ supplier_at (names_of plan.now) bytes.now }
 {
-    let (dev, rest) = device(plan, literal(b" ", bytes)?)?;
+    let (dev, rest) = device(plan, by, literal(b" ", bytes)?)?;
     end(i64::from(dev.0), rest)
 }
 
@@ -60,23 +61,29 @@ fn switch(bytes: &[u8]) -> Result<i64, Left>
 
 /// What a helper takes besides its device, as a number.
 #[tactic(auto, unfolding(crate::specs::Reading::operand_at))]
-fn operand(plan: &Plan, operand: Operand, bytes: &[u8]) -> Result<i64, Left>
+fn operand(plan: &Plan, by: Option<&Finders>, operand: Operand, bytes: &[u8]) -> Result<i64, Left>
     ensures { result ≡ operand_at (names_of plan.now) operand bytes.now }
 {
     match operand {
         Operand::Nothing => end(0, bytes),
         Operand::Milliseconds => milliseconds(bytes),
         Operand::Switch => switch(bytes),
-        Operand::Supplier => supplier(plan, bytes),
+        Operand::Supplier => supplier(plan, by, bytes),
     }
 }
 
 /// What follows the device of a command.
 #[tactic(auto, unfolding(crate::specs::Reading::command_of))]
-fn command_on(plan: &Plan, helper: Helper, dev: DevId, bytes: &[u8]) -> Result<Command, Left>
+fn command_on(
+    plan: &Plan,
+    by: Option<&Finders>,
+    helper: Helper,
+    dev: DevId,
+    bytes: &[u8],
+) -> Result<Command, Left>
     ensures { result ≡ command_of (names_of plan.now) helper dev bytes.now }
 {
-    let number = operand(plan, operand_of(helper), bytes)?;
+    let number = operand(plan, by, operand_of(helper), bytes)?;
     Ok(Command {
         helper,
         dev,
@@ -86,54 +93,64 @@ fn command_on(plan: &Plan, helper: Helper, dev: DevId, bytes: &[u8]) -> Result<C
 
 /// What follows the word of a helper that takes a device.
 #[tactic(auto, unfolding(crate::specs::Reading::device_command_at))]
-fn device_command(plan: &Plan, helper: Helper, bytes: &[u8]) -> Result<Command, Left>
+fn device_command(
+    plan: &Plan,
+    by: Option<&Finders>,
+    helper: Helper,
+    bytes: &[u8],
+) -> Result<Command, Left>
     ensures { result ≡ device_command_at (names_of plan.now) helper bytes.now }
 {
-    let (dev, rest) = device(plan, literal(b" ", bytes)?)?;
-    command_on(plan, helper, dev, rest)
+    let (dev, rest) = device(plan, by, literal(b" ", bytes)?)?;
+    command_on(plan, by, helper, dev, rest)
 }
 
 /// What follows the word of a helper in a call.
-fn command(plan: &Plan, helper: Helper, bytes: &[u8]) -> Result<Command, Left>
+fn command(plan: &Plan, by: Option<&Finders>, helper: Helper, bytes: &[u8]) -> Result<Command, Left>
     ensures { result ≡ (if takes_device helper
         then device_command_at (names_of plan.now) helper bytes.now
         else command_of (names_of plan.now) helper (record { 0 = 0 }) bytes.now) }
 {
     if takes_device(helper) {
-        device_command(plan, helper, bytes)
+        device_command(plan, by, helper, bytes)
     } else {
-        command_on(plan, helper, DevId(0), bytes)
+        command_on(plan, by, helper, DevId(0), bytes)
     }
 }
 
 /// The call of a helper.
 #[tactic(auto, unfolding(crate::specs::Reading::call_at))]
-fn call(plan: &Plan, bytes: &[u8]) -> Result<Event, Left>
+fn call(plan: &Plan, by: Option<&Finders>, bytes: &[u8]) -> Result<Event, Left>
     ensures { result ≡ call_at (names_of plan.now) bytes.now }
 {
     let (helper, rest) = helper(bytes)?;
-    let command = command(plan, helper, rest)?;
+    let command = command(plan, by, helper, rest)?;
     Ok(Event::Call { command })
 }
 
 /// What follows the word of a helper that takes a device, where it returns.
 #[tactic(auto, unfolding(crate::specs::Reading::device_ret_at))]
-fn device_ret(plan: &Plan, helper: Helper, bytes: &[u8]) -> Result<Event, Left>
+fn device_ret(
+    plan: &Plan,
+    by: Option<&Finders>,
+    helper: Helper,
+    bytes: &[u8],
+) -> Result<Event, Left>
     ensures { result ≡ device_ret_at (names_of plan.now) helper bytes.now }
 {
-    let (dev, rest) = device(plan, literal(b" ", bytes)?)?;
+    let (dev, rest) = device(plan, by, literal(b" ", bytes)?)?;
     let code = code(literal(b" ", rest)?)?;
     Ok(Event::Ret { helper, dev, code })
 }
 
 /// The return of a helper.
 #[tactic(auto, unfolding(crate::specs::Reading::ret_at))]
-fn ret(plan: &Plan, bytes: &[u8]) -> Result<Event, Left>
+fn ret(plan: &Plan, by: Option<&Finders>, bytes: &[u8]) -> Result<Event, Left>
     ensures { result ≡ ret_at (names_of plan.now) bytes.now }
 {
     let (helper, rest) = helper(bytes)?;
     if takes_device(helper) {
-        device_ret(plan, helper, rest)
+        device_ret(plan, by, helper, rest)
     } else {
         let dev = DevId(0);
         word(
@@ -150,51 +167,63 @@ fn ret(plan: &Plan, bytes: &[u8]) -> Result<Event, Left>
 
 /// A child as the reason of a count.
 #[tactic(auto, unfolding(crate::specs::Reading::child_at))]
-fn child(plan: &Plan, bytes: &[u8]) -> Result<Why, Left>
+fn child(plan: &Plan, by: Option<&Finders>, bytes: &[u8]) -> Result<Why, Left>
     ensures { result ≡ child_at (names_of plan.now) bytes.now }
 {
-    let (dev, rest) = device(plan, literal(b"child ", bytes)?)?;
+    let (dev, rest) = device(plan, by, literal(b"child ", bytes)?)?;
     end(Why::Child(dev), rest)
 }
 
 /// A consumer as the reason of a count.
 #[tactic(auto, unfolding(crate::specs::Reading::link_at))]
-fn link(plan: &Plan, bytes: &[u8]) -> Result<Why, Left>
+fn link(plan: &Plan, by: Option<&Finders>, bytes: &[u8]) -> Result<Why, Left>
     ensures { result ≡ link_at (names_of plan.now) bytes.now }
 {
-    let (dev, rest) = device(plan, literal(b"link ", bytes)?)?;
+    let (dev, rest) = device(plan, by, literal(b"link ", bytes)?)?;
     end(Why::Link(dev), rest)
+}
+
+/// Why a usage count is held that no caller took.
+fn other_why(plan: &Plan, by: Option<&Finders>, bytes: &[u8]) -> Result<Why, Left>
+    ensures { result ≡ either_of (word_at (codes "control") Why.Control bytes.now)
+        (either_of (word_at (codes "forbid") Why.Forbid bytes.now)
+        (either_of (word_at (codes "delay") Why.Delay bytes.now)
+        (either_of (child_at (names_of plan.now) bytes.now) (link_at (names_of plan.now) bytes.now)))) }
+{
+    let device = either(child(plan, by, bytes), link(plan, by, bytes));
+    let device = either(word(b"delay", Why::Delay, bytes), device);
+    let device = either(word(b"forbid", Why::Forbid, bytes), device);
+    either(word(b"control", Why::Control, bytes), device)
 }
 
 /// Why a usage count is held.
 #[tactic(auto, unfolding(crate::specs::Reading::why_at))]
-fn why(plan: &Plan, bytes: &[u8]) -> Result<Why, Left>
+fn why(plan: &Plan, by: Option<&Finders>, bytes: &[u8]) -> Result<Why, Left>
     ensures { result ≡ why_at (names_of plan.now) bytes.now }
 {
-    let device = either(child(plan, bytes), link(plan, bytes));
-    let device = either(word(b"delay", Why::Delay, bytes), device);
-    let device = either(word(b"forbid", Why::Forbid, bytes), device);
-    let device = either(word(b"control", Why::Control, bytes), device);
-    either(word(b"caller", Why::Caller, bytes), device)
+    match word(b"caller", Why::Caller, bytes) {
+        Ok(held) => Ok(held),
+        Err(left) => either(Err(left), other_why(plan, by, bytes)),
+    }
 }
 
 /// A get.
 #[tactic(auto, unfolding(crate::specs::Reading::get_at))]
-fn get(plan: &Plan, bytes: &[u8]) -> Result<Event, Left>
+fn get(plan: &Plan, by: Option<&Finders>, bytes: &[u8]) -> Result<Event, Left>
     ensures { result ≡ get_at (names_of plan.now) bytes.now }
 {
-    let (dev, rest) = device(plan, bytes)?;
-    let why = why(plan, literal(b" ", rest)?)?;
+    let (dev, rest) = device(plan, by, bytes)?;
+    let why = why(plan, by, literal(b" ", rest)?)?;
     Ok(Event::Get { dev, why })
 }
 
 /// A put.
 #[tactic(auto, unfolding(crate::specs::Reading::put_at))]
-fn put(plan: &Plan, bytes: &[u8]) -> Result<Event, Left>
+fn put(plan: &Plan, by: Option<&Finders>, bytes: &[u8]) -> Result<Event, Left>
     ensures { result ≡ put_at (names_of plan.now) bytes.now }
 {
-    let (dev, rest) = device(plan, bytes)?;
-    let why = why(plan, literal(b" ", rest)?)?;
+    let (dev, rest) = device(plan, by, bytes)?;
+    let why = why(plan, by, literal(b" ", rest)?)?;
     Ok(Event::Put { dev, why })
 }
 
@@ -252,47 +281,47 @@ fn fields(bytes: &[u8]) -> Result<Fields, Left>
 
 /// The device and the fields of a payload.
 #[tactic(auto, unfolding(crate::specs::Reading::payload_at))]
-fn payload(plan: &Plan, bytes: &[u8]) -> Result<(DevId, Fields), Left>
+fn payload(plan: &Plan, by: Option<&Finders>, bytes: &[u8]) -> Result<(DevId, Fields), Left>
     ensures { result ≡ payload_at (names_of plan.now) bytes.now }
 {
-    let (dev, rest) = device(plan, bytes)?;
+    let (dev, rest) = device(plan, by, bytes)?;
     let fields = fields(rest)?;
     Ok((dev, fields))
 }
 
 /// An event with a payload.
 #[tactic(auto, unfolding(crate::specs::Reading::usage_at))]
-fn usage(plan: &Plan, bytes: &[u8]) -> Result<Event, Left>
+fn usage(plan: &Plan, by: Option<&Finders>, bytes: &[u8]) -> Result<Event, Left>
     ensures { result ≡ usage_at (names_of plan.now) bytes.now }
 {
-    let (dev, fields) = payload(plan, bytes)?;
+    let (dev, fields) = payload(plan, by, bytes)?;
     Ok(Event::Usage { dev, fields })
 }
 
 /// The begin of the kernel's inner idle function.
 #[tactic(auto, unfolding(crate::specs::Reading::idle_at))]
-fn idle(plan: &Plan, bytes: &[u8]) -> Result<Event, Left>
+fn idle(plan: &Plan, by: Option<&Finders>, bytes: &[u8]) -> Result<Event, Left>
     ensures { result ≡ idle_at (names_of plan.now) bytes.now }
 {
-    let (dev, fields) = payload(plan, bytes)?;
+    let (dev, fields) = payload(plan, by, bytes)?;
     Ok(Event::Idle { dev, fields })
 }
 
 /// The begin of the kernel's inner suspend function.
 #[tactic(auto, unfolding(crate::specs::Reading::suspend_at))]
-fn suspend(plan: &Plan, bytes: &[u8]) -> Result<Event, Left>
+fn suspend(plan: &Plan, by: Option<&Finders>, bytes: &[u8]) -> Result<Event, Left>
     ensures { result ≡ suspend_at (names_of plan.now) bytes.now }
 {
-    let (dev, fields) = payload(plan, bytes)?;
+    let (dev, fields) = payload(plan, by, bytes)?;
     Ok(Event::Suspend { dev, fields })
 }
 
 /// The begin of the kernel's inner resume function.
 #[tactic(auto, unfolding(crate::specs::Reading::resume_at))]
-fn resume(plan: &Plan, bytes: &[u8]) -> Result<Event, Left>
+fn resume(plan: &Plan, by: Option<&Finders>, bytes: &[u8]) -> Result<Event, Left>
     ensures { result ≡ resume_at (names_of plan.now) bytes.now }
 {
-    let (dev, fields) = payload(plan, bytes)?;
+    let (dev, fields) = payload(plan, by, bytes)?;
     Ok(Event::Resume { dev, fields })
 }
 
@@ -307,21 +336,21 @@ fn callback_word(stop: u8, bytes: &[u8]) -> Result<(Cb, &[u8]), Left>
 
 /// The return of one of the kernel's inner functions.
 #[tactic(auto, unfolding(crate::specs::Reading::return_at))]
-fn inner_return(plan: &Plan, bytes: &[u8]) -> Result<Event, Left>
+fn inner_return(plan: &Plan, by: Option<&Finders>, bytes: &[u8]) -> Result<Event, Left>
     ensures { result ≡ return_at (names_of plan.now) bytes.now }
 {
     let (func, rest) = callback_word(b':', literal(b"rpm_", bytes)?)?;
-    let (dev, rest) = device(plan, literal(b":", rest)?)?;
+    let (dev, rest) = device(plan, by, literal(b":", rest)?)?;
     let code = code(literal(b" ret=", rest)?)?;
     Ok(Event::Return { func, dev, code })
 }
 
 /// A wait.
 #[tactic(auto, unfolding(crate::specs::Reading::wait_at))]
-fn wait(plan: &Plan, bytes: &[u8]) -> Result<Event, Left>
+fn wait(plan: &Plan, by: Option<&Finders>, bytes: &[u8]) -> Result<Event, Left>
     ensures { result ≡ wait_at (names_of plan.now) bytes.now }
 {
-    let (dev, rest) = device(plan, bytes)?;
+    let (dev, rest) = device(plan, by, bytes)?;
     end(Event::Wait { dev }, rest)
 }
 
@@ -336,10 +365,10 @@ fn status(bytes: &[u8]) -> Result<(Word, &[u8]), Left>
 
 /// A change of status.
 #[tactic(auto, unfolding(crate::specs::Reading::state_at))]
-fn state(plan: &Plan, bytes: &[u8]) -> Result<Event, Left>
+fn state(plan: &Plan, by: Option<&Finders>, bytes: &[u8]) -> Result<Event, Left>
     ensures { result ≡ state_at (names_of plan.now) bytes.now }
 {
-    let (dev, rest) = device(plan, bytes)?;
+    let (dev, rest) = device(plan, by, bytes)?;
     let (word, rest) = status(literal(b" ", rest)?)?;
     end(Event::State { dev, word }, rest)
 }
@@ -355,15 +384,15 @@ fn callback_end(dev: DevId, cb: Cb, bytes: &[u8]) -> Result<Event, Left>
 
 /// The begin or the end of a callback.
 #[tactic(auto, unfolding(crate::specs::Reading::callback_at))]
-fn callback(plan: &Plan, bytes: &[u8]) -> Result<Event, Left>
+fn callback(plan: &Plan, by: Option<&Finders>, bytes: &[u8]) -> Result<Event, Left>
     ensures { result ≡ callback_at (names_of plan.now) bytes.now }
 {
-    let (dev, rest) = device(plan, bytes)?;
+    let (dev, rest) = device(plan, by, bytes)?;
     let (cb, rest) = callback_word(b' ', literal(b" ", rest)?)?;
-    either(
-        word(b" begin", Event::Begin { dev, cb }, rest),
-        callback_end(dev, cb, rest),
-    )
+    match word(b" begin", Event::Begin { dev, cb }, rest) {
+        Ok(event) => Ok(event),
+        Err(left) => either(Err(left), callback_end(dev, cb, rest)),
+    }
 }
 
 /// How many domains are switched, behind the word of the way.
@@ -377,10 +406,10 @@ fn switched(way: &[u8], up: bool, dev: DevId, bytes: &[u8]) -> Result<Event, Lef
 
 /// A switch of power domains.
 #[tactic(auto, unfolding(crate::specs::Reading::domain_at))]
-fn domain(plan: &Plan, bytes: &[u8]) -> Result<Event, Left>
+fn domain(plan: &Plan, by: Option<&Finders>, bytes: &[u8]) -> Result<Event, Left>
     ensures { result ≡ domain_at (names_of plan.now) bytes.now }
 {
-    let (dev, rest) = device(plan, bytes)?;
+    let (dev, rest) = device(plan, by, bytes)?;
     either(
         switched(b" up ", true, dev, rest),
         switched(b" down ", false, dev, rest),
@@ -438,10 +467,10 @@ fn work_act(bytes: &[u8]) -> Result<WorkAct, Left>
 
 /// A line of a work item.
 #[tactic(auto, unfolding(crate::specs::Reading::work_at))]
-fn work(plan: &Plan, bytes: &[u8]) -> Result<Event, Left>
+fn work(plan: &Plan, by: Option<&Finders>, bytes: &[u8]) -> Result<Event, Left>
     ensures { result ≡ work_at (names_of plan.now) bytes.now }
 {
-    let (dev, rest) = device(plan, bytes)?;
+    let (dev, rest) = device(plan, by, bytes)?;
     let act = work_act(literal(b" ", rest)?)?;
     Ok(Event::Work { dev, act })
 }
@@ -475,10 +504,10 @@ fn fire(bytes: &[u8]) -> Result<TimerAct, Left>
 
 /// A line of a timer.
 #[tactic(auto, unfolding(crate::specs::Reading::timer_at))]
-fn timer(plan: &Plan, bytes: &[u8]) -> Result<Event, Left>
+fn timer(plan: &Plan, by: Option<&Finders>, bytes: &[u8]) -> Result<Event, Left>
     ensures { result ≡ timer_at (names_of plan.now) bytes.now }
 {
-    let (dev, rest) = device(plan, bytes)?;
+    let (dev, rest) = device(plan, by, bytes)?;
     let rest = literal(b" ", rest)?;
     let act = either(arm(rest), fire(rest))?;
     Ok(Event::Timer { dev, act })
@@ -486,25 +515,25 @@ fn timer(plan: &Plan, bytes: &[u8]) -> Result<Event, Left>
 
 /// What follows an event's word, its colon and a space.
 #[tactic(auto, unfolding(crate::specs::Reading::event_of))]
-fn event_of(plan: &Plan, kind: Kind, bytes: &[u8]) -> Result<Event, Left>
+fn event_of(plan: &Plan, by: Option<&Finders>, kind: Kind, bytes: &[u8]) -> Result<Event, Left>
     ensures { result ≡ event_of (names_of plan.now) kind bytes.now }
 {
     match kind {
-        Kind::Call => call(plan, bytes),
-        Kind::Ret => ret(plan, bytes),
-        Kind::Get => get(plan, bytes),
-        Kind::Put => put(plan, bytes),
-        Kind::Usage => usage(plan, bytes),
-        Kind::Idle => idle(plan, bytes),
-        Kind::Suspend => suspend(plan, bytes),
-        Kind::Resume => resume(plan, bytes),
-        Kind::Return => inner_return(plan, bytes),
-        Kind::Wait => wait(plan, bytes),
-        Kind::State => state(plan, bytes),
-        Kind::Callback => callback(plan, bytes),
-        Kind::Domain => domain(plan, bytes),
-        Kind::Work => work(plan, bytes),
-        Kind::Timer => timer(plan, bytes),
+        Kind::Call => call(plan, by, bytes),
+        Kind::Ret => ret(plan, by, bytes),
+        Kind::Get => get(plan, by, bytes),
+        Kind::Put => put(plan, by, bytes),
+        Kind::Usage => usage(plan, by, bytes),
+        Kind::Idle => idle(plan, by, bytes),
+        Kind::Suspend => suspend(plan, by, bytes),
+        Kind::Resume => resume(plan, by, bytes),
+        Kind::Return => inner_return(plan, by, bytes),
+        Kind::Wait => wait(plan, by, bytes),
+        Kind::State => state(plan, by, bytes),
+        Kind::Callback => callback(plan, by, bytes),
+        Kind::Domain => domain(plan, by, bytes),
+        Kind::Work => work(plan, by, bytes),
+        Kind::Timer => timer(plan, by, bytes),
     }
 }
 
@@ -519,11 +548,11 @@ fn kind(bytes: &[u8]) -> Result<(Kind, &[u8]), Left>
 
 /// An event over a plan with devices.
 #[tactic(auto, unfolding(crate::specs::Reading::any_event_at))]
-fn any_event(plan: &Plan, bytes: &[u8]) -> Result<Event, Left>
+fn any_event(plan: &Plan, by: Option<&Finders>, bytes: &[u8]) -> Result<Event, Left>
     ensures { result ≡ any_event_at (names_of plan.now) bytes.now }
 {
     let (kind, rest) = kind(bytes)?;
-    event_of(plan, kind, literal(b": ", rest)?)
+    event_of(plan, by, kind, literal(b": ", rest)?)
 }
 
 /// The call of `delay`, over a plan without devices.
@@ -555,12 +584,12 @@ fn delay(bytes: &[u8]) -> Result<Event, Left>
 
 /// An event.
 #[tactic(auto, unfolding(crate::specs::Reading::event_at))]
-pub(crate) fn event(plan: &Plan, bytes: &[u8]) -> Result<Event, Left>
+pub(crate) fn event(plan: &Plan, by: Option<&Finders>, bytes: &[u8]) -> Result<Event, Left>
     ensures { result ≡ event_at (names_of plan.now) bytes.now }
 {
     if plan.devices.len() == 0 {
         delay(bytes)
     } else {
-        any_event(plan, bytes)
+        any_event(plan, by, bytes)
     }
 }

@@ -15,6 +15,7 @@ ghost use Rattle.pm_lineread.specs.Reading.{line_at};
 ghost use Rattle.pm_lineread.specs.Texts.{IsLongest};
 
 mod events;
+mod finders;
 mod kinds;
 mod lines;
 mod pieces;
@@ -22,6 +23,7 @@ mod pieces;
 mod tests;
 
 use crate::lines::line;
+pub use finders::Finders;
 use pm_model::{Line, Plan};
 
 /// The bytes are no line's text.
@@ -44,7 +46,19 @@ pub fn read_line(plan: &Plan, bytes: &[u8]) -> Result<Line, TextFault>
     ensures fault { IfErr result (λ _. (line : Line) → ¬ IsTextOf plan.now line bytes.now) }
     ensures at { IfErr result (λ fault. IsLongest (IsTextOf plan.now) bytes.now fault.at) }
 {
-    read_line2(plan, 0, bytes)
+    read_line_by(plan, None, bytes)
+}
+
+/// Reads a line of format 1 as `read_line` does, and finds names sooner where it is given finders.
+pub fn read_line_by(plan: &Plan, by: Option<&Finders>, bytes: &[u8]) -> Result<Line, TextFault>
+    ensures text { IfOk result (λ line. IsTextOf plan.now line bytes.now) }
+    ensures only { (line : Line) → IsTextOf plan.now line bytes.now → result ≡ Ok line }
+
+    // So a fault comes only where no line has this text, and it says how far they begin as one.
+    ensures fault { IfErr result (λ _. (line : Line) → ¬ IsTextOf plan.now line bytes.now) }
+    ensures at { IfErr result (λ fault. IsLongest (IsTextOf plan.now) bytes.now fault.at) }
+{
+    read_line2_by(plan, by, 0, bytes)
 }
 
 /// Reads a line of format 2 behind a line of time `base`, in milliseconds: all of the bytes, without a
@@ -61,7 +75,25 @@ pub fn read_line2(plan: &Plan, base: u64, bytes: &[u8]) -> Result<Line, TextFaul
     ensures fault { IfErr result (λ _. (line : Line) → ¬ IsText2Of plan.now base line bytes.now) }
     ensures at { IfErr result (λ fault. IsLongest (IsText2Of plan.now base) bytes.now fault.at) }
 {
-    match line(plan, base, bytes) {
+    read_line2_by(plan, None, base, bytes)
+}
+
+/// Reads a line of format 2 as `read_line2` does, and finds names sooner where it is given finders.
+pub fn read_line2_by(
+    plan: &Plan,
+    by: Option<&Finders>,
+    base: u64,
+    bytes: &[u8],
+) -> Result<Line, TextFault>
+    requires { base < 2 ^ 63 }
+    ensures text { IfOk result (λ line. IsText2Of plan.now base line bytes.now) }
+    ensures only { (line : Line) → IsText2Of plan.now base line bytes.now → result ≡ Ok line }
+
+    // So a fault comes only where no line has this text, and it says how far they begin as one.
+    ensures fault { IfErr result (λ _. (line : Line) → ¬ IsText2Of plan.now base line bytes.now) }
+    ensures at { IfErr result (λ fault. IsLongest (IsText2Of plan.now base) bytes.now fault.at) }
+{
+    match line(plan, by, base, bytes) {
         Ok(line) => Ok(line),
         Err(left) => Err(TextFault {
             at: bytes.len() - left,

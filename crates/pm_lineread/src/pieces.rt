@@ -4,16 +4,19 @@
 //! in common, from the front, with a text that it reads. What is left counts from the end of the line,
 //! so a reader hands on what the next one answers.
 
-ghost use Rattle.std.specs.Prelude.{◌≡◌, ℕ, ◌+◌, ◌*◌, ◌-◌, ◌^◌, ◌<◌, ◌≤◌, Some, None, true, List, map, length, nat_eq, position, IfOk, if◌then◌else◌};
+ghost use Rattle.std.specs.Prelude.{◌≡◌, ℕ, ◌+◌, ◌*◌, ◌-◌, ◌^◌, ◌<◌, ◌≤◌, Some, None, true, List, map, length, nat_eq, IfOk, IfSome, if◌then◌else◌};
 ghost use Rattle.std.specs.List.{common_prefix_len, position_or_len};
 ghost use Rattle.pm_model.specs.LineOf.{fits_i32, fits_signed};
 ghost use Rattle.pm_lists.specs.NamedList.{common_len};
+ghost use Rattle.pm_names.specs.Table.{all_distinct, place_of};
 ghost use Rattle.pm_model.specs.Text.{names_of};
 ghost use Rattle.pm_lineread.specs.Gives.{Gives};
 ghost use Rattle.pm_lineread.specs.Pieces.{closed, digit_value, either_of, ended, goes_on, itemed, literal_at, longer_at, number_at, place_at};
 ghost use Rattle.pm_lineread.specs.Reading.{caller_at, count_at, device_at, negative_at, positive_at, signed_at, word_at};
 
+use crate::finders::{Finders, caller_finder, device_finder};
 use pm_base::DevId;
+use pm_finder::{Finder, find, is_same};
 use pm_model::{Named, NamedList, Plan};
 use pm_names::NameTable;
 
@@ -57,12 +60,16 @@ fn common_prefix_len(a: &[u8], b: &[u8]) -> usize
 }
 
 /// What follows a word.
+#[tactic(auto, using(crate::proofs::LiteralLemmas::literal_found, crate::proofs::LiteralLemmas::literal_missed))]
 pub(crate) fn literal<'a>(word: &[u8], bytes: &'a [u8]) -> Result<&'a [u8], Left>
     ensures { Gives (λ rest. rest.now) result (literal_at word.now bytes.now) }
 {
-    match bytes.strip_prefix(word) {
-        Some(rest) => Ok(rest),
-        None => Err(bytes.len() - common_prefix_len(bytes, word)),
+    let common = common_prefix_len(bytes, word);
+    let (_, rest) = bytes.split_at(common);
+    if common == word.len() {
+        Ok(rest)
+    } else {
+        Err(rest.len())
     }
 }
 
@@ -74,50 +81,60 @@ pub(crate) fn word<T: Drop>(word: &[u8], value: T, bytes: &[u8]) -> Result<T, Le
     end(value, literal(word, bytes)?)
 }
 
-/// The place of the first stop.
-fn stop_place(stop: u8, bytes: &[u8]) -> Option<usize>
-    ensures { result ≡ position (λ b. nat_eq b stop) bytes.now }
-{
-    bytes.iter().position(|byte| *byte == stop)
-}
-
 /// How many bytes stand before the first stop.
-#[tactic(auto, using(crate::proofs::PieceLemmas::position_or))]
 fn word_len(stop: u8, bytes: &[u8]) -> usize
     ensures len { result ≡ position_or_len (λ b. nat_eq b stop) bytes.now }
     ensures within { result ≤ length bytes.now }
 {
-    stop_place(stop, bytes).unwrap_or(bytes.len())
+    for (at, byte) in bytes.iter().enumerate() {
+        if *byte == stop {
+            return at;
+        }
+    }
+    bytes.len()
 }
 
 /// The place of the name that stands before the first space, and what follows the name.
 #[tactic(auto, using(crate::proofs::Places::common_len_fits), unfolding(crate::specs::Pieces::place_at))]
-fn named<'a, T: Named>(list: &NamedList<T>, bytes: &'a [u8]) -> Result<(usize, &'a [u8]), Left>
+fn named<'a, T: Named>(
+    finder: Option<&Finder>,
+    list: &NamedList<T>,
+    bytes: &'a [u8],
+) -> Result<(usize, &'a [u8]), Left>
+    requires { IfSome finder (λ _. all_distinct (map T.name_of list.now) ≡ true) }
     ensures place { Gives (λ found. (found.0, found.1.now)) result (place_at (map T.name_of list.now) 32 bytes.now) }
     ensures within { IfOk result (λ found. found.0 < length list.now) }
 {
     let (name, rest) = bytes.split_at(word_len(b' ', bytes));
-    match list.find(name) {
+    match find(finder, list, name) {
         Some(place) => Ok((place, rest)),
         None => Err(bytes.len() - list.common_len(bytes)),
     }
 }
 
 /// A device, and what follows its name.
-#[tactic(auto, unfolding(crate::specs::Reading::device_at))]
-pub(crate) fn device<'a>(plan: &Plan, bytes: &'a [u8]) -> Result<(DevId, &'a [u8]), Left>
+#[tactic(auto, using(crate::proofs::PlanNames::devices_apart), unfolding(crate::specs::Reading::device_at))]
+pub(crate) fn device<'a>(
+    plan: &Plan,
+    by: Option<&Finders>,
+    bytes: &'a [u8],
+) -> Result<(DevId, &'a [u8]), Left>
     ensures { Gives (λ found. (found.0.0, found.1.now)) result (device_at (names_of plan.now) bytes.now) }
 {
-    let (place, rest) = named(&plan.devices, bytes)?;
+    let (place, rest) = named(device_finder(by), &plan.devices, bytes)?;
     Ok((DevId(place as u32), rest))
 }
 
 /// A caller, by its place, and what follows its name.
-#[tactic(auto, unfolding(crate::specs::Reading::caller_at))]
-pub(crate) fn caller<'a>(plan: &Plan, bytes: &'a [u8]) -> Result<(u32, &'a [u8]), Left>
+#[tactic(auto, using(crate::proofs::PlanNames::callers_apart), unfolding(crate::specs::Reading::caller_at))]
+pub(crate) fn caller<'a>(
+    plan: &Plan,
+    by: Option<&Finders>,
+    bytes: &'a [u8],
+) -> Result<(u32, &'a [u8]), Left>
     ensures { Gives (λ found. (found.0, found.1.now)) result (caller_at (names_of plan.now) bytes.now) }
 {
-    let (place, rest) = named(&plan.callers, bytes)?;
+    let (place, rest) = named(caller_finder(by), &plan.callers, bytes)?;
     Ok((place as u32, rest))
 }
 
@@ -134,6 +151,19 @@ fn most_common<const N: usize>(table: &NameTable<N>, bytes: &[u8]) -> usize
     most
 }
 
+/// The place of a word in the table.
+fn table_place<const N: usize>(table: &NameTable<N>, word: &[u8]) -> Option<usize>
+    requires { length table.now ≡ N }
+    ensures { result ≡ place_of table.now word.now }
+{
+    for place in 0..N {
+        if is_same(table.name_of(place), word) {
+            return Some(place);
+        }
+    }
+    table.number_of(word)
+}
+
 /// The place of the word that stands before the first stop, and what follows the word.
 #[tactic(auto, using(crate::proofs::Places::common_len_fits), unfolding(crate::specs::Pieces::place_at))]
 pub(crate) fn placed<'a, const N: usize>(
@@ -145,7 +175,7 @@ pub(crate) fn placed<'a, const N: usize>(
     ensures { Gives (λ found. (found.0, found.1.now)) result (place_at table.now stop bytes.now) }
 {
     let (word, rest) = bytes.split_at(word_len(stop, bytes));
-    match table.number_of(word) {
+    match table_place(table, word) {
         Some(place) => Ok((place, rest)),
         None => Err(bytes.len() - most_common(table, bytes)),
     }

@@ -2,7 +2,7 @@
 use Rattle.std.proofs.Common.{Ok, sym, ◌∙◌, ap}
 use Rattle.pm_lineread.proofs.Answered.{fault_longest, left_fits, not_text2, read_text2, text2_read}
 use Rattle.pm_lineread.proofs.Readers.{one_answer}
-use Rattle.pm_lineread.proofs.read_line2.Goals as goal
+use Rattle.pm_lineread.proofs.read_line2_by.Goals as goal
 
 pub overflow_sub-result : goal.overflow_sub-result
 overflow_sub-result c = left_fits c.args.plan.now c.args.base c.requires c.args.bytes.now c.in-Err.left (sym c.line.ensures ∙ c.in-Err.is)
