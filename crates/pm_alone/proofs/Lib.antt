@@ -7,3 +7,4 @@ pub mod Nexts
 pub mod Writing
 pub mod Keeping
 pub mod Calling
+pub mod Deciding

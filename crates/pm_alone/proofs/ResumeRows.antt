@@ -1,5 +1,5 @@
 -- The rows of resume in a get_sync's call.
-use Rattle.std.proofs.Common.{ℕ, ◌≡◌, inl, inr, Bool, true, false, not, ◌&&◌, ◌||◌, Option, Some, None, ℤ, pos, length, if◌then◌else◌, refl, ◌∙◌, subst}
+use Rattle.std.proofs.Common.{ℕ, ◌≡◌, inl, inr, Bool, true, false, not, ◌&&◌, Option, Some, None, ℤ, pos, length, if◌then◌else◌, refl, ◌∙◌, subst}
 use Rattle.std.specs.Ordering.{int_eq}
 use Rattle.pm_base.specs.declared.Cb.TheVariants as cb
 use Rattle.pm_base.specs.declared.DevId.{DevId}

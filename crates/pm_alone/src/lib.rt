@@ -6,6 +6,8 @@ ghost use Rattle.pm_model.specs.History.{History};
 ghost use Rattle.pm_model.specs.Lawful.{IsLawful};
 ghost use Rattle.pm_alone.specs.Alone.{IsAlone};
 
+mod shown;
+
 /// In a lawful list, where all lines from a call of `get_sync` to its return are of one caller, at most one resume
 /// callback per device begins among them. It begins only for the device of the call, and for those that are reached
 /// from it by parents and by links that have `pm_runtime` and are present at that line (this project's own).
