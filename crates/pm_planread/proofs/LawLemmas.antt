@@ -9,6 +9,8 @@ use Rattle.pm_model.specs.declared.rows.DomainRow.{DomainRow}
 use Rattle.pm_model.specs.declared.rows.DeviceRow.{DeviceRow}
 use Rattle.pm_model.specs.declared.rows.LinkRow.{LinkRow}
 use Rattle.pm_model.specs.declared.rows.CallerRow.{CallerRow}
+use Rattle.pm_finder.proofs.PlanNames.{distinct_names as all_differ}
+use Rattle.pm_names.specs.Table.{all_distinct}
 use Rattle.pm_plantree.specs.Places.{first_fault}
 use Rattle.pm_plantree.specs.declared.place.Section.TheVariants.{Domain, Device, Caller}
 use Rattle.pm_plantree.specs.declared.raw.RawCaller.{RawCaller}
@@ -98,6 +100,18 @@ law raw named ordered commands =
     (rw (names_of_rows raw) (distinct_names Device (device_names raw) twice_device)))
     (distinct_links (device_names raw) raw.links known twice_link))
     (rw (names_of_callers raw) (distinct_names Caller (caller_names raw) twice_caller))
+
+-- no two domains and no two devices have one name
+pub domains_differ : (raw : RawPlan) → repeat_fault raw ≡ None → all_distinct (domain_names raw) ≡ true
+domains_differ raw none = all_differ (domain_names raw) (distinct_names Domain (domain_names raw) (repeats_none raw none).0)
+
+pub devices_named_apart : (raw : RawPlan) → repeat_fault raw ≡ None → all_distinct (device_names raw) ≡ true
+devices_named_apart raw none = all_differ (device_names raw) (distinct_names Device (device_names raw) (repeats_none raw none).1)
+
+-- no two devices that were made have one name
+pub devices_differ : (raw : RawPlan) (devices : List DeviceRow) → AreNamed raw → devices ≡ device_rows raw → all_distinct (map (λ row. row.name) devices) ≡ true
+devices_differ raw devices named made =
+    rw (made, names_of_rows raw) (devices_named_apart raw named.distinct)
 
 -- the callers over the devices that were made
 pub callers_are : (raw : RawPlan) (devices : List DeviceRow) (callers : List CallerRow) (rows : List RawCaller) → devices ≡ device_rows raw → rows ≡ raw.callers → callers ≡ map (caller_row (map (λ row. row.name) devices)) rows → callers ≡ caller_rows raw

@@ -72,14 +72,17 @@ ordered_plan raw =
     (unless (link_fault (device_rows raw) (link_rows raw)) why.NoCallbacksWithLink
     (counted_plan raw)))
 
+-- the refusals of names that aren't there
+abbrev pub known_plan : RawPlan → Result Contents PlanFault
+known_plan raw = unless (unknown_fault raw) why.Unknown (ordered_plan raw)
+
 -- the refusals of names
 unfoldable pub named_plan : RawPlan → Result Contents PlanFault
 named_plan raw =
     unless (too_many_fault raw) why.TooMany
     (unless (name_fault raw) why.Name
     (unless (repeat_fault raw) why.Repeat
-    (unless (unknown_fault raw) why.Unknown
-    (ordered_plan raw))))
+    (known_plan raw)))
 
 -- the refusals of the tree
 unfoldable pub tree_plan : Members → Result Contents PlanFault

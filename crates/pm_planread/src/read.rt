@@ -1,18 +1,19 @@
 //! Reads a plan.
 
-ghost use Rattle.std.specs.Prelude.{◌≡◌, Ok, IfErr, IfOk};
+ghost use Rattle.std.specs.Prelude.{◌≡◌, None, Ok, IfErr, IfOk};
 ghost use Rattle.toml.specs.View.{table_view};
 ghost use Rattle.pm_planrows.specs.Few.{AreFew};
 ghost use Rattle.pm_planread.specs.Named.{AreNamed, AreOrdered};
-ghost use Rattle.pm_planrows.specs.Names.{AreNamesOf};
+ghost use Rattle.pm_planrows.specs.Names.{AreNamesOf, name_fault, repeat_fault};
+ghost use Rattle.pm_planrows.specs.TooMany.{too_many_fault};
 ghost use Rattle.pm_planrows.specs.Rows.{device_rows, domain_rows, link_rows, natural_within};
-ghost use Rattle.pm_planread.specs.PlanOf.{IsFaultOf, contents_of, counted_plan, named_plan, ordered_plan, plan_of, tree_plan};
+ghost use Rattle.pm_planread.specs.PlanOf.{IsFaultOf, contents_of, counted_plan, known_plan, named_plan, ordered_plan, plan_of, tree_plan};
 
 use crate::refusal::{PlanFault, PlanWhy, refuse, refused};
 use crate::scripts::caller_rows;
 use pm_base::{MAX_LINES, PLAN_BYTES};
 use pm_model::{DeviceList, DomainList, LinkList, Plan};
-use pm_planrows::names::{Names, names_of};
+use pm_planrows::names::{Names, distinct_names, names_of};
 use pm_planrows::{
     code_fault, device_rows, domain_fault, domain_rows, later_fault, link_fault, link_rows,
     name_fault, natural_within, number_fault, repeat_fault, too_many_fault, unknown_fault,
@@ -62,6 +63,19 @@ fn named_plan(alloc: Global, raw: &RawPlan) -> Result<Plan, PlanFault>
     let names = names_of(alloc, raw)?;
     refuse(PlanWhy::Name, name_fault(raw, &names))?;
     refuse(PlanWhy::Repeat, repeat_fault(raw, &names))?;
+    known_plan(alloc, raw, names)
+}
+
+/// The plan of rows of which no two of a section have one name.
+fn known_plan(alloc: Global, raw: &RawPlan, names: Names) -> Result<Plan, PlanFault>
+    requires few { too_many_fault raw.now ≡ None }
+    requires are_names { name_fault raw.now ≡ None }
+    requires distinct { repeat_fault raw.now ≡ None }
+    requires names { AreNamesOf raw.now names }
+    ensures ok { IfOk result (λ plan. known_plan raw.now ≡ Ok (contents_of plan)) }
+    ensures fault { IfErr result (IsFaultOf (known_plan raw.now)) }
+{
+    let names = distinct_names(alloc, names)?;
     refuse(PlanWhy::Unknown, unknown_fault(raw, &names))?;
     ordered_plan(alloc, raw, &names)
 }

@@ -4,12 +4,14 @@ ghost use Rattle.std.specs.Prelude.{◌≡◌, ◌≤◌, true, None, length, ma
 ghost use Rattle.std.specs.List.{list_all};
 ghost use Rattle.pm_base.specs.declared.limits.TheConstants.{MAX_CALLERS, MAX_DEVICES};
 ghost use Rattle.pm_model.specs.IsPlan.{is_command};
+ghost use Rattle.pm_names.specs.Table.{all_distinct};
 ghost use Rattle.pm_plantree.specs.Places.{first_place, place};
 ghost use Rattle.pm_plantree.specs.declared.place.Section.TheVariants.{Caller};
 ghost use Rattle.pm_planread.specs.Faults.{IsScriptFault};
 ghost use Rattle.pm_planread.specs.Scripts.{are_commands, bad_command, caller_row, commands_in, is_no_command, script_fault};
 
 use crate::refusal::{PlanFault, PlanWhy, refused};
+use pm_finder::Finder;
 use pm_model::{CallerList, CallerRow, Command, DeviceList, Items, Name, NamedList};
 use pm_planrows::names::copied;
 use pm_plantree::{Place, RawCaller, Section};
@@ -24,13 +26,15 @@ pub fn caller_rows(
     callers: &[RawCaller],
 ) -> Result<CallerList, PlanFault>
     requires devices { length devices.now ≤ MAX_DEVICES }
+    requires distinct { all_distinct (map (λ row. row.name) devices.now) ≡ true }
     requires callers { length callers.now ≤ MAX_CALLERS }
     ensures rows { IfOk result (λ rows. rows ≡ map (caller_row (map (λ row. row.name) devices.now)) callers.now) }
     ensures valid { IfOk result (λ rows. list_all (are_commands (length devices.now)) rows ≡ true) }
     ensures none { OnOk result (script_fault (map (λ row. row.name) devices.now) callers.now ≡ None) }
     ensures fault { IfErr result (IsScriptFault (script_fault (map (λ row. row.name) devices.now) callers.now)) }
 {
-    let rows = callers_in(alloc, devices, callers)?;
+    let finder = Finder::new(alloc, devices.as_slice())?;
+    let rows = callers_in(alloc, devices, &finder, callers)?;
     Ok(NamedList::new(alloc, rows)?)
 }
 
@@ -38,9 +42,11 @@ pub fn caller_rows(
 fn callers_in(
     alloc: Global,
     devices: &DeviceList,
+    finder: &Finder,
     rows: &[RawCaller],
 ) -> Result<Vec<CallerRow>, PlanFault>
-    requires { length devices.now ≤ MAX_DEVICES }
+    requires few { length devices.now ≤ MAX_DEVICES }
+    requires distinct { all_distinct (map (λ row. row.name) devices.now) ≡ true }
     ensures rows { IfOk result (λ v. v.items ≡ map (caller_row (map (λ row. row.name) devices.now)) rows.now) }
     ensures valid { IfOk result (λ v. list_all (are_commands (length devices.now)) v.items ≡ true) }
     ensures none { OnOk result (script_fault (map (λ row. row.name) devices.now) rows.now ≡ None) }
@@ -48,7 +54,7 @@ fn callers_in(
 {
     let mut made = Vec::with_capacity(alloc, rows.len())?;
     for (i, row) in rows.iter().enumerate() {
-        made.push(caller_row(alloc, devices, row, i)?)?;
+        made.push(caller_row(alloc, devices, finder, row, i)?)?;
     }
     Ok(made)
 }
@@ -57,16 +63,18 @@ fn callers_in(
 fn caller_row(
     alloc: Global,
     devices: &DeviceList,
+    finder: &Finder,
     row: &RawCaller,
     caller: usize,
 ) -> Result<CallerRow, PlanFault>
-    requires { length devices.now ≤ MAX_DEVICES }
+    requires few { length devices.now ≤ MAX_DEVICES }
+    requires distinct { all_distinct (map (λ row. row.name) devices.now) ≡ true }
     ensures row { IfOk result (λ made. made ≡ caller_row (map (λ row. row.name) devices.now) row.now) }
     ensures valid { IfOk result (λ made. are_commands (length devices.now) made ≡ true) }
     ensures none { OnOk result (bad_command (map (λ row. row.name) devices.now) caller row.now ≡ None) }
     ensures fault { IfErr result (IsScriptFault (bad_command (map (λ row. row.name) devices.now) caller row.now)) }
 {
-    let script = commands_in(alloc, devices, row.script.as_slice(), caller)?;
+    let script = commands_in(alloc, devices, finder, row.script.as_slice(), caller)?;
     Ok(CallerRow {
         name: copied(alloc, &row.name)?,
         script: Items::new(script),
@@ -77,10 +85,12 @@ fn caller_row(
 fn commands_in(
     alloc: Global,
     devices: &DeviceList,
+    finder: &Finder,
     texts: &[Name],
     caller: usize,
 ) -> Result<Vec<Command>, PlanFault>
-    requires { length devices.now ≤ MAX_DEVICES }
+    requires few { length devices.now ≤ MAX_DEVICES }
+    requires distinct { all_distinct (map (λ row. row.name) devices.now) ≡ true }
     ensures commands { IfOk result (λ v. v.items ≡ commands_in (map (λ row. row.name) devices.now) texts.now) }
     ensures valid { IfOk result (λ v. list_all (is_command (length devices.now)) v.items ≡ true) }
     ensures none { OnOk result (first_place (is_no_command (map (λ row. row.name) devices.now)) 0 texts.now ≡ None) }
@@ -88,7 +98,7 @@ fn commands_in(
 {
     let mut commands = Vec::with_capacity(alloc, texts.len())?;
     for (i, text) in texts.iter().enumerate() {
-        match read_command_of(text.as_slice(), devices) {
+        match read_command_of(text.as_slice(), devices, Some(finder)) {
             Ok(command) => commands.push(command)?,
             Err(_) => {
                 let at = Place::new(Section::Caller, caller, i);

@@ -14,7 +14,7 @@ use Rattle.pm_plantree.specs.declared.raw.RawDevice.{RawDevice}
 use Rattle.pm_plantree.specs.declared.raw.RawLink.{RawLink}
 use Rattle.pm_plantree.specs.declared.raw.RawPlan.{RawPlan}
 use Rattle.pm_planrows.specs.Faults.{fault_if}
-use Rattle.pm_planrows.specs.declared.names.Label.{Label}
+use Rattle.pm_planrows.specs.declared.index.Label.{Label}
 use Rattle.pm_planrows.specs.declared.names.Names.{Names}
 
 abbrev pub names_in : List Label → List (List ℕ)

@@ -6,6 +6,7 @@
 #![tactic(auto)]
 
 mod codes;
+mod index;
 mod many;
 mod name_faults;
 pub mod names;

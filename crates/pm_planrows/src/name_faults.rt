@@ -8,7 +8,8 @@ ghost use Rattle.pm_plantree.specs.Places.{first_fault};
 ghost use Rattle.pm_planrows.specs.Faults.{fault_if};
 ghost use Rattle.pm_planrows.specs.Names.{AreNamesOf, device_unknown, domain_unknown, first_bad_name, first_repeat, is_earlier, is_lost, is_name_in, is_unknown, link_unknown, name_fault, names_in, repeat_fault, unknown_fault};
 
-use crate::names::{Index, Label, Names};
+use crate::index::{Index, Label};
+use crate::names::Names;
 use pm_base::MAX_NAME;
 use pm_model::Name;
 use pm_plantree::{Place, RawDevice, RawDomain, RawLink, RawPlan, Section};

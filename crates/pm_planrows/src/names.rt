@@ -1,30 +1,15 @@
 //! The names of a plan, each list with an index of its own.
 
-ghost use Rattle.std.specs.Prelude.{◌≡◌, ◌<◌, ◌^◌, length, map, vec_len, IfOk};
+ghost use Rattle.std.specs.Prelude.{◌≡◌, ◌<◌, ◌^◌, true, length, map, vec_len, IfOk};
+ghost use Rattle.pm_names.specs.Table.{all_distinct};
 ghost use Rattle.pm_planrows.specs.Few.{AreFew};
 ghost use Rattle.pm_planrows.specs.Names.{AreNamesOf, names_in, pair_name};
 
+use crate::index::{Index, Label};
 use pm_base::NoMemory;
-use pm_model::{Items, Name, Named, NamedList};
+use pm_model::{Items, Name, Named};
 use pm_plantree::{RawLink, RawPlan};
 use std::alloc::Global;
-
-/// A name by itself.
-#[derive(Debug, Drop)]
-pub struct Label {
-    pub name: Name,
-}
-
-impl Named for Label {
-    ghost name_of = { λ label. label.name };
-
-    fn name(&self) -> &Name {
-        &self.name
-    }
-}
-
-/// Names in the plan's order, which are found by binary search.
-pub type Index = NamedList<Label>;
 
 /// The names of a plan's items; of a link the names of both its devices.
 #[derive(Debug, Drop)]
@@ -48,6 +33,20 @@ pub fn names_of(alloc: Global, raw: &RawPlan) -> Result<Names, NoMemory>
     })
 }
 
+/// The same names where no two domains and no two devices have one name: they are found sooner.
+pub fn distinct_names(alloc: Global, names: Names) -> Result<Names, NoMemory>
+    requires domains { all_distinct (names_in names.domains) ≡ true }
+    requires devices { all_distinct (names_in names.devices) ≡ true }
+    ensures { IfOk result (λ same. same ≡ names) }
+{
+    Ok(Names {
+        domains: names.domains.distinct(alloc)?,
+        devices: names.devices.distinct(alloc)?,
+        links: names.links,
+        callers: names.callers,
+    })
+}
+
 /// A copy of a name.
 pub fn copied(alloc: Global, name: &Name) -> Result<Name, NoMemory>
     ensures { IfOk result (λ copy. copy ≡ name.now) }
@@ -60,7 +59,7 @@ fn index_of<T: Named>(alloc: Global, rows: &[T]) -> Result<Index, NoMemory>
     requires { length rows.now < 2 ^ 32 }
     ensures { IfOk result (λ index. names_in index ≡ map T.name_of rows.now) }
 {
-    Ok(NamedList::new(alloc, labels(alloc, rows)?)?)
+    Index::new(alloc, labels(alloc, rows)?)
 }
 
 fn labels<T: Named>(alloc: Global, rows: &[T]) -> Result<Vec<Label>, NoMemory>
@@ -80,7 +79,7 @@ fn link_index(alloc: Global, rows: &[RawLink]) -> Result<Index, NoMemory>
     requires { length rows.now < 2 ^ 32 }
     ensures { IfOk result (λ index. names_in index ≡ map (λ row. pair_name row.consumer row.supplier) rows.now) }
 {
-    Ok(NamedList::new(alloc, link_labels(alloc, rows)?)?)
+    Index::new(alloc, link_labels(alloc, rows)?)
 }
 
 fn link_labels(alloc: Global, rows: &[RawLink]) -> Result<Vec<Label>, NoMemory>

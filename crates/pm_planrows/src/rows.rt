@@ -8,7 +8,8 @@ ghost use Rattle.pm_planrows.specs.Names.{AreNamesOf, names_in};
 ghost use Rattle.pm_planrows.specs.Rows.{codes_of, device_of, device_or_first, device_row, device_rows, domain_of, domain_row, domain_rows, link_row, link_rows, ms_of, natural_within};
 
 use crate::codes::{codes_of, is_within};
-use crate::names::{Index, Names, copied};
+use crate::index::Index;
+use crate::names::{Names, copied};
 use pm_base::{DevId, DomId, MAX_MS, NoMemory};
 use pm_model::{
     Codes, DeviceList, DeviceRow, DomainList, DomainRow, Items, LinkList, LinkRow, Name, NamedList,

@@ -1,5 +1,8 @@
 -- The tree of a plan in the words of its values.
-use Rattle.std.proofs.Common.{◌≡◌, ℕ, Bool, ◌&&◌, None, is_some, List, [], ◌∷◌, length, map, String, Global, string_bytes, refl, ap, ◌∙◌}
+use Rattle.std.proofs.Common.{◌≡◌, ℕ, Bool, ◌&&◌, None, is_some, List, [], ◌∷◌, length, map, String, Global, string_bytes, nat_eq, refl, ap, ◌∙◌, arith}
+use Rattle.std.proofs.lemmas.Bool.Decides.{nat_tests}
+use Rattle.std.proofs.lemmas.Grind.{common_steps}
+use Rattle.std.specs.Str.{bytes_eq}
 use Rattle.std.proofs.lemmas.Bool.{false_from_ne_true}
 use Rattle.std.proofs.lemmas.List.{length-map}
 use Rattle.std.proofs.lemmas.Str.{IsUtf8-from_is_utf8, is_utf8-from_IsUtf8}
@@ -47,3 +50,10 @@ integers_of_view values = all_of_view (λ d. is_some (as_integer d)) values
 
 pub strings_of_view : (values : List Value) → list_all (λ d. is_some (as_str d)) (items_list (items_view values)) ≡ list_all (λ value. is_some (as_str (view value))) values
 strings_of_view values = all_of_view (λ d. is_some (as_str d)) values
+
+-- texts that are the same have one length
+pub same_of_one_length : (a b : List ℕ) → (nat_eq (length a) (length b) && bytes_eq a b) ≡ bytes_eq a b
+same_of_one_length [] [] = refl
+same_of_one_length [] (y ∷ b) = grind (arith, nat_tests, common_steps)
+same_of_one_length (x ∷ a) [] = grind (arith, nat_tests, common_steps)
+same_of_one_length (x ∷ a) (y ∷ b) = grind (arith, nat_tests, common_steps, same_of_one_length a b)

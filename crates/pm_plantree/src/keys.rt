@@ -2,6 +2,7 @@
 
 ghost use Rattle.std.specs.Prelude.{◌≡◌, is_some};
 ghost use Rattle.std.specs.List.{list_all};
+ghost use Rattle.std.specs.Str.{bytes_eq};
 ghost use Rattle.toml.specs.Data.{as_integer, as_str};
 ghost use Rattle.toml.specs.View.{view};
 ghost use Rattle.pm_plantree.specs.Keys.{is_number_key, is_numbers_key, is_of_kind, is_switch_key, is_tables_key, is_text_key, is_texts_key, kind_of};
@@ -48,15 +49,23 @@ pub fn kind_of(section: Section, key: &str) -> Option<Kind>
     }
 }
 
+/// Whether the key is this word. Most keys have another length, which is looked at first.
+#[tactic(auto, using(crate::proofs::TreeLemmas::same_of_one_length))]
+fn is_word(key: &str, word: &str) -> bool
+    ensures { result ≡ bytes_eq key.now word.now }
+{
+    key.len() == word.len() && key == word
+}
+
 fn is_text_key(section: Section, key: &str) -> bool
     ensures { result ≡ is_text_key section key.now }
 {
     match section {
         Section::Top => false,
-        Section::Domain => key == "name" || key == "parent",
-        Section::Device => key == "name" || key == "parent" || key == "domain",
-        Section::Link => key == "consumer" || key == "supplier",
-        Section::Caller => key == "name",
+        Section::Domain => is_word(key, "name") || is_word(key, "parent"),
+        Section::Device => is_word(key, "name") || is_word(key, "parent") || is_word(key, "domain"),
+        Section::Link => is_word(key, "consumer") || is_word(key, "supplier"),
+        Section::Caller => is_word(key, "name"),
     }
 }
 
@@ -64,8 +73,10 @@ fn is_number_key(section: Section, key: &str) -> bool
     ensures { result ≡ is_number_key section key.now }
 {
     match section {
-        Section::Top => key == "lines" || key == "trace",
-        Section::Device => key == "idle_ms" || key == "suspend_ms" || key == "resume_ms",
+        Section::Top => is_word(key, "lines") || is_word(key, "trace"),
+        Section::Device => is_word(key, "idle_ms")
+            || is_word(key, "suspend_ms")
+            || is_word(key, "resume_ms"),
         Section::Domain | Section::Link | Section::Caller => false,
     }
 }
@@ -74,9 +85,11 @@ fn is_switch_key(section: Section, key: &str) -> bool
     ensures { result ≡ is_switch_key section key.now }
 {
     match section {
-        Section::Domain => key == "always_on",
-        Section::Device => key == "ignore_children" || key == "no_callbacks" || key == "busy",
-        Section::Link => key == "pm_runtime" || key == "later",
+        Section::Domain => is_word(key, "always_on"),
+        Section::Device => is_word(key, "ignore_children")
+            || is_word(key, "no_callbacks")
+            || is_word(key, "busy"),
+        Section::Link => is_word(key, "pm_runtime") || is_word(key, "later"),
         Section::Top | Section::Caller => false,
     }
 }
@@ -85,7 +98,9 @@ fn is_numbers_key(section: Section, key: &str) -> bool
     ensures { result ≡ is_numbers_key section key.now }
 {
     match section {
-        Section::Device => key == "idle" || key == "suspend" || key == "resume",
+        Section::Device => is_word(key, "idle")
+            || is_word(key, "suspend")
+            || is_word(key, "resume"),
         Section::Top | Section::Domain | Section::Link | Section::Caller => false,
     }
 }
@@ -94,7 +109,7 @@ fn is_texts_key(section: Section, key: &str) -> bool
     ensures { result ≡ is_texts_key section key.now }
 {
     match section {
-        Section::Caller => key == "script",
+        Section::Caller => is_word(key, "script"),
         Section::Top | Section::Domain | Section::Device | Section::Link => false,
     }
 }
@@ -103,7 +118,10 @@ fn is_tables_key(section: Section, key: &str) -> bool
     ensures { result ≡ is_tables_key section key.now }
 {
     match section {
-        Section::Top => key == "domain" || key == "device" || key == "link" || key == "caller",
+        Section::Top => is_word(key, "domain")
+            || is_word(key, "device")
+            || is_word(key, "link")
+            || is_word(key, "caller"),
         Section::Domain | Section::Device | Section::Link | Section::Caller => false,
     }
 }

@@ -5,6 +5,7 @@ ghost use Rattle.std.specs.Option.{option_copied};
 ghost use Rattle.pm_base.specs.declared.limits.TheConstants.{MAX_DEVICES};
 ghost use Rattle.pm_model.specs.IsPlan.{is_command, is_operand};
 ghost use Rattle.pm_model.specs.Spelling.{operand_of, takes_device};
+ghost use Rattle.pm_names.specs.Table.{all_distinct};
 ghost use Rattle.pm_script.specs.Command.{command_of, device_in, device_named, helper_in, helper_named, operand_in, word_left};
 ghost use Rattle.pm_script.specs.Numbers.{is_switch, is_taken, milliseconds_in, switch_in};
 
@@ -12,6 +13,7 @@ use crate::fault::ScriptFault;
 use crate::numbers::{milliseconds_in, switch_in};
 use crate::words::{FirstWords, first_words};
 use pm_base::DevId;
+use pm_finder::{Finder, find};
 use pm_linetext::{helper_of, operand_of, takes_device};
 use pm_model::{Command, DeviceList, Helper, Operand, Plan};
 use pm_names::helpers;
@@ -24,22 +26,28 @@ pub fn read_command(bytes: &[u8], plan: &Plan) -> Result<Command, ScriptFault>
     ensures command { result ≡ command_of (map (λ row. row.name) plan.now.devices) bytes.now }
     ensures valid { IfOk result (λ command. is_command (length plan.now.devices) command ≡ true) }
 {
-    read_command_of(bytes, &plan.devices)
+    read_command_of(bytes, &plan.devices, None)
 }
 
 /// The same over a list of devices, of which there are no more than a plan has, for whoever makes a
-/// plan.
+/// plan. Where there is a finder, no two devices have one name.
 #[tactic(auto, unfolding(crate::specs::Command::command_of), using(crate::proofs::PlaceLemmas::operand_at, crate::proofs::PlaceLemmas::left_at))]
-pub fn read_command_of(bytes: &[u8], devices: &DeviceList) -> Result<Command, ScriptFault>
-    requires { length devices.now ≤ MAX_DEVICES }
+pub fn read_command_of(
+    bytes: &[u8],
+    devices: &DeviceList,
+    finder: Option<&Finder>,
+) -> Result<Command, ScriptFault>
+    requires few { length devices.now ≤ MAX_DEVICES }
+    requires distinct { IfSome finder (λ _. all_distinct (map (λ row. row.name) devices.now) ≡ true) }
     ensures command { result ≡ command_of (map (λ row. row.name) devices.now) bytes.now }
     ensures valid { IfOk result (λ command. is_command (length devices.now) command ≡ true) }
 {
     let words = first_words(bytes);
     let helper = helper_in(words.first)?;
     let operand = operand_of(helper);
-    let dev = device_in(helper, words.second, devices)?;
-    let number = operand_in(helper, operand, operand_word(&words, helper), devices)?;
+    let dev = device_in(helper, words.second, devices, finder)?;
+    let word = operand_word(&words, helper);
+    let number = operand_in(helper, operand, word, devices, finder)?;
     if word_left(&words, helper, operand).is_some() {
         return Err(ScriptFault::Extra);
     }
@@ -69,11 +77,12 @@ fn helper_named(word: &[u8]) -> Option<Helper>
 }
 
 /// The place of the device that a word names.
-fn device_named(word: Option<&[u8]>, devices: &DeviceList) -> Option<usize>
+fn device_named(word: Option<&[u8]>, devices: &DeviceList, finder: Option<&Finder>) -> Option<usize>
+    requires { IfSome finder (λ _. all_distinct (map (λ row. row.name) devices.now) ≡ true) }
     ensures place { result ≡ device_named (map (λ row. row.name) devices.now) (option_copied word.entry) }
     ensures in_range { IfSome result (λ d. d < length devices.now) }
 {
-    devices.find(word?)
+    find(finder, devices, word?)
 }
 
 /// The device of a command.
@@ -81,15 +90,17 @@ fn device_in(
     helper: Helper,
     word: Option<&[u8]>,
     devices: &DeviceList,
+    finder: Option<&Finder>,
 ) -> Result<DevId, ScriptFault>
-    requires { length devices.now ≤ MAX_DEVICES }
+    requires few { length devices.now ≤ MAX_DEVICES }
+    requires distinct { IfSome finder (λ _. all_distinct (map (λ row. row.name) devices.now) ≡ true) }
     ensures device { result ≡ device_in (map (λ row. row.name) devices.now) helper (option_copied word.entry) }
     ensures valid { IfOk result (λ d. (if takes_device helper then nat_lt d.0 (length devices.now) else nat_eq d.0 0) ≡ true) }
 {
     if !takes_device(helper) {
         return Ok(DevId(0));
     }
-    match device_named(word, devices) {
+    match device_named(word, devices, finder) {
         Some(place) => Ok(DevId(place as u32)),
         None => Err(ScriptFault::Device),
     }
@@ -144,8 +155,10 @@ fn operand_in(
     operand: Operand,
     word: Option<&[u8]>,
     devices: &DeviceList,
+    finder: Option<&Finder>,
 ) -> Result<i64, ScriptFault>
-    requires { length devices.now ≤ MAX_DEVICES }
+    requires few { length devices.now ≤ MAX_DEVICES }
+    requires distinct { IfSome finder (λ _. all_distinct (map (λ row. row.name) devices.now) ≡ true) }
     ensures number { result ≡ operand_in (map (λ row. row.name) devices.now) helper operand (option_copied word.entry) }
     ensures valid { IfOk result (λ n. is_operand (length devices.now) helper operand n ≡ true) }
 {
@@ -159,7 +172,7 @@ fn operand_in(
             Some(number) => Ok(number),
             None => Err(ScriptFault::Number),
         },
-        Operand::Supplier => match device_named(word, devices) {
+        Operand::Supplier => match device_named(word, devices, finder) {
             Some(supplier) => Ok(supplier as i64),
             None => Err(ScriptFault::Device),
         },

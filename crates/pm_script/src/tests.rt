@@ -104,7 +104,11 @@ fn commands_are_read(rt: HostRuntime) -> Result<(), Fail> {
     for (text, helper, dev, number) in &READ {
         let wanted = Ok(command(*helper, *dev, *number));
         assert_eq!(rt; read_command(*text, &plan), wanted, "{text:?}");
-        assert_eq!(rt; read_command_of(*text, &plan.devices), wanted, "{text:?}");
+        assert_eq!(rt;
+            read_command_of(*text, &plan.devices, None),
+            wanted,
+            "{text:?}"
+        );
     }
     Ok(())
 }

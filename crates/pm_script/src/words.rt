@@ -9,7 +9,12 @@ ghost use Rattle.pm_script.specs.Words.{is_space, is_word, words_of, words_from}
 fn space_at(bytes: &[u8]) -> Option<usize>
     ensures { result ≡ position is_space bytes.now }
 {
-    bytes.iter().position(|byte| *byte == b' ')
+    for (at, byte) in bytes.iter().enumerate() {
+        if *byte == b' ' {
+            return Some(at);
+        }
+    }
+    None
 }
 
 /// What stands before the first space and what stands behind it, or all the bytes and nothing where

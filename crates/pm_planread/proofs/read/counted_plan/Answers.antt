@@ -1,7 +1,10 @@
 -- The rows are those of a plan, and the plan that the text is has these rows.
 use Rattle.std.proofs.Common.{sym, ap, ◌∙◌, Ok}
-use Rattle.pm_planread.proofs.LawLemmas.{callers_are, contents_are, counted_ok, law_of, script_none}
+use Rattle.pm_planread.proofs.LawLemmas.{callers_are, contents_are, counted_ok, devices_differ, law_of, script_none}
 use Rattle.pm_planread.proofs.read.counted_plan.Goals as goal
+
+pub caller_rows-requires-clause-distinct : goal.caller_rows-requires-clause-distinct
+caller_rows-requires-clause-distinct c = devices_differ c.args.raw.now c.args.devices c.requires.named c.requires.devices
 
 pub invariant_of-result : goal.invariant_of-result
 invariant_of-result c =

@@ -5,6 +5,3 @@ use Rattle.pm_planread.proofs.read.named_plan.Goals as goal
 
 pub names_of-requires : goal.names_of-requires
 names_of-requires c = few_of c.args.raw.now (sym c.too_many_fault.ensures ∙ c.in_ok-refuse.ensures.none)
-
-pub ordered_plan-requires-clause-few : goal.ordered_plan-requires-clause-few
-ordered_plan-requires-clause-few c = few_of c.args.raw.now (sym c.too_many_fault.ensures ∙ c.in_ok-refuse.ensures.none)
