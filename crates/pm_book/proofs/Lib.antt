@@ -1,4 +1,6 @@
 pub mod RunningLemmas
 pub mod EndLemmas
 pub mod PageLemmas
+pub mod ScriptLemmas
+pub mod GrowLemmas
 pub mod TakeLemmas

@@ -1,3 +1,4 @@
+pub mod Growing
 pub mod Pages
 pub mod Sheets
 pub mod Takes

@@ -2,6 +2,7 @@
 #![tactic(auto)]
 
 mod book;
+mod growing;
 mod laws;
 mod lines;
 mod steps;
@@ -9,5 +10,6 @@ mod taking;
 mod writing;
 
 pub use book::Book;
+pub use growing::ExtendFault;
 pub use steps::{EndStep, Step};
 pub use taking::TakeFault;

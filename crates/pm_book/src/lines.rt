@@ -67,6 +67,11 @@ impl Lines {
         }
     }
 
+    /// Whence memory for lines is taken.
+    pub fn alloc(&self) -> Global {
+        *self.lines.allocator()
+    }
+
     /// The lines, in order.
     pub fn as_slice(&self) -> &[Line]
         ensures { result.now ≡ self.now.lines }

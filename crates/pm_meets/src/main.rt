@@ -13,7 +13,9 @@ use cases::{
 };
 use pm_planread::PlanFault;
 use std::io;
-use written::{cut_run_is_of_one_thread, trace_passes_audit};
+use written::{
+    cut_run_is_of_one_thread, run_goes_by_its_clock, run_tells_what_overlaps, trace_passes_audit,
+};
 
 fn main(rt: HostRuntime) -> io::Result<()> {
     let alloc = rt.alloc();
@@ -35,6 +37,12 @@ fn main(rt: HostRuntime) -> io::Result<()> {
     println!(rt; "a merge with more lines than the plan allows is none: {cut}")?;
     let strange = word(strange_book_is_replaced(alloc));
     println!(rt; "a book of another plan is replaced: {strange}")?;
+    let told = word(run_tells_what_overlaps(&rt, alloc));
+    println!(rt;
+        "what run writes by 2 hands has side by side what serial has one behind the other: {told}"
+    )?;
+    let clock = word(run_goes_by_its_clock(&rt, alloc));
+    println!(rt; "what run writes by 1 hand has the times of its clock: {clock}")?;
     let passes = word(trace_passes_audit(&rt, alloc));
     println!(rt; "what run writes by 4 hands passes its audit: {passes}")?;
     let alone = word(cut_run_is_of_one_thread(&rt, alloc));

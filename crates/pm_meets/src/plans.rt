@@ -19,3 +19,27 @@ caller = [{name = 'c', script = ['enable a', 'enable b', 'delay 20', 'get_sync b
 pub static CUT: &[u8] = b"lines = 6
 device = [{name = 'a'}, {name = 'b'}]
 caller = [{name = 'c', script = ['enable a', 'get_sync a']}, {name = 'e', script = ['enable b', 'get_sync b']}]";
+
+/// Two islands, of which one thread runs the second when the first is done.
+pub static STAGGERED: &[u8] = b"device = [{name = 'a'}, {name = 'b'}]
+caller = [{name = 'c', script = ['enable a', 'get_sync a']}, {name = 'e', script = ['delay 5', 'enable b', 'get_sync b']}]";
+
+/// One caller and one device.
+pub static ONE: &[u8] = b"device = [{name = 'a'}]
+caller = [{name = 'c', script = ['enable a', 'get_sync a']}]";
+
+/// The trace of it by one hand whose clock goes on by a second at each reading.
+pub static SECONDS: &[u8] = b"0 c pm_call: enable a
+1000 c pm_ret: enable a 0
+2000 c pm_call: get_sync a
+3000 c pm_get: a caller
+4000 c rpm_resume: a flags-4 cnt-1  dep-0  auto-1 p-0 irq-0 child-0
+5000 c pm_status: a resuming
+6000 c pm_callback: a resume begin
+7000 c pm_callback: a resume end 0
+8000 c pm_status: a active
+9000 c rpm_idle: a flags-1 cnt-1  dep-0  auto-1 p-0 irq-0 child-0
+10000 c rpm_return_int: rpm_idle:a ret=-11
+11000 c rpm_return_int: rpm_resume:a ret=0
+12000 c pm_ret: get_sync a 0
+";

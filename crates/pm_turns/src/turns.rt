@@ -57,8 +57,9 @@ fn no_waiters(alloc: Global, devices: usize, seats: usize) -> Result<Vec<Waiters
 }
 
 impl Turns {
-    // Looks anew at an actor, as things stand now.
-    pub(crate) fn refresh(&mut self, plan: &Plan, state: &State, actor: ActorId)
+    /// Looks anew at an actor, as things stand now: for one who has more to start than before. It takes
+    /// no memory.
+    pub fn refresh(&mut self, plan: &Plan, state: &State, actor: ActorId)
         requires is_of { IsOf plan.now state.now }
         requires stand { AllStandWell plan.now state.now.world }
         requires seats { AreOf plan.now self.old.rows }

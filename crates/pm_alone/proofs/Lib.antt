@@ -1,0 +1,10 @@
+pub mod Watching
+pub mod OtherRows
+pub mod ResumeRows
+pub mod Stacking
+pub mod Reaching
+pub mod Nexts
+pub mod Writing
+pub mod Keeping
+pub mod Calling
+pub mod Deciding
