@@ -1,0 +1,3 @@
+pub mod AgreeLemmas
+pub mod CallLemmas
+pub mod CloseLemmas
