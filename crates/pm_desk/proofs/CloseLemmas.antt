@@ -1,14 +1,11 @@
 -- A desk's book, drained and compared.
-use Rattle.std.proofs.Common.{ℕ, suc, ◌≡◌, ◌<◌, ◌≤◌, ◌^◌, ◌∙◌, ◌&&◌, Bool, true, false, List, [], ◌∷◌, length, map, nat_eq, nat_le, reverse, if◌then◌else◌, ap, arith, refl, subst, sym}
-use Rattle.std.proofs.lemmas.Bool.{and_parts, leb-true}
+use Rattle.std.proofs.Common.{ℕ, suc, ◌≡◌, ◌<◌, ◌≤◌, ◌^◌, ◌∙◌, Bool, true, false, List, [], ◌∷◌, length, map, nat_eq, reverse, if◌then◌else◌, ap, arith, refl, sym}
 use Rattle.std.proofs.lemmas.Grind.{common_steps}
 use Rattle.std.proofs.lemmas.List.{length-reverse}
-use Rattle.pm_base.specs.declared.limits.TheConstants.{MAX_LINES}
 use Rattle.pm_model.specs.declared.event.Line.{Line}
 use Rattle.pm_model.specs.declared.plan.Plan.{Plan}
 use Rattle.pm_model.specs.declared.rows.CallerRow.{CallerRow}
 use Rattle.pm_model.specs.Islands.{with_scripts}
-use Rattle.pm_model.specs.IsPlan.{is_plan}
 use Rattle.pm_model.specs.Lawful.{IsLawful}
 use Rattle.pm_islands.specs.Blank.{IsBlank}
 use Rattle.pm_desk.specs.Closing.{AreAlike}

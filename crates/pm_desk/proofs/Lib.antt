@@ -1,3 +1,2 @@
 pub mod AgreeLemmas
-pub mod CallLemmas
 pub mod CloseLemmas

@@ -1,5 +1,5 @@
 -- What a desk comes to when it is closed (this project's own).
-use Rattle.std.specs.Prelude.{◌≡◌, ◌+◌, ◌<◌, ℕ, Bool, true, false, not, ◌&&◌, List, Option, Some, None, length, map, nat_lt, slice_get}
+use Rattle.std.specs.Prelude.{◌≡◌, ◌+◌, ◌<◌, ℕ, Bool, true, false, not, ◌&&◌, List, Option, Some, length, map, nat_lt, slice_get}
 use Rattle.pm_base.specs.declared.limits.TheConstants.{MAX_COMMANDS}
 use Rattle.pm_model.specs.declared.event.Line.{Line}
 use Rattle.pm_model.specs.declared.plan.Plan.{Plan}
@@ -18,7 +18,6 @@ use Rattle.pm_desk.specs.declared.closing.Closed.{Closed}
 use Rattle.pm_desk.specs.declared.closing.Difference.{Difference}
 use Rattle.pm_desk.specs.declared.closing.Wrong.{Wrong}
 use Rattle.pm_desk.specs.declared.closing.Wrong.TheVariants as wrong
-use Rattle.pm_desk.specs.declared.pass.Receipt.{Receipt}
 use Rattle.pm_desk.specs.declared.pass.Stop.{Stop}
 use Rattle.pm_desk.specs.declared.pass.Stop.TheVariants as stop
 

@@ -1,4 +1,4 @@
-use Rattle.std.proofs.Common.{◌≡◌, ◌∙◌, List, ap, arith, length, refl, reverse, slice_get, subst}
+use Rattle.std.proofs.Common.{◌≡◌, ◌∙◌, List, ap, arith, refl, reverse, slice_get, subst}
 use Rattle.pm_desk.specs.Agreeing.{Agrees, DiffersAt}
 use Rattle.pm_desk.specs.Returns.{calls}
 use Rattle.pm_desk.specs.Slips.{kept_by, pass_of}

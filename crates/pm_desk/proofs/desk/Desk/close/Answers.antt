@@ -1,4 +1,4 @@
-use Rattle.std.proofs.Common.{List, subst, sym}
+use Rattle.std.proofs.Common.{List, subst}
 use Rattle.std.specs.Result.{IfErr}
 use Rattle.pm_desk.specs.Closing.{IsFault}
 use Rattle.pm_desk.specs.Desks.{Counter}
