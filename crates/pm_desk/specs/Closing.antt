@@ -4,6 +4,7 @@ use Rattle.pm_base.specs.declared.limits.TheConstants.{MAX_COMMANDS}
 use Rattle.pm_model.specs.declared.event.Line.{Line}
 use Rattle.pm_model.specs.declared.plan.Plan.{Plan}
 use Rattle.pm_model.specs.Lawful.{IsLawful}
+use Rattle.pm_alone.specs.Alone.{IsAlone}
 use Rattle.pm_book.specs.Growing.{script_of}
 use Rattle.pm_book.specs.Pages.{Pages, is_full}
 use Rattle.pm_serial.specs.declared.running.End.{End}
@@ -30,10 +31,12 @@ pub record AreAlike (a b : Plan) : Type 0 where
   pub links : a.links ≡ b.links
   pub names : map (λ row. row.name) a.callers ≡ map (λ row. row.name) b.callers
 
--- a desk's book that was drained: its plan is the desk's, but for scripts, its list is lawful, and its run ended so
+-- a desk's book that was drained: its plan is the desk's, but for scripts, its list is lawful, in it one call alone resumes each
+-- device at most once, and its run ended so
 pub record IsDrained (plan : Plan) (p : Pages) (e : End) : Type 0 where
   pub alike : AreAlike p.plan plan
   pub lawful : IsLawful p.plan p.lines
+  pub alone : IsAlone p.plan p.lines
   pub ends : IsEnd p e
 
 -- a call was stopped by a limit

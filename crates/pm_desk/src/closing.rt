@@ -1,6 +1,7 @@
 //! The closing of a desk.
 
 ghost use Rattle.std.specs.Prelude.{◌≡◌, ◌<◌, ◌^◌, IfErr, IfNone, IfOk, IfSome, IsTrue, length, reverse, true};
+ghost use Rattle.pm_alone.specs.Alone.{IsAlone};
 ghost use Rattle.pm_book.specs.Growing.{script_of};
 ghost use Rattle.pm_model.specs.Lawful.{IsLawful};
 ghost use Rattle.pm_serial.specs.Ends.{HasTime};
@@ -13,6 +14,7 @@ use crate::agreeing::{are_apart, disagrees_at, kept_by, receipt_at, stopped_of};
 use crate::desk::{Desk, fresh_book};
 use crate::pass::{Pass, Receipt, Stop};
 use crate::returns::calls_of;
+use pm_alone::one_call_alone;
 use pm_base::{MAX_COMMANDS, NoMemory};
 use pm_book::Book;
 use pm_islands::blank;
@@ -207,13 +209,22 @@ fn line_count(book: &Book) -> u32
     book.lines().len() as u32
 }
 
+// The lines of a book, which are lawful, keep the law of one call alone.
+fn keep_laws(book: &Book)
+    ensures lawful { IsLawful book.now.plan book.now.lines }
+    ensures alone { IsAlone book.now.plan book.now.lines }
+{
+    one_call_alone();
+    let _ = book.lines();
+}
+
 // Drains the book behind a desk's lock. Fails where memory runs out.
 fn drained(alloc: Global, plan: &Plan, book: Book) -> Result<Closed, NoMemory>
     ensures { IfOk result (λ closed. IsDrained plan.now closed.book (end_of closed.full)) }
 {
     let mut book = mended(alloc, book, plan)?;
     let end = drain(&mut book)?;
-    let _ = book.lines();
+    keep_laws(&book);
     Ok(Closed {
         book,
         full: is_cut(end),
