@@ -1,33 +1,14 @@
 //! The book of one island.
 
-ghost use Rattle.std.specs.Prelude.{◌≡◌, ◌≤◌, ◌^◌, ◌↔◌, [], IfOk, IfSome, IsTrue};
+ghost use Rattle.std.specs.Prelude.{◌≡◌, ◌≤◌, ◌^◌, [], IfOk, IfSome};
 ghost use Rattle.pm_model.specs.Lawful.{IsFinished, IsLawful, last_time};
 ghost use Rattle.pm_serial.specs.Ends.{HasTime};
 
 use pm_base::NoMemory;
 use pm_book::Book;
 use pm_model::Plan;
-use pm_serial::{End, drain, fresh_books_have_time};
+use pm_serial::{End, drain, fresh_books_have_time, has_time};
 use std::alloc::Global;
-
-/// Milliseconds from one line to the next on one thread, at most.
-const STEP: u64 = 1_000_000;
-
-/// The lines of a book that is drained come no later, in milliseconds of the run.
-const LATEST: u64 = 1 << 62;
-
-// Whether there is time for every line that a book's plan still allows: the condition of `drain`.
-fn has_time(book: &Book) -> bool
-    ensures { IsTrue result ↔ HasTime book.now.plan book.now.lines }
-{
-    let lines = book.lines();
-    let last = match lines.last() {
-        Some(line) => line.time,
-        None => 0,
-    };
-    let free = (book.plan().lines as usize).saturating_sub(lines.len());
-    last.saturating_add(STEP * free as u64) <= LATEST
-}
 
 // The book of a plan with no lines.
 fn fresh(alloc: Global, plan: Plan) -> Result<Book, NoMemory>

@@ -19,8 +19,8 @@ const MAX_HANDS: usize = 16;
 /// No clock reading counts as later, in milliseconds.
 const LATEST: u64 = 1 << 61;
 
-// What a clock reading counts as.
-fn counted(reading: u64) -> u64
+/// What a clock reading counts as: one above 2^61 as 2^61.
+pub fn counted(reading: u64) -> u64
     ensures { result ≡ min reading (2 ^ 61) }
 {
     reading.min(LATEST)
@@ -50,9 +50,10 @@ fn locked_end<R: Wait>(
     end(&mut island.lock(rt), actor, now, is_late)
 }
 
-// Lets a callback run that has begun at this moment by the clock, with no lock held, and writes its end
-// line when it may be written, and at the latest when the callback's time has passed by the clock.
-fn run_callback<R: Wait, C: Clock, G: Gate>(
+/// Lets a callback run that has begun at this moment by the clock, with no lock held, and writes its end line
+/// when it may be written, and at the latest when the callback's time has passed by the clock. This may wait
+/// for other threads.
+pub fn run_callback<R: Wait, C: Clock, G: Gate>(
     rt: &R,
     island: &Mutex<Book>,
     callback: Callback,

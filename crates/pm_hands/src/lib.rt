@@ -5,6 +5,6 @@ mod hands;
 mod turn;
 mod way;
 
-pub use hands::run_hands;
-pub use turn::{Callback, Turn, Wrote, end, take_turn};
+pub use hands::{counted, run_callback, run_hands};
+pub use turn::{Callback, Turn, Wrote, end, take_turn, try_step};
 pub use way::next_island;

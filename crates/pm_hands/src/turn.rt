@@ -107,8 +107,9 @@ fn next_turn(book: &Book) -> Option<(ActorId, u64)>
     book.next_turn()
 }
 
-// Lets an actor go on by one line, if it may.
-fn try_step(book: &mut Book, actor: ActorId, now: u64) -> Result<Option<Wrote>, NoMemory>
+/// Lets an actor go on by one line, if it may, at the moment of the last line, or at this later one by the
+/// clock. Else nothing is changed, and after `NoMemory` neither.
+pub fn try_step(book: &mut Book, actor: ActorId, now: u64) -> Result<Option<Wrote>, NoMemory>
     requires { IsActor book.old.plan actor }
     ensures ok { IfOk result (λ wrote. MatchOption wrote
         ((book.new ≡ book.old) × (has_written (step_answer book.old actor now) ≡ false))

@@ -1,7 +1,7 @@
 -- The rows of a part, and that it is a plan.
-use Rattle.std.proofs.Common.{◌≡◌, ◌<◌, ◌≤◌, ◌^◌, ◌∙◌, ℕ, suc, Bool, List, [], ◌∷◌, ◌++◌, Some, slice_get, true, if◌then◌else◌, length, nat_eq, refl, sym, subst, ap, arith}
+use Rattle.std.proofs.Common.{◌≡◌, ◌<◌, ◌≤◌, ◌^◌, ◌∙◌, ℕ, suc, Bool, List, [], ◌∷◌, ◌++◌, Some, replicate, slice_get, slice_index_or, true, if◌then◌else◌, length, nat_eq, refl, sym, subst, ap, arith}
 use Rattle.std.proofs.lemmas.Grind.{common_steps}
-use Rattle.std.proofs.lemmas.List.{append_assoc}
+use Rattle.std.proofs.lemmas.List.{append_assoc, get_or-replicate}
 use Rattle.std.proofs.lemmas.Option.{slice_get_within}
 use Rattle.pm_model.specs.declared.plan.Plan.{Plan}
 use Rattle.pm_model.specs.declared.rows.CallerRow.{CallerRow}
@@ -71,3 +71,10 @@ put_more numbers others rows rest old pushed made row copy number island n r is 
     ap (λ l. with_scripts (is_of l island) (row ∷ rest)) (sym n) ∙ ap (λ l. with_scripts (is_of numbers island) l) (sym r) in
     m ∙ ap (λ l. l ++ with_scripts (is_of others island) rest) p ∙ append_assoc old (copy ∷ []) (with_scripts (is_of others island) rest)
     ∙ ap (λ x. old ++ x ∷ with_scripts (is_of others island) rest) is ∙ ap (λ l. old ++ l) step
+
+-- every node has this number
+pub all_of_one : (plan : Plan) (numbers : List ℕ) → numbers ≡ replicate (length plan.callers) 1 → AreNumbers plan (λ node. 1) numbers
+all_of_one plan numbers are = record {
+  shared = λ a b touching. refl;
+  each = λ c below. sym (subst (λ l. slice_index_or l c 0 ≡ 1) (sym are) (get_or-replicate (length plan.callers) c 1 0 below));
+}

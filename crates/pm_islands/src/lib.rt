@@ -12,4 +12,4 @@ mod touching;
 
 pub use merging::merge;
 pub use numbers::{IslandNumbers, islands, number};
-pub use parts::part;
+pub use parts::{blank, part};

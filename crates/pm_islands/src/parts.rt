@@ -2,6 +2,7 @@
 
 ghost use Rattle.std.specs.Prelude.{ℕ, ◌≡◌, ◌<◌, ◌^◌, [], ◌∷◌, ◌++◌, IfNone, IfOk, IfSome, if◌then◌else◌, length};
 ghost use Rattle.pm_model.specs.Islands.{IsPart, Node, Numbering, with_scripts};
+ghost use Rattle.pm_islands.specs.Blank.{IsBlank};
 ghost use Rattle.pm_islands.specs.Numbers.{AreNumbers, IsIsland, is_of};
 
 use crate::numbers::caller_numbers;
@@ -180,4 +181,13 @@ pub fn part(alloc: Global, plan: &Plan, island: u32) -> Result<Plan, NoMemory>
 {
     let numbers = caller_numbers(alloc, plan)?;
     part_of(alloc, plan, &numbers, island)
+}
+
+/// The plan with every script empty (this project's own). Fails where memory runs out.
+pub fn blank(alloc: Global, plan: &Plan) -> Result<Plan, NoMemory>
+    ensures { IfOk result (IsBlank plan.now) }
+{
+    // No caller is of island 0.
+    let numbers = vec![in alloc; 1u32; plan.callers.len()]?;
+    part_of(alloc, plan, &numbers, 0)
 }

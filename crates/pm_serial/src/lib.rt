@@ -3,4 +3,4 @@
 
 mod running;
 
-pub use running::{End, drain, fresh_books_have_time};
+pub use running::{End, drain, fresh_books_have_time, has_time};

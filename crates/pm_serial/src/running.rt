@@ -1,6 +1,6 @@
 //! Draining a book.
 
-ghost use Rattle.std.specs.Prelude.{◌≡◌, ◌<◌, [], false, reverse, IfNone, IfOk, IfSome, IsOk, OnErr, OnOk};
+ghost use Rattle.std.specs.Prelude.{◌≡◌, ◌<◌, ◌↔◌, [], false, reverse, IfNone, IfOk, IfSome, IsOk, IsTrue, OnErr, OnOk};
 ghost use Rattle.pm_book.specs.Pages.{is_full};
 ghost use Rattle.pm_model.specs.declared.plan.Plan.{Plan};
 ghost use Rattle.pm_model.specs.Lawful.{IsFinished};
@@ -11,6 +11,12 @@ use pm_base::{ActorId, NoMemory};
 use pm_book::{Book, Step};
 use pm_bounds::due_moments;
 use pm_stuck::{serial_ends, serial_stops};
+
+/// Milliseconds from one line to the next on one thread, at most.
+const STEP: u64 = 1_000_000;
+
+/// The lines of a book that is drained come no later, in milliseconds of the run.
+const LATEST: u64 = 1 << 62;
 
 /// How a run on one thread ended (this project's own).
 #[derive(Clone, Copy, Debug, PartialEq, Eq)]
@@ -61,6 +67,20 @@ fn write(book: &mut Book, actor: ActorId, now: u64) -> Result<(), NoMemory>
 pub fn fresh_books_have_time()
     ensures { (plan : Plan) → HasTime plan [] }
 {}
+
+/// Whether there is time for every line that a book's plan still allows: the condition of `drain`. It takes
+/// no memory.
+pub fn has_time(book: &Book) -> bool
+    ensures { IsTrue result ↔ HasTime book.now.plan book.now.lines }
+{
+    let lines = book.lines();
+    let last = match lines.last() {
+        Some(line) => line.time,
+        None => 0,
+    };
+    let free = (book.plan().lines as usize).saturating_sub(lines.len());
+    last.saturating_add(STEP * free as u64) <= LATEST
+}
 
 /// Lets the run of a book go on by the order of turns on one thread, until it is finished or has all the
 /// lines that its plan allows (this project's own). `Finished` comes exactly where the run is finished,

@@ -1,0 +1,5 @@
+pub mod Agreeing
+pub mod Closing
+pub mod Desks
+pub mod Returns
+pub mod Slips

@@ -1,0 +1,211 @@
+//! A call by a pass.
+
+ghost use Rattle.std.specs.Prelude.{◌≡◌, ◌<◌, Err, IfErr, IfOk, IfSome, IsTrue, OnErr, length, true};
+ghost use Rattle.pm_model.specs.IsPlan.{is_command};
+ghost use Rattle.pm_desk.specs.Slips.{with_receipt, with_stop};
+
+use crate::desk::{Desk, fresh_book};
+use crate::pass::{Pass, Receipt, Stop};
+use crate::returns::returned_in;
+use pm_base::{ActorId, NoMemory};
+use pm_book::Book;
+use pm_gate::{Clock, Gate};
+use pm_hands::{Turn, Wrote, counted, run_callback, take_turn, try_step};
+use pm_model::{Command, Line, Plan};
+use std::alloc::Global;
+use std::sync::Wait;
+use std::thread;
+
+/// What a call found in one hold of the lock.
+#[derive(Clone, Copy, Debug, PartialEq, Eq)]
+enum Found {
+    /// Its command has returned this code.
+    Returned(i32),
+    /// It wrote a line.
+    Wrote(Wrote),
+    /// No line may be written now.
+    Waits,
+    /// No further line can be written.
+    Over,
+}
+
+/// What a call found, and how many lines it has looked at.
+#[derive(Clone, Copy, Debug, PartialEq, Eq)]
+struct Look {
+    found: Found,
+    seen: usize,
+}
+
+// Whether a book has as many callers and devices as the plan.
+fn fits(book: &Book, plan: &Plan) -> bool
+    ensures callers { IsTrue result → length book.now.plan.callers ≡ length plan.now.callers }
+    ensures devices { IsTrue result → length book.now.plan.devices ≡ length plan.now.devices }
+{
+    book.plan().callers.len() == plan.callers.len()
+        && book.plan().devices.len() == plan.devices.len()
+}
+
+// Replaces a book that has other callers or devices than the plan by a fresh one.
+fn mend(alloc: Global, book: &mut Book, plan: &Plan) -> Result<(), NoMemory>
+    ensures callers { IfOk result (λ _. length book.new.plan.callers ≡ length plan.now.callers) }
+    ensures devices { IfOk result (λ _. length book.new.plan.devices ≡ length plan.now.devices) }
+{
+    if !fits(book, plan) {
+        *book = fresh_book(alloc, plan)?;
+    }
+    Ok(())
+}
+
+// Puts a command at the end of a caller's script, and says how many lines there are.
+fn extend(
+    alloc: Global,
+    book: &mut Book,
+    plan: &Plan,
+    caller: u32,
+    command: Command,
+) -> Result<usize, Stop>
+    requires in_range { caller < length plan.now.callers }
+    requires of_plan { is_command (length plan.now.devices) command ≡ true }
+{
+    mend(alloc, book, plan)?;
+    book.extend(caller, command)?;
+    Ok(book.lines().len())
+}
+
+// The first code that a caller's command returns with one of the lines behind the first so many.
+fn code_behind(lines: &[Line], caller: u32, seen: usize) -> Option<i32> {
+    for line in lines.get(seen..).unwrap_or(&[]) {
+        if let Some(code) = returned_in(caller, line) {
+            return Some(code);
+        }
+    }
+    None
+}
+
+// Lets a caller go on by one line, if it may.
+fn step_own(book: &mut Book, caller: u32, now: u64) -> Result<Option<Wrote>, NoMemory> {
+    if (caller as usize) < book.plan().callers.len() {
+        try_step(book, ActorId::Caller(caller), now)
+    } else {
+        Ok(None)
+    }
+}
+
+// Lets an actor go on by one line, this caller first.
+fn step(book: &mut Book, caller: u32, now: u64) -> Result<Found, NoMemory> {
+    if let Some(wrote) = step_own(book, caller, now)? {
+        return Ok(Found::Wrote(wrote));
+    }
+    match take_turn(book, now)? {
+        Turn::Wrote(wrote) => Ok(Found::Wrote(wrote)),
+        Turn::Waits => Ok(Found::Waits),
+        Turn::Over => Ok(Found::Over),
+    }
+}
+
+// What a call does in one hold of the lock: it looks whether its command has returned with one of the lines
+// behind the first so many, and else lets an actor go on.
+fn go_on(book: &mut Book, caller: u32, seen: usize, now: u64) -> Result<Look, NoMemory> {
+    let lines = book.lines();
+    let count = lines.len();
+    if let Some(code) = code_behind(lines, caller, seen) {
+        let found = Found::Returned(code);
+        return Ok(Look { found, seen: count });
+    }
+    let found = step(book, caller, now)?;
+    Ok(Look { found, seen: count })
+}
+
+// Puts a command at the end of a caller's script, and lets actors go on until it has returned.
+fn run_command<R: Wait, C: Clock, G: Gate>(
+    rt: &R,
+    desk: &Desk,
+    caller: u32,
+    command: Command,
+    clock: &C,
+    gate: &G,
+) -> Result<i32, Stop>
+    requires in_range { caller < length desk.now.plan.callers }
+    requires of_plan { is_command (length desk.now.plan.devices) command ≡ true }
+{
+    let mut seen = extend(
+        desk.alloc,
+        &mut desk.book.lock(rt),
+        &desk.plan,
+        caller,
+        command,
+    )?;
+    for _ in rt.forever() {
+        let now = counted(clock.now());
+        let look = go_on(&mut desk.book.lock(rt), caller, seen, now)?;
+        seen = look.seen;
+        match look.found {
+            Found::Returned(code) => return Ok(code),
+            Found::Wrote(Wrote::Line) => {}
+            Found::Wrote(Wrote::Began(callback)) => {
+                run_callback(rt, &desk.book, callback, now, clock, gate);
+            }
+            Found::Waits => thread::yield_now(),
+            Found::Over => break,
+        }
+    }
+    Err(Stop::Limit)
+}
+
+impl Pass {
+    // Makes a call, and keeps its receipt. The receipt's place is taken first.
+    fn try_call<R: Wait, C: Clock, G: Gate>(
+        &mut self,
+        rt: &R,
+        desk: &Desk,
+        command: Command,
+        clock: &C,
+        gate: &G,
+    ) -> Result<i32, Stop>
+        requires in_range { self.old.caller < length desk.now.plan.callers }
+        requires of_plan { is_command (length desk.now.plan.devices) command ≡ true }
+        ensures ok { IfOk result (λ code. self.new ≡ with_receipt self.old (record { command = command; code = code })) }
+        ensures err { OnErr result (self.new ≡ self.old) }
+    {
+        self.receipts.reserve(1)?;
+        let code = run_command(rt, desk, self.caller, command, clock, gate)?;
+        self.receipts.push_reserved(Receipt { command, code });
+        Ok(code)
+    }
+
+    /// Calls a helper: puts the command at the end of the caller's script, and lets any actor write that may,
+    /// its own caller first, until the command has returned. It answers the code, and keeps a receipt. The
+    /// pass's caller is one of the desk's plan, and the command one that a script of that plan may have.
+    ///
+    /// Each callback that it begins runs with no lock held, and its end line is written once the gate has
+    /// returned and the plan's time has passed, by the run or by the clock. A clock reading above 2^61 counts
+    /// as 2^61, and where all are early, the earliest moment at which a line is due counts as now.
+    ///
+    /// After a `Stop` the pass has no receipt more, and each later call answers the same and does nothing.
+    /// `Limit` comes where the list has all the lines that the plan allows, or the script 1,000 commands,
+    /// which the closing of the desk looks at. This may wait for other threads, and what it did to the book
+    /// is known by its type alone.
+    pub fn call<R: Wait, C: Clock + Sync, G: Gate + Sync>(
+        &mut self,
+        rt: &R,
+        desk: &Desk,
+        command: Command,
+        clock: &C,
+        gate: &G,
+    ) -> Result<i32, Stop>
+        requires in_range { self.old.caller < length desk.now.plan.callers }
+        requires of_plan { is_command (length desk.now.plan.devices) command ≡ true }
+        ensures ok { IfOk result (λ code. self.new ≡ with_receipt self.old (record { command = command; code = code })) }
+        ensures stop { IfErr result (λ why. self.new ≡ with_stop self.old why) }
+        ensures again { IfSome self.old.stopped (λ why. result ≡ Err why) }
+    {
+        if let Some(why) = self.stopped {
+            return Err(why);
+        }
+        let called = self.try_call(rt, desk, command, clock, gate);
+        if let Err(why) = called {
+            self.stopped = Some(why);
+        }
+        called
+    }
+}
