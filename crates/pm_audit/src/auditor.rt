@@ -11,6 +11,7 @@ use crate::rest::Rest;
 use bstr::ByteSlice;
 use pm_base::NoMemory;
 use pm_judge::Judge;
+use pm_lineread::Finders;
 use pm_model::Plan;
 use std::alloc::Global;
 
@@ -51,6 +52,7 @@ fn verdict_of_bad(bad: BadLine) -> Verdict
 #[derive(Drop)]
 pub struct Auditor {
     judge: Judge,
+    finders: Finders,
     format: Format,
     rest: Rest,
     bad: Option<BadLine>,
@@ -68,9 +70,14 @@ impl Auditor {
             Ok(rest) => rest,
             Err(error) => return Err((plan, error)),
         };
+        let finders = match Finders::new(alloc, &plan) {
+            Ok(finders) => finders,
+            Err(error) => return Err((plan, error)),
+        };
         match Judge::start(alloc, plan) {
             Ok(judge) => Ok(Auditor {
                 judge,
+                finders,
                 format: Format::Untold,
                 rest,
                 bad: None,
@@ -89,7 +96,13 @@ impl Auditor {
             return;
         }
         let line = u64::from(self.judge.lines()) + 1;
-        if let Some(why) = end_line(&mut self.judge, &mut self.format, &mut self.rest, piece) {
+        if let Some(why) = end_line(
+            &mut self.judge,
+            &self.finders,
+            &mut self.format,
+            &mut self.rest,
+            piece,
+        ) {
             self.bad = Some(BadLine { line, why });
         }
     }

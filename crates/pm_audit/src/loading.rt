@@ -9,6 +9,7 @@ ghost use Rattle.pm_model.specs.Spelling.{header};
 use crate::reading::{HEADER, NoWhy, line_of};
 use bstr::ByteSlice;
 use pm_book::{Book, TakeFault};
+use pm_lineread::Finders;
 use pm_model::Plan;
 use std::alloc::Global;
 
@@ -36,11 +37,11 @@ fn bad_line(book: &Book, why: NoWhy) -> LoadFault
 }
 
 // Takes the line of the plan whose text this is, in format 2 where that is true, or says why it is bad.
-fn take(book: &mut Book, is_format2: bool, text: &[u8]) -> Result<(), LoadFault>
+fn take(book: &mut Book, by: &Finders, is_format2: bool, text: &[u8]) -> Result<(), LoadFault>
     ensures ok { OnOk result (HasTaken is_format2 book.old.plan book.old.lines book.new text.now) }
     ensures err { IfErr result (λ fault. IsLineFault is_format2 book.old text.now fault) }
 {
-    let Some(line) = line_of(book.plan(), book.last_time(), is_format2, text) else {
+    let Some(line) = line_of(book.plan(), by, book.last_time(), is_format2, text) else {
         return Err(bad_line(book, NoWhy::Text));
     };
     match book.take_line(&line) {
@@ -61,7 +62,7 @@ fn behind_header(bytes: &[u8]) -> Option<&[u8]>
 }
 
 // Takes the lines of a trace, which a book without lines then has, or says why it can't.
-fn take_all(book: &mut Book, bytes: &[u8]) -> Result<(), LoadFault>
+fn take_all(book: &mut Book, by: &Finders, bytes: &[u8]) -> Result<(), LoadFault>
     requires { book.old.lines ≡ [] }
     ensures ok { OnOk result (AreLoaded book.old.plan bytes.now book.new) }
     ensures err { IfErr result (λ fault. IsRefused book.old.plan bytes.now fault) }
@@ -72,7 +73,7 @@ fn take_all(book: &mut Book, bytes: &[u8]) -> Result<(), LoadFault>
     };
     'lines: while let Some(at) = left.find_byte(b'\n') {
         let (text, behind) = left.split_at(at);
-        take(book, is_format2, text)?;
+        take(book, by, is_format2, text)?;
         left = behind.split_at(1).1;
     }
     if left.is_empty() {
@@ -89,9 +90,12 @@ pub fn load_trace(alloc: Global, plan: Plan, bytes: &[u8]) -> Result<Book, LoadF
     ensures stands { IfOk result (λ book. StandsFor plan bytes.now book.lines) }
     ensures refused { IfErr result (λ fault. IsRefused plan bytes.now fault) }
 {
+    let Ok(finders) = Finders::new(alloc, &plan) else {
+        return Err(LoadFault::NoMemory);
+    };
     let Ok(mut book) = Book::start(alloc, plan) else {
         return Err(LoadFault::NoMemory);
     };
-    take_all(&mut book, bytes)?;
+    take_all(&mut book, &finders, bytes)?;
     Ok(book)
 }

@@ -10,7 +10,7 @@ ghost use Rattle.pm_model.specs.Text.{IsTextBehind};
 
 use crate::rest::Rest;
 use pm_judge::{Bad, Judge};
-use pm_lineread::{read_line, read_line2};
+use pm_lineread::{Finders, read_line_by, read_line2_by};
 use pm_model::{Line, Plan};
 
 /// The line with which a trace of format 2 begins.
@@ -41,23 +41,29 @@ pub enum Format {
 }
 
 // The line of the plan whose text this is behind a line of that time, in format 2 where that is true.
-pub(crate) fn line_of(plan: &Plan, last: u64, is_format2: bool, text: &[u8]) -> Option<Line>
+pub(crate) fn line_of(
+    plan: &Plan,
+    by: &Finders,
+    last: u64,
+    is_format2: bool,
+    text: &[u8],
+) -> Option<Line>
     requires { last < 2 ^ 63 }
     ensures some { IfSome result (λ line. IsTextBehind is_format2 plan.now last line text.now) }
     ensures none { IfNone result ((line : ALine) → ¬ IsTextBehind is_format2 plan.now last line text.now) }
 {
     if is_format2 {
-        return read_line2(plan, last, text).ok();
+        return read_line2_by(plan, Some(by), last, text).ok();
     }
-    read_line(plan, text).ok()
+    read_line_by(plan, Some(by), text).ok()
 }
 
 // Takes the line whose text this is, or says why it is bad.
-fn read(judge: &mut Judge, is_format2: bool, text: &[u8]) -> Option<NoWhy>
+fn read(judge: &mut Judge, by: &Finders, is_format2: bool, text: &[u8]) -> Option<NoWhy>
     ensures read { (h : List ALine) → IsLawful judge.old.plan h → JudgeStandsFor judge.old h → IsRead is_format2 judge.old.plan h text.now judge.new result }
     ensures plan { judge.new.plan ≡ judge.old.plan }
 {
-    let Some(line) = line_of(judge.plan(), judge.last_time(), is_format2, text) else {
+    let Some(line) = line_of(judge.plan(), by, judge.last_time(), is_format2, text) else {
         return Some(NoWhy::Text);
     };
     match judge.judge(&line) {
@@ -69,7 +75,7 @@ fn read(judge: &mut Judge, is_format2: bool, text: &[u8]) -> Option<NoWhy>
 }
 
 // Takes one more whole line, without its newline, or says why it is bad.
-fn take(judge: &mut Judge, format: &mut Format, text: &[u8]) -> Option<NoWhy>
+fn take(judge: &mut Judge, by: &Finders, format: &mut Format, text: &[u8]) -> Option<NoWhy>
     ensures taken { (whole : List ℕ) (h : List ALine) → is_within_line text.now ≡ true → IsGood judge.old.plan judge.old format.old whole h → IsTaken judge.old.plan whole h text.now format.new judge.new result }
     ensures plan { judge.new.plan ≡ judge.old.plan }
 {
@@ -80,21 +86,21 @@ fn take(judge: &mut Judge, format: &mut Format, text: &[u8]) -> Option<NoWhy>
                 return None;
             }
             *format = Format::One;
-            read(judge, false, text)
+            read(judge, by, false, text)
         }
-        Format::One => read(judge, false, text),
-        Format::Two => read(judge, true, text),
+        Format::One => read(judge, by, false, text),
+        Format::Two => read(judge, by, true, text),
     }
 }
 
 // Takes a whole line that is the rest, or says why it is bad.
-fn take_rest(judge: &mut Judge, format: &mut Format, rest: &Rest) -> Option<NoWhy>
+fn take_rest(judge: &mut Judge, by: &Finders, format: &mut Format, rest: &Rest) -> Option<NoWhy>
     ensures taken { (whole line : List ℕ) (h : List ALine) → IsRest rest.now line → is_within_line line ≡ true → IsGood judge.old.plan judge.old format.old whole h
         → IsTaken judge.old.plan whole h line format.new judge.new result }
     ensures plan { judge.new.plan ≡ judge.old.plan }
 {
     match rest.bytes() {
-        Some(text) => take(judge, format, text),
+        Some(text) => take(judge, by, format, text),
         None => Some(NoWhy::Text),
     }
 }
@@ -103,6 +109,7 @@ fn take_rest(judge: &mut Judge, format: &mut Format, rest: &Rest) -> Option<NoWh
 /// the rest.
 pub(crate) fn end_line(
     judge: &mut Judge,
+    by: &Finders,
     format: &mut Format,
     rest: &mut Rest,
     piece: &[u8],
@@ -114,10 +121,10 @@ pub(crate) fn end_line(
     ensures plan { judge.new.plan ≡ judge.old.plan }
 {
     if rest.is_empty() {
-        return take(judge, format, piece);
+        return take(judge, by, format, piece);
     }
     rest.push(piece);
-    let bad = take_rest(judge, format, rest);
+    let bad = take_rest(judge, by, format, rest);
     rest.clear();
     bad
 }
