@@ -5,11 +5,13 @@ ghost use Rattle.pm_model.specs.History.{History};
 ghost use Rattle.pm_model.specs.Lawful.{IsLawful};
 ghost use Rattle.pm_endings.specs.Promised.{KeepsPromises};
 
+use pm_alone::one_call_alone;
 use pm_kept::kept;
 use pm_running::{runs_are_exclusive, runs_are_safe};
 use pm_succeed::gets_succeed;
 
-/// Each lawful list is safe, exclusive and kept, and where nothing disturbs its gets succeed.
+/// Each lawful list is safe, exclusive and kept, where nothing disturbs its gets succeed, and one call alone
+/// resumes each device at most once.
 pub fn promises_are_kept()
     ensures { (plan : Plan) (h : History) → IsLawful plan h → KeepsPromises plan h }
 {
@@ -17,4 +19,5 @@ pub fn promises_are_kept()
     runs_are_exclusive();
     kept();
     gets_succeed();
+    one_call_alone();
 }
