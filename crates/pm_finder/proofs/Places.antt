@@ -1,5 +1,5 @@
 -- A row of a list without repeats that has a name is the first of the name.
-use Rattle.std.proofs.Common.{◌≡◌, ℕ, ◌<◌, true, List, Option, Some, length, map, slice_get, option_map, sym, ap, ◌∙◌}
+use Rattle.std.proofs.Common.{◌≡◌, ℕ, ◌<◌, true, List, Some, length, map, slice_get, option_map, sym, ap, ◌∙◌}
 use Rattle.std.proofs.lemmas.Option.{slice_get-map, slice_get_within}
 use Rattle.pm_lists.specs.NamedList.{place_named}
 use Rattle.pm_names.proofs.TableLemmas.{place_of_only}

@@ -1,5 +1,5 @@
 -- What was passed is the same, so the texts are where the rests are.
-use Rattle.std.proofs.Common.{◌≡◌, ◌≤◌, drop, length}
+use Rattle.std.proofs.Common.{◌≡◌, drop, length}
 use Rattle.pm_finder.proofs.is_same.Given as goal
 
 abbrev pub invariant-loop-i : goal.invariant-loop-i
