@@ -1,8 +1,10 @@
 -- What a line makes of its actor's place, of errors and of held links.
-use Rattle.std.proofs.Common.{ℕ, ◌≡◌, ◌<◌, ◌≤◌, Bool, true, false, List, [], ◌∷◌, Option, ℤ, length, drop, ap, refl, sym, ◌∙◌, subst, arith}
+use Rattle.std.proofs.Common.{ℕ, ◌≡◌, ◌<◌, ◌≤◌, inl, inr, Bool, true, false, List, [], ◌∷◌, Option, ℤ, length, drop, ap, refl, sym, ◌∙◌, subst, arith}
 use Rattle.std.specs.List.{sum_by}
 use Rattle.std.specs.Option.{unwrap_or}
+use Rattle.std.proofs.lemmas.Bool.{cases_lt}
 use Rattle.std.proofs.lemmas.Grind.{get_or-set_at}
+use Rattle.std.proofs.lemmas.List.{get_or_past}
 use Rattle.pm_base.specs.declared.ActorId.{ActorId}
 use Rattle.pm_base.specs.declared.ActorId.TheVariants.{Caller, Work, Timer}
 use Rattle.pm_base.specs.declared.DevId.{DevId}
@@ -14,12 +16,12 @@ use Rattle.pm_model.specs.declared.stage.Stage.{Stage}
 use Rattle.pm_model.specs.declared.views.Device.{Device}
 use Rattle.pm_model.specs.ChangeViews.{change_views}
 use Rattle.pm_model.specs.Counted.{error_of, is_held_pair, says_error, says_held}
-use Rattle.pm_model.specs.Derived.{is_active_status, is_resuming, is_resuming_status}
+use Rattle.pm_model.specs.Derived.{is_active, is_active_status, is_resuming, is_resuming_status}
 use Rattle.pm_model.specs.Events.{by_event}
 use Rattle.pm_model.specs.Handing.{after_then}
 use Rattle.pm_model.specs.History.{History}
 use Rattle.pm_model.specs.Lawful.{IsLawful}
-use Rattle.pm_model.specs.Views.{Views, device, is_held}
+use Rattle.pm_model.specs.Views.{Views, device, fresh_device, is_held}
 use Rattle.pm_model.specs.World.{World, after_line, counts_call, place, with_place, world}
 use Rattle.pm_sums.specs.Sums.{one}
 use Rattle.pm_laws.specs.Owners.{owns_resume}
@@ -64,6 +66,16 @@ held_next plan h line l c s lawful link =
     said_now =
         held_said plan (line ∷ h) l link.row lawful link.is ∙ sym (says_or says (is_held_pair h link.row.consumer link.row.supplier))
         ∙ ap (unwrap_or says) (sym (held_said plan h l link.row lawful.2 link.is))
+
+-- an Active device is one of the plan's
+pub active_within : (plan : Plan) (w : World) (d : DevId) → Holds plan w → is_active w.views d ≡ true → d.0 < length plan.devices
+active_within plan w d known up = elim (cases_lt d.0 (length plan.devices)) [ inl lt ↦ lt | inr le ↦ absurd (past le) ]
+  where
+    past : length plan.devices ≤ d.0 → ⊥
+    past le =
+        let fresh : device w.views d ≡ fresh_device = get_or_past w.views.devices d.0 fresh_device (omega (arith, known.entries.devices)) in
+        let down : is_active w.views d ≡ false = ap (λ (x : Device). is_active_status x.status) fresh in
+        differ up down
 
 -- in a place only one stage owns the resume of a device, and then this is Resuming
 pub own_most : (plan : Plan) (w : World) (a : ActorId) (x : DevId) → Holds plan w → IsPlaced w a → x.0 < length plan.devices

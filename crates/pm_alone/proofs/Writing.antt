@@ -22,7 +22,7 @@ use Rattle.pm_sums.specs.Sums.{one}
 use Rattle.pm_laws.specs.Owners.{owns_resume}
 use Rattle.pm_laws.proofs.Links.{neither}
 use Rattle.pm_laws.proofs.Places.{IsPlaced, is_placed}
-use Rattle.pm_laws.proofs.Runs.{Holds, active_within, Paid, permitted, lawful_holds}
+use Rattle.pm_laws.proofs.Runs.{Holds, Paid, permitted, lawful_holds}
 use Rattle.pm_stacks.specs.Shape.{call_of, suspend_call, Fits, IsNested, Nested}
 use Rattle.pm_stacks.proofs.Nesting.{stands_nested}
 use Rattle.pm_stacks.proofs.Obeying.{Obeys}
@@ -33,7 +33,7 @@ use Rattle.pm_bonds.proofs.Links.{links_hold}
 use Rattle.pm_kinds.proofs.Owners.{one_most}
 use Rattle.pm_bonds.proofs.Steps.{differ}
 use Rattle.pm_kept.specs.Answered.{some_of}
-use Rattle.pm_alone.proofs.Nexts.{apart, one_resuming, own_most}
+use Rattle.pm_alone.proofs.Nexts.{active_within, apart, one_resuming, own_most}
 use Rattle.pm_alone.proofs.OtherRows.{helper_cares, idle_cares, is_own, suspend_cares, suspend_flags}
 use Rattle.pm_alone.proofs.Reaching.{HeldAreTaken, IsPart, parts}
 use Rattle.pm_alone.proofs.ResumeRows.{resume_cares}

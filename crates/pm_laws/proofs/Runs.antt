@@ -3,7 +3,7 @@ use Rattle.std.proofs.Common.{ℕ, zero, suc, ◌≡◌, ◌+◌, ◌<◌, ◌�
 use Rattle.std.specs.List.{enumerate_from}
 use Rattle.std.specs.Option.{option_map, option_and_then, unwrap_or}
 use Rattle.std.proofs.lemmas.Bool.{cases_lt, false≢true}
-use Rattle.std.proofs.lemmas.List.{get_or_past, length-map}
+use Rattle.std.proofs.lemmas.List.{length-map}
 use Rattle.std.proofs.lemmas.List.FromFn.{length-enumerate_from}
 use Rattle.std.proofs.lemmas.Option.{slice_get_past}
 use Rattle.pm_base.specs.declared.ActorId.{ActorId}
@@ -26,7 +26,7 @@ use Rattle.pm_model.specs.declared.stage.Then.{Then}
 use Rattle.pm_model.specs.declared.views.Device.{Device}
 use Rattle.pm_model.specs.ChangeViews.{change_views}
 use Rattle.pm_model.specs.Counted.{says_status}
-use Rattle.pm_model.specs.Derived.{is_active, is_active_status, is_moving, is_suspending, is_resuming, is_suspending_status, is_resuming_status}
+use Rattle.pm_model.specs.Derived.{is_moving, is_suspending, is_resuming, is_suspending_status, is_resuming_status}
 use Rattle.pm_model.specs.Events.{by_event}
 use Rattle.pm_model.specs.Handing.{take_code, after_then}
 use Rattle.pm_model.specs.Lawful.{Permits, IsLawful}
@@ -58,16 +58,6 @@ pub record Holds (plan : Plan) (w : World) : Type 0 where
   pub settled : (d : DevId) → no_callbacks plan d ≡ true → is_moving w.views d ≡ false
   pub owners : HasOneOwner plan w
   pub counts : AddsUp plan w
-
--- an Active device is one of the plan's
-pub active_within : (plan : Plan) (w : World) (d : DevId) → Holds plan w → is_active w.views d ≡ true → d.0 < length plan.devices
-active_within plan w d known up = elim (cases_lt d.0 (length plan.devices)) [ inl lt ↦ lt | inr le ↦ absurd (past le) ]
-  where
-    past : length plan.devices ≤ d.0 → ⊥
-    past le =
-        let fresh : device w.views d ≡ fresh_device = get_or_past w.views.devices d.0 fresh_device (omega (arith, known.entries.devices)) in
-        let down : is_active w.views d ≡ false = ap (λ (x : Device). is_active_status x.status) fresh in
-        differ up down
 
 -- the weights are the same where a stage awaits a call and where it goes on
 either_handed : (f : Stage → ℕ) (a : Await) (b : Bool) (x y : Handed) → IsHanded f a x → IsHanded f a y → IsHanded f a (if b then x else y)

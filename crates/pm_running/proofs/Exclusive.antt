@@ -1,7 +1,8 @@
 -- Every run is exclusive.
-use Rattle.std.proofs.Common.{ℕ, ◌≡◌, ◌+◌, ◌<◌, ◌≤◌, Bool, true, false, not, ◌&&◌, [], ◌∷◌, Some, pos, length, nat_eq, nat_lt, int_lt, if◌then◌else◌, ap, refl, sym, ◌∙◌, subst, arith}
+use Rattle.std.proofs.Common.{ℕ, ◌≡◌, ◌+◌, ◌<◌, ◌≤◌, inl, inr, Bool, true, false, not, ◌&&◌, [], ◌∷◌, Some, pos, length, nat_eq, nat_lt, int_lt, if◌then◌else◌, ap, refl, sym, ◌∙◌, subst, arith}
 use Rattle.std.specs.Prelude.{◌||◌}
-use Rattle.std.proofs.lemmas.Bool.{ltb-false}
+use Rattle.std.proofs.lemmas.Bool.{cases_lt, ltb-false}
+use Rattle.std.proofs.lemmas.List.{get_or_past}
 use Rattle.pm_base.specs.declared.Cb.{Cb}
 use Rattle.pm_base.specs.declared.Cb.TheVariants as cb
 use Rattle.pm_base.specs.declared.DevId.{DevId}
@@ -22,11 +23,11 @@ use Rattle.pm_model.specs.History.{History}
 use Rattle.pm_model.specs.IdleTable.{is_above_idle}
 use Rattle.pm_model.specs.Lawful.{IsLawful}
 use Rattle.pm_model.specs.Promises.{is_at_most_idle, is_unused, may_begin, is_exclusive}
-use Rattle.pm_model.specs.Views.{Views, device, pending_of}
+use Rattle.pm_model.specs.Views.{Views, device, pending_of, fresh_device}
 use Rattle.pm_model.specs.World.{world}
 use Rattle.pm_sums.specs.Sums.{one, tally}
 use Rattle.pm_laws.specs.Owners.{places, owns_resume}
-use Rattle.pm_laws.proofs.Runs.{Holds, active_within, lawful_holds}
+use Rattle.pm_laws.proofs.Runs.{Holds, lawful_holds}
 use Rattle.pm_laws.proofs.Said.{idle_said}
 use Rattle.pm_stacks.proofs.Tests.{same_self}
 use Rattle.pm_kinds.specs.Kinds.{Kind, keeps, begins_idle, begins_suspend, begins_resume, begins_at_once, enters, sets_active, suspends, adds_link, drops_link, dev_of, from, is_silent, is_owners_word, MayIdle, EventIs, Guard}
@@ -53,7 +54,16 @@ no_one : (b : Bool) → one b ≡ 0 → b ≡ false
 no_one true e = absurd (omega arith)
 no_one false e = refl
 
--- an Active device has no owner
+-- an Active device is one of the plan's, and has no owner
+active_within : (plan : Plan) (v : Views) (d : DevId) → length v.devices ≡ length plan.devices → is_active v d ≡ true → d.0 < length plan.devices
+active_within plan v d size up = elim (cases_lt d.0 (length v.devices)) [
+  | inl lt ↦ omega (arith, lt, size)
+  | inr le ↦ absurd (past le)
+]
+  where
+    past : length v.devices ≤ d.0 → ⊥
+    past le = let k : false ≡ true = rw (get_or_past v.devices d.0 fresh_device le) at up in cc
+
 pub unowned : (st : Status) (n : ℕ) → is_active_status st ≡ true → one (is_suspending_status st) + one (is_resuming_status st) ≡ n → n ≡ 0
 unowned status.Active n up e = omega arith
 unowned status.Suspended n up e = cc
@@ -219,17 +229,20 @@ line_begins plan h line lawful = go k.kind refl k.event k.guard
     k : HasKind plan h line
     k = line_kind plan h line lawful
 
+    size : length v.devices ≡ length plan.devices
+    size = (lawful_holds plan h lawful.2).entries.devices
+
     idle : (d : DevId) → MayIdle plan v d → may_begin plan h (event.Begin d cb.Idle) ≡ true
     idle d g =
         let i = idles_so plan v d g.free in
-        let within = active_within plan (world plan h) d (lawful_holds plan h lawful.2) g.active in
+        let within = active_within plan v d size g.active in
         let silent : runs cb.Idle d h ≡ false = sym (idle_said plan h d lawful.2 within) ∙ g.stands in
         both_true _ _ (both_true _ _ (unused plan v d g.active i.idle i.childless i.unasked) (at_most (pending_of v d).request g.request))
         (rw (silent, rests plan h d cb.Suspend lawful.2 within refl g.active, rests plan h d cb.Resume lawful.2 within refl g.active) refl)
 
     suspends_now : (d : DevId) → Rests plan v d → may_begin plan h (event.Begin d cb.Suspend) ≡ true
     suspends_now d r =
-        let within = active_within plan (world plan h) d (lawful_holds plan h lawful.2) r.active in
+        let within = active_within plan v d size r.active in
         both_true _ _ (unused plan v d r.active r.unused r.childless r.unasked)
         (neither_true _ _ (rests plan h d cb.Suspend lawful.2 within refl r.active) (rests plan h d cb.Resume lawful.2 within refl r.active))
 

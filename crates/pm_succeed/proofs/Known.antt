@@ -25,7 +25,7 @@ use Rattle.pm_model.specs.Views.{Views, device, fresh_device}
 use Rattle.pm_model.specs.World.{World, place, world}
 use Rattle.pm_laws.specs.Counts.{holds}
 use Rattle.pm_laws.proofs.Rows.{said}
-use Rattle.pm_laws.proofs.Runs.{Holds, active_within, lawful_holds}
+use Rattle.pm_laws.proofs.Runs.{Holds, lawful_holds}
 use Rattle.pm_laws.proofs.Said.{error_said, says_or}
 use Rattle.pm_stacks.proofs.Stacks.{stacks_nest}
 use Rattle.pm_stacks.proofs.Telling.{IsTelling}
@@ -66,7 +66,13 @@ errors plan h d lawful calm = elim (cases_lt d.0 (length plan.devices)) [
   | inr le ↦ ap (λ (y : Device). not (int_eq y.error (pos 0))) (fresh_at plan (world plan h) d (lawful_holds plan h lawful) le)
 ]
 
--- a device that is enabled is one of the plan's
+-- a device that is Active, or enabled, is one of the plan's
+pub active_within : (plan : Plan) (w : World) (d : DevId) → Holds plan w → is_active w.views d ≡ true → d.0 < length plan.devices
+active_within plan w d known up = elim (cases_lt d.0 (length plan.devices)) [
+  | inl lt ↦ lt
+  | inr le ↦ let down : is_active w.views d ≡ false = ap (λ (y : Device). is_active_status y.status) (fresh_at plan w d known le) in differ up down
+]
+
 pub enabled_within : (plan : Plan) (w : World) (d : DevId) → Holds plan w → is_disabled w.views d ≡ false → d.0 < length plan.devices
 enabled_within plan w d known enabled = elim (cases_lt d.0 (length plan.devices)) [
   | inl lt ↦ lt

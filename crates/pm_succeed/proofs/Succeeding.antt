@@ -22,7 +22,7 @@ use Rattle.pm_model.specs.Views.{Views}
 use Rattle.pm_model.specs.World.{World, place, after_line, counts_call, start, world}
 use Rattle.pm_laws.proofs.Links.{neither}
 use Rattle.pm_laws.proofs.Places.{IsPlaced, is_placed}
-use Rattle.pm_laws.proofs.Runs.{Holds, active_within, Paid, permitted, lawful_holds}
+use Rattle.pm_laws.proofs.Runs.{Holds, Paid, permitted, lawful_holds}
 use Rattle.pm_laws.proofs.Said.{views_next}
 use Rattle.pm_stacks.specs.Shape.{call_of, IsNested, Nested}
 use Rattle.pm_stacks.proofs.Nesting.{stands_nested}
@@ -42,7 +42,7 @@ use Rattle.pm_succeed.proofs.Bools.{good_is}
 use Rattle.pm_succeed.proofs.Calmly.{Calm, is_call, is_call_stage, returns_badly}
 use Rattle.pm_succeed.proofs.Depths.{stays_enabled}
 use Rattle.pm_succeed.proofs.Handing.{bad_passes, up_passes, enabled_passes}
-use Rattle.pm_succeed.proofs.Known.{is_calm, calm_parts, errors, enabled_within, spoken_within, stays_up, needed_used}
+use Rattle.pm_succeed.proofs.Known.{is_calm, calm_parts, errors, active_within, enabled_within, spoken_within, stays_up, needed_used}
 use Rattle.pm_succeed.proofs.OtherRows.{row_calm}
 
 -- what holds after every lawful list that nothing disturbs
