@@ -1,14 +1,17 @@
 -- The tree of a plan in the words of its values.
-use Rattle.std.proofs.Common.{◌≡◌, ℕ, Bool, ◌&&◌, None, is_some, List, [], ◌∷◌, length, map, String, Global, string_bytes, nat_eq, refl, ap, ◌∙◌, arith}
+use Rattle.std.proofs.Common.{◌≡◌, ℕ, Bool, ◌&&◌, Option, Some, None, Ordering, Less, Equal, Greater, is_eq, is_some, List, [], ◌∷◌, length, map, String, Global, string_bytes, nat_eq, nat_cmp, if◌then◌else◌, refl, ap, ◌∙◌, arith}
 use Rattle.std.proofs.lemmas.Bool.Decides.{nat_tests}
 use Rattle.std.proofs.lemmas.Grind.{common_steps}
+use Rattle.std.specs.Cmp.Lexicographic.{slice_cmp}
+use Rattle.std.specs.Ordering.{match_ordering}
+use Rattle.std.proofs.lemmas.Map.Text.{is_eq-slice_cmp}
 use Rattle.std.specs.Str.{bytes_eq}
 use Rattle.std.proofs.lemmas.Bool.{false_from_ne_true}
 use Rattle.std.proofs.lemmas.List.{length-map}
 use Rattle.std.proofs.lemmas.Str.{IsUtf8-from_is_utf8, is_utf8-from_IsUtf8}
 use Rattle.std.specs.List.{list_all}
 use Rattle.std.specs.Str.{IsUtf8, is_utf8}
-use Rattle.toml.specs.Data.{Data, as_integer, as_str}
+use Rattle.toml.specs.Data.{Data, Members, member, get_member, as_integer, as_str}
 use Rattle.toml.specs.Parse.{parse_document}
 use Rattle.toml.specs.declared.value.Value.{Value}
 use Rattle.toml.specs.View.{items_view, members_view, view}
@@ -57,3 +60,16 @@ same_of_one_length [] [] = refl
 same_of_one_length [] (y ∷ b) = grind (arith, nat_tests, common_steps)
 same_of_one_length (x ∷ a) [] = grind (arith, nat_tests, common_steps)
 same_of_one_length (x ∷ a) (y ∷ b) = grind (arith, nat_tests, common_steps, same_of_one_length a b)
+
+-- a key is found at the first member with this name
+first_of : (o : Ordering) (x y : Option Data) → match_ordering o y x y ≡ (if is_eq o then x else y)
+first_of Less x y = refl
+first_of Equal x y = refl
+first_of Greater x y = refl
+
+pub member_first : (key name : List ℕ) (d : Data) (rest : Members) → get_member key (member name d rest) ≡ (if bytes_eq key name then Some d else get_member key rest)
+member_first key name d rest = first_of (slice_cmp nat_cmp key name) (Some d) (get_member key rest) ∙ ap (λ b. if b then Some d else get_member key rest) (is_eq-slice_cmp key name)
+
+pub member_at : (key : List ℕ) (entry : String Global × Value) (rest : List (String Global × Value))
+    → get_member key (members_view (entry ∷ rest)) ≡ (if bytes_eq key (string_bytes entry.0) then Some (view entry.1) else get_member key (members_view rest))
+member_at key entry rest = member_first key (string_bytes entry.0) (view entry.1) (members_view rest)

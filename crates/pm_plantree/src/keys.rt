@@ -51,7 +51,7 @@ pub fn kind_of(section: Section, key: &str) -> Option<Kind>
 
 /// Whether the key is this word. Most keys have another length, which is looked at first.
 #[tactic(auto, using(crate::proofs::TreeLemmas::same_of_one_length))]
-fn is_word(key: &str, word: &str) -> bool
+pub fn is_word(key: &str, word: &str) -> bool
     ensures { result ≡ bytes_eq key.now word.now }
 {
     key.len() == word.len() && key == word

@@ -5,6 +5,7 @@ ghost use Rattle.toml.specs.Data.{as_array, get_member};
 ghost use Rattle.toml.specs.View.{table_view, view};
 ghost use Rattle.pm_plantree.specs.Tree.{document, items_list, list_at};
 
+use crate::keys::is_word;
 use pm_base::NoMemory;
 use std::alloc::Global;
 use toml::{Table, Value};
@@ -24,12 +25,18 @@ pub fn document(alloc: Global, bytes: &[u8]) -> Result<Option<Table>, NoMemory>
     }
 }
 
-/// The value under a key.
+/// The value under a key. A table has few keys, and most of them have another length, so that to look at each costs less
+/// than to put whole words in order.
 pub fn member<'a>(table: &'a Table, key: &str) -> Option<&'a Value>
     ensures { option_map (λ value. view value.now) result
         ≡ get_member key.now (table_view table.now) }
 {
-    table.get(key)
+    for (name, value) in table.iter() {
+        if is_word(key, name.as_str()) {
+            return Some(value);
+        }
+    }
+    None
 }
 
 /// The elements of the array under a key, where one stands there.
