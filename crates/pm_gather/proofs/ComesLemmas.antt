@@ -1,6 +1,6 @@
 -- What the books of islands come to.
 use Rattle.std.proofs.Common.{◌≡◌, ◌∙◌, ◌++◌, ◌<◌, ◌≤◌, ◌^◌, ℕ, zero, suc, List, [], ◌∷◌, Option, Some, None, Result, Ok, Err, IfOk, IfSome, ap, arith, drop, false, length, option_map, slice_get, subst, sym, ⊎_elim}
-use Rattle.std.specs.Prelude.{◌≢◌, IfNone, MatchOption}
+use Rattle.std.specs.Prelude.{IfNone, MatchOption}
 use Rattle.std.proofs.lemmas.List.{length_push}
 use Rattle.pm_model.specs.declared.event.Line.{Line}
 use Rattle.pm_model.specs.declared.plan.Plan.{Plan}

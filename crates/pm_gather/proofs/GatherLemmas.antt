@@ -1,5 +1,5 @@
 -- The books of all islands, finished and merged, are a finished run of the plan.
-use Rattle.std.proofs.Common.{◌≡◌, ◌+◌, ◌<◌, ◌≤◌, ◌^◌, ◌⊎◌, ℕ, zero, suc, Bool, true, false, ◌&&◌, List, [], ◌∷◌, ◌++◌, Option, Some, None, Result, Ok, Err, IfOk, IfSome, length, map, nat_le, option_map, reverse, slice_get, take, refl, sym, ap, subst, arith, inl, inr, ◌∙◌, ⊎_elim, if◌then◌else◌}
+use Rattle.std.proofs.Common.{◌≡◌, ◌+◌, ◌<◌, ◌≤◌, ◌^◌, ◌⊎◌, ℕ, zero, suc, Bool, true, false, List, [], ◌∷◌, ◌++◌, Option, Some, None, Result, Ok, Err, IfOk, IfSome, length, nat_le, option_map, reverse, slice_get, take, refl, sym, ap, subst, arith, inl, inr, ◌∙◌, ⊎_elim, if◌then◌else◌}
 use Rattle.std.specs.List.{list_all}
 use Rattle.std.proofs.lemmas.Bool.{and_from, and_parts, le-leb, leb-true}
 use Rattle.std.proofs.lemmas.List.{length-map, reverse-append, reverse-reverse}
@@ -9,13 +9,13 @@ use Rattle.std.proofs.lemmas.Option.{same_Some, slice_get-map}
 use Rattle.pm_model.specs.declared.event.Line.{Line}
 use Rattle.pm_model.specs.declared.plan.Plan.{Plan}
 use Rattle.pm_model.specs.History.{History}
-use Rattle.pm_model.specs.Islands.{IsPart, Numbering, merge_in, merged, put_in}
+use Rattle.pm_model.specs.Islands.{Numbering, merge_in, merged, put_in}
 use Rattle.pm_model.specs.Lawful.{IsFinished, IsLawful, last_time}
 use Rattle.pm_model.specs.LineOf.{is_line_of}
-use Rattle.pm_apart.specs.Apart.{EachPasses, IsFinishedOn, IsInTime, IsLawfulOn, MergeIsFinished, MergeIsLawful}
+use Rattle.pm_apart.specs.Apart.{EachPasses, IsFinishedOn, IsInTime, MergeIsFinished, MergeIsLawful}
 use Rattle.pm_book.specs.Pages.{Pages}
 use Rattle.pm_islands.specs.Next.{AreInTime}
-use Rattle.pm_gather.specs.Gathering.{EachIsWhole, IsFinishedRun, IsWhole, lists}
+use Rattle.pm_gather.specs.Gathering.{EachIsWhole, IsFinishedRun, lists}
 
 -- a list is the one whose reverse is known
 pub reverse_back : (h lines : List Line) → reverse lines ≡ h → lines ≡ reverse h

@@ -1,4 +1,4 @@
-use Rattle.std.proofs.Common.{◌≡◌, ◌∙◌, arith, length, subst, sym}
+use Rattle.std.proofs.Common.{◌≡◌, arith, length, subst, sym}
 use Rattle.std.proofs.lemmas.Option.{MatchOption-at_none, MatchOption-at_some}
 use Rattle.pm_model.specs.Islands.{Numbering}
 use Rattle.pm_gather.specs.Gathering.{AllFinish, SomeIsCut, not_one_each, one_is_cut}
