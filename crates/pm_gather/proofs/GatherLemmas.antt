@@ -1,5 +1,5 @@
 -- The books of all islands, finished and merged, are a finished run of the plan.
-use Rattle.std.proofs.Common.{◌≡◌, ◌+◌, ◌<◌, ◌≤◌, ◌^◌, ◌⊎◌, ℕ, zero, suc, Bool, true, false, ◌&&◌, List, [], ◌∷◌, ◌++◌, Option, Some, None, Result, Ok, Err, IfOk, IfSome, length, map, nat_le, option_map, reverse, slice_get, take, refl, sym, ap, subst, arith, inl, inr, ◌∙◌, ⊎_elim, if◌then◌else◌}
+use Rattle.std.proofs.Common.{◌≡◌, ◌+◌, ◌<◌, ◌≤◌, ◌^◌, ◌⊎◌, ℕ, zero, suc, Bool, true, false, List, [], ◌∷◌, ◌++◌, Option, Some, None, Result, Ok, Err, IfOk, IfSome, length, nat_le, option_map, reverse, slice_get, take, refl, sym, ap, subst, arith, inl, inr, ◌∙◌, ⊎_elim, if◌then◌else◌}
 use Rattle.std.specs.List.{list_all}
 use Rattle.std.proofs.lemmas.Bool.{and_from, and_parts, le-leb, leb-true}
 use Rattle.std.proofs.lemmas.List.{length-map, reverse-append, reverse-reverse}
@@ -9,36 +9,24 @@ use Rattle.std.proofs.lemmas.Option.{same_Some, slice_get-map}
 use Rattle.pm_model.specs.declared.event.Line.{Line}
 use Rattle.pm_model.specs.declared.plan.Plan.{Plan}
 use Rattle.pm_model.specs.History.{History}
-use Rattle.pm_model.specs.Islands.{IsPart, Numbering, merge_in, merged, put_in}
+use Rattle.pm_model.specs.Islands.{Numbering, merge_in, merged, put_in}
 use Rattle.pm_model.specs.Lawful.{IsFinished, IsLawful, last_time}
 use Rattle.pm_model.specs.LineOf.{is_line_of}
-use Rattle.pm_apart.specs.Apart.{EachPasses, IsFinishedOn, IsInTime, IsLawfulOn, MergeIsFinished, MergeIsLawful}
+use Rattle.pm_apart.specs.Apart.{EachPasses, IsFinishedOn, IsInTime, MergeIsFinished, MergeIsLawful}
 use Rattle.pm_book.specs.Pages.{Pages}
 use Rattle.pm_islands.specs.Next.{AreInTime}
-use Rattle.pm_gather.specs.Gathering.{EachIsWhole, IsFinishedRun, IsWhole, lists}
+use Rattle.pm_gather.specs.Gathering.{EachIsWhole, IsFinishedRun, lists}
 
 -- a list is the one whose reverse is known
 pub reverse_back : (h lines : List Line) → reverse lines ≡ h → lines ≡ reverse h
 reverse_back h lines is = sym (reverse-reverse lines) ∙ ap reverse is
 
 -- one more item
-get_more : (xs : List Pages) (x : Pages) (n : ℕ) (p : Pages) → slice_get (xs ++ x ∷ []) n ≡ Some p → (slice_get xs n ≡ Some p) ⊎ ((n ≡ length xs) × (x ≡ p))
+pub get_more : (xs : List Pages) (x : Pages) (n : ℕ) (p : Pages) → slice_get (xs ++ x ∷ []) n ≡ Some p → (slice_get xs n ≡ Some p) ⊎ ((n ≡ length xs) × (x ≡ p))
 get_more [] x zero p e = inr (refl, same_Some x p e)
 get_more [] x (suc n) p e = cc e
 get_more (y ∷ ys) x zero p e = inl e
 get_more (y ∷ ys) x (suc n) p e = ⊎_elim (λ there. inl there) (λ (last : (n ≡ length ys) × (x ≡ p)). inr (ap suc last.0, last.1)) (get_more ys x n p e)
-
-pub one_more : (plan : Plan) (done new : List Pages) (n : ℕ) (book : Pages) → EachIsWhole plan done → new ≡ done ++ book ∷ [] → n ≡ length done → IsWhole plan n book → EachIsWhole plan new
-one_more plan done new n book each is at_end whole m p at =
-    ⊎_elim (λ there. each m p there)
-    (λ (last : (m ≡ length done) × (book ≡ p)). subst (λ (y : ℕ × Pages). IsWhole plan y.0 y.1) (λ i. ((at_end ∙ sym last.0) i, last.1 i)) whole)
-    (get_more done book m p (ap (λ l. slice_get l m) (sym is) ∙ at))
-
-pub none_yet : (plan : Plan) → EachIsWhole plan []
-none_yet plan n p at = cc at
-
-pub is_whole : (plan : Plan) (n : ℕ) (o : Option Pages) (book : Pages) → o ≡ Some book → IfSome o (IsWhole plan n) → IsWhole plan n book
-is_whole plan n o book is whole = subst (λ o. IfSome o (IsWhole plan n)) is whole
 
 -- times don't fall in a lawful list
 lawful_in_time : (plan : Plan) (h : History) → IsLawful plan h → IsInTime h
@@ -160,19 +148,3 @@ pub where_some : {V E : Type 0} (P Q R : V → Type 0) (r : Result (Option V) E)
 where_some P Q R (Ok (Some v)) f p q = f v p q
 where_some P Q R (Ok None) f p q = tt
 where_some P Q R (Err e) f p q = tt
-
-pub some_is : {V : Type 0} (o : Option V) (v : V) (P : V → Type 0) → o ≡ Some v → IfSome o P → P v
-some_is o v P is it = subst (λ o. IfSome o P) is it
-
--- a finished book of an island's part is whole
-pub whole_island : {E : Type 0} (plan part : Plan) (n : ℕ) (r : Result (Option Pages) E) → ((count : ℕ) (k : Numbering plan count) → IsPart plan k.island n part)
-    → IfOk r (λ o. IfSome o (λ p. p.plan ≡ part)) → IfOk r (λ o. IfSome o (λ p. IsLawful p.plan p.lines)) → IfOk r (λ o. IfSome o (λ p. IsFinished p.plan p.lines))
-    → IfOk r (λ o. IfSome o (λ p. last_time p.lines ≤ 2 ^ 62)) → IfOk r (λ o. IfSome o (IsWhole plan n))
-whole_island plan part n (Ok (Some p)) parts same lawful ends in_time = record {
-  part = λ count k. subst (λ q. IsPart plan k.island n q) (sym same) (parts count k);
-  lawful = lawful;
-  finished = ends;
-  in_time = in_time;
-}
-whole_island plan part n (Ok None) parts same lawful ends in_time = tt
-whole_island plan part n (Err e) parts same lawful ends in_time = tt

@@ -1,1 +1,2 @@
+mod ComesLemmas
 mod GatherLemmas

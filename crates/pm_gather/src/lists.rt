@@ -1,10 +1,10 @@
 //! The lists of all islands, and their merge.
 
-ghost use Rattle.std.specs.Prelude.{◌≡◌, ◌≤◌, ◌<◌, ◌^◌, IfOk, IfSome, length, map, reverse};
+ghost use Rattle.std.specs.Prelude.{◌≡◌, ◌≤◌, ◌<◌, ◌^◌, IfNone, IfOk, IfSome, MatchOption, length, map, option_map, reverse};
 ghost use Rattle.pm_model.specs.Islands.{Numbering, merged};
 ghost use Rattle.pm_islands.specs.Next.{AreInTime};
 ghost use Rattle.pm_islands.specs.Numbers.{IsIsland};
-ghost use Rattle.pm_gather.specs.Gathering.{EachIsWhole, IsFinishedRun, IsWhole, lists};
+ghost use Rattle.pm_gather.specs.Gathering.{AllFinish, EachIsWhole, Finishes, Gathered, IsCutOn, IsFinishedRun, SomeIsCut, lists};
 
 use crate::books::finished;
 use pm_apart::merge_is_lawful;
@@ -24,30 +24,29 @@ fn finish_island(
     book: Book,
 ) -> Result<Option<Book>, NoMemory>
     requires { IsIsland plan.now island }
-    ensures { IfOk result (λ o. IfSome o (IsWhole plan.now island)) }
+    ensures { IfOk result (λ o. MatchOption o (IsCutOn plan.now island book) (Finishes plan.now island book)) }
 {
     let part = part(alloc, plan, island)?;
     finished(alloc, part, book)
 }
 
-// The finished books of islands, in their order; none where one has all lines that the plan allows and
-// isn't finished, or where there are more books than islands.
+// The finished books of the islands, in their order; none where one has all lines that the plan allows and
+// isn't finished.
 fn finish_all(
     alloc: Global,
     plan: &Plan,
     count: u32,
     books: Vec<Book>,
 ) -> Result<Option<Vec<Book>>, NoMemory>
-    requires { Numbering plan.now count }
-    ensures { IfOk result (λ o. IfSome o (λ done. EachIsWhole plan.now done.items)) }
+    requires numbering { Numbering plan.now count }
+    requires one_each { length books.items ≡ count }
+    ensures { IfOk result (λ o. MatchOption o (SomeIsCut plan.now books.items)
+        (λ done. AllFinish plan.now books.items done.items)) }
 {
     let mut done = Vec::new(alloc);
     for book in books {
-        let island = done.len();
-        if island >= count as usize {
-            return Ok(None);
-        }
-        match finish_island(alloc, plan, island as u32, book)? {
+        let island = done.len() as u32;
+        match finish_island(alloc, plan, island, book)? {
             Some(book) => done.push(book)?,
             None => return Ok(None),
         }
@@ -80,6 +79,7 @@ fn merge_within(alloc: Global, books: &[Book], most: usize) -> Result<Option<Vec
     requires in_time { AreInTime (lists books.now) }
     ensures few { IfOk result (λ o. IfSome o (λ lines. length lines.items ≤ most)) }
     ensures merged { IfOk result (λ o. IfSome o (λ lines. lines.items ≡ merged (lists books.now))) }
+    ensures more { IfOk result (λ o. IfNone o (most < length (merged (lists books.now)))) }
 {
     let all = lists_of(alloc, books)?;
     let lines = merge(alloc, all.as_slice(), most + 1)?;
@@ -99,7 +99,10 @@ fn gather_whole(
     requires numbering { Numbering plan.now count }
     requires one_each { length books.now ≡ count }
     requires each { EachIsWhole plan.now books.now }
-    ensures { IfOk result (λ o. IfSome o (λ lines. IsFinishedRun plan.now lines.items)) }
+    ensures run { IfOk result (λ o. IfSome o (λ lines. IsFinishedRun plan.now lines.items)) }
+    ensures few { IfOk result (λ o. IfSome o (λ lines. length lines.items ≤ plan.now.lines)) }
+    ensures merged { IfOk result (λ o. IfSome o (λ lines. lines.items ≡ merged (lists books.now))) }
+    ensures more { IfOk result (λ o. IfNone o (plan.now.lines < length (merged (lists books.now)))) }
 {
     merge_is_lawful();
     lines_are_of_plan();
@@ -108,18 +111,19 @@ fn gather_whole(
 
 /// The lines of a finished run of the plan, merged from the books of its islands, one for each, in their
 /// order, as they come from behind their locks. A book that isn't of its island's part, or that there isn't
-/// time for, is replaced by a fresh one; each is drained. There are none where a book has all the lines that
-/// the plan allows and isn't finished, where the merge has more than those, or where there aren't as many
-/// books as islands. Fails where memory runs out.
+/// time for, is replaced by a fresh one; each is drained. There are none exactly where an island's run isn't
+/// finished with all the lines that the plan allows, where the merge has more than those, or where there
+/// aren't as many books as islands. Fails where memory runs out.
 pub fn gather(alloc: Global, plan: &Plan, books: Vec<Book>) -> Result<Option<Vec<Line>>, NoMemory>
-    ensures { IfOk result (λ o. IfSome o (λ lines. IsFinishedRun plan.now lines.items)) }
+    ensures run { IfOk result (λ o. IfSome o (λ lines. IsFinishedRun plan.now lines.items)) }
+    ensures gathered { IfOk result (λ o. Gathered plan.now books.items (option_map (λ lines. lines.items) o)) }
 {
     let count = islands(plan);
+    if books.len() != count as usize {
+        return Ok(None);
+    }
     let Some(done) = finish_all(alloc, plan, count, books)? else {
         return Ok(None);
     };
-    if done.len() != count as usize {
-        return Ok(None);
-    }
     gather_whole(alloc, plan, count, done.as_slice())
 }

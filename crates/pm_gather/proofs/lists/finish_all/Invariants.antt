@@ -1,10 +1,11 @@
-use Rattle.pm_gather.specs.Gathering.{EachIsWhole}
+use Rattle.std.proofs.Common.{◌≡◌, length}
+use Rattle.pm_gather.proofs.ComesLemmas.{AreDone}
 use Rattle.pm_gather.proofs.lists.finish_all.Given as goal
 
--- each that is done is whole
 abbrev pub invariant-loop-book : goal.invariant-loop-book
 invariant-loop-book l = record {
   can_next : (goal.iterator-loop-book).can_next l.book-iterator;
   is_finite : (goal.iterator-loop-book).is_finite l.book-iterator;
-  each : EachIsWhole l.plan l.done.items;
+  count : l.book-iterator.rest.len ≡ length l.book-iterator.rest.items;
+  done : AreDone l.plan l.fn.books.items l.book-iterator.rest.items l.done.items;
 }

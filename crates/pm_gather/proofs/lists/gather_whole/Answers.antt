@@ -7,8 +7,8 @@ use Rattle.pm_gather.proofs.lists.gather_whole.Goals as goal
 pub merge_within-requires-clause-in_time : goal.merge_within-requires-clause-in_time
 merge_within-requires-clause-in_time c = lists_in_time c.args.books.now (λ n p at. (c.requires.each n p at).lawful)
 
-pub returns : goal.returns
-returns c =
+pub returns-clause-run : goal.returns-clause-run
+returns-clause-run c =
     let plan = c.args.plan.now in
     let books = c.args.books.now in
     where_some (λ v. length v.items ≤ plan.lines) (λ v. v.items ≡ merged (lists books)) (λ v. IsFinishedRun plan v.items) c.merge_within.result
