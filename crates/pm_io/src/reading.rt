@@ -178,10 +178,9 @@ fn read_piece<F: Files>(files: &mut F, bytes: &mut Vec<u8>, most: usize) -> Resu
     ensures never_falls { F.faults files.old ≤ F.faults files.new }
     ensures same { F.told files.new ≡ F.told files.old }
 {
-    let len = bytes.len();
-    let want = (most - len).min(PIECE_BYTES);
-    bytes.resize(len + want, 0).unwrap();
-    let got = files.read(&mut bytes[len..])?;
-    bytes.truncate(len + got);
+    let mut piece = [0; PIECE_BYTES];
+    let want = (most - bytes.len()).min(PIECE_BYTES);
+    let got = files.read(&mut piece[..want])?;
+    bytes.extend_from_slice(&piece[..got]).unwrap();
     Ok(got)
 }
