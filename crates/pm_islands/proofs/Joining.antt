@@ -1,7 +1,8 @@
 -- Labels stay labels where two nodes that touch are joined, and then the two share theirs.
-use Rattle.std.proofs.Common.{ℕ, ◌≡◌, ◌<◌, ◌≤◌, Bool, true, false, List, [], ◌∷◌, length, max, min, nat_eq, if◌then◌else◌, refl, sym, ap, subst, arith, inl, inr, ◌∙◌, ◌⊎◌}
-use Rattle.std.proofs.lemmas.Bool.{cases_lt, eq-eqb, eqb-true}
-use Rattle.std.proofs.lemmas.List.{get_or-map, length-map}
+use Rattle.std.proofs.Common.{ℕ, ◌≡◌, ◌≢◌, ◌<◌, ◌≤◌, Bool, true, false, List, [], ◌∷◌, length, max, min, nat_eq, if◌then◌else◌, refl, sym, ap, subst, arith, inl, inr, ◌∙◌, ◌⊎◌}
+use Rattle.std.proofs.Math.ListN.{get_or, set}
+use Rattle.std.proofs.lemmas.Bool.{cases_lt, cases_order, eq-eqb, eqb-true}
+use Rattle.std.proofs.lemmas.List.{ext_get_or, get_or-map, get_or-set_other, get_or-set_same, length-map, length-set}
 use Rattle.pm_model.specs.declared.plan.Plan.{Plan}
 use Rattle.pm_model.specs.Islands.{Connected}
 use Rattle.pm_islands.specs.Labels.{AreLabels, Keeps, joined, label_at, put_for, relabelled}
@@ -136,3 +137,50 @@ joins_two plan labels a b are a_below b_below walk =
           (highest_first (label_at labels a) (label_at labels b) within) (lowest_last (label_at labels a) (label_at labels b) within))
           (record { are = join.are; keeps = join.keeps; shares = sym join.shares })
     ]
+
+-- a label that one place alone has: another put for it changes this place
+alone : (labels : List ℕ) (from to : ℕ) → from < length labels → label_at labels from ≡ from
+    → ((k : ℕ) → k < length labels → k ≢ from → label_at labels k ≢ from) → set labels from to ≡ relabelled from to labels
+alone labels from to within own others =
+    ext_get_or 0 (set labels from to) (relabelled from to labels) (length-set labels from to ∙ sym (length-map labels (put_for from to))) (λ i below. at i (subst (λ n. i < n) (length-set labels from to) below))
+  where
+    at : (i : ℕ) → i < length labels → get_or (set labels from to) i 0 ≡ get_or (relabelled from to labels) i 0
+    at i below =
+        elim (cases_order i from) [
+          | inl same ↦
+              subst (λ k. get_or (set labels from to) k 0 ≡ get_or (relabelled from to labels) k 0) (sym same)
+              (get_or-set_same labels from to 0 within ∙ sym (at_new from to labels from within ∙ ap (put_for from to) own ∙ put_from from to))
+          | inr (inl less) ↦ elsewhere i below (λ same. absurd (omega (arith, less, same)))
+          | inr (inr more) ↦ elsewhere i below (λ same. absurd (omega (arith, more, same)))
+        ]
+      where
+        elsewhere : (k : ℕ) → k < length labels → k ≢ from → get_or (set labels from to) k 0 ≡ get_or (relabelled from to labels) k 0
+        elsewhere k k_below differs =
+            get_or-set_other labels from k to 0 differs
+            ∙ sym (at_new from to labels k k_below ∙ elim (puts from to (label_at labels k)) [ inl p ↦ absurd (others k k_below differs p.0) | inr e ↦ e ])
+
+-- so a node with a label of its own is joined to one that stands earlier by that place alone
+pub joins_alone : (plan : Plan) (labels : List ℕ) (a b : ℕ) → AreLabels plan labels → b < a → a < nodes plan → ((k : ℕ) → a ≤ k → k < nodes plan → label_at labels k ≡ k)
+    → set labels a (label_at labels b) ≡ joined a b labels
+joins_alone plan labels a b are less a_below own =
+    alone labels a (label_at labels b) (within a a_below) (own a (omega arith) a_below) others
+    ∙ by_two labels a (label_at labels b) (max (label_at labels a) (label_at labels b)) (min (label_at labels a) (label_at labels b))
+    (highest_first (label_at labels a) (label_at labels b) lower ∙ is_own) (lowest_last (label_at labels a) (label_at labels b) lower)
+  where
+    within : (i : ℕ) → i < nodes plan → i < length labels
+    within i below = subst (λ n. i < n) (sym are.one_each) below
+
+    is_own : label_at labels a ≡ a
+    is_own = own a (omega arith) a_below
+
+    lower : label_at labels b ≤ label_at labels a
+    lower = omega (arith, are.no_later b (omega arith), is_own)
+
+    others : (k : ℕ) → k < length labels → k ≢ a → label_at labels k ≢ a
+    others k below differs same =
+        let k_below : k < nodes plan = subst (λ n. k < n) are.one_each below in
+        elim (cases_order k a) [
+          | inl is ↦ differs is
+          | inr (inl earlier) ↦ absurd (omega (arith, are.no_later k k_below, same, earlier))
+          | inr (inr later) ↦ absurd (omega (arith, own k (omega arith) k_below, same, later))
+        ]

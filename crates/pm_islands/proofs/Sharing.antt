@@ -1,6 +1,8 @@
 -- How labels come to be shared by all nodes that touch, one kind of tie after another.
 use Rattle.std.proofs.Common.{ℕ, ◌≡◌, ◌+◌, ◌<◌, ◌≤◌, true, List, Option, Some, None, length, refl, sym, ap, subst, arith, inl, inr, ◌∙◌}
+use Rattle.std.proofs.Math.ListN.{set}
 use Rattle.std.proofs.lemmas.Bool.{cases_order}
+use Rattle.std.proofs.lemmas.List.{get_or-set_other}
 use Rattle.std.proofs.lemmas.Option.{option_and_then_some, slice_get_within, some_pair_parts}
 use Rattle.std.specs.Prelude.{slice_get}
 use Rattle.pm_model.specs.declared.plan.Plan.{Plan}
@@ -9,9 +11,9 @@ use Rattle.pm_islands.specs.declared.touching.Tie.{Tie}
 use Rattle.pm_islands.specs.declared.touching.Tie.TheVariants.{OfCaller, OfDomains, ToDomain, ToParent, ToSupplier}
 use Rattle.pm_islands.specs.Labels.{AreLabels, AreShared, Joined, Joins, Keeps, joined, label_at, label_of}
 use Rattle.pm_islands.specs.Places.{has_node, node_at, nodes, place, places, rows, tied}
-use Rattle.pm_islands.proofs.Joining.{IsJoin, joins_two}
+use Rattle.pm_islands.proofs.Joining.{IsJoin, joins_alone, joins_two}
 use Rattle.pm_islands.proofs.NodeOrder.{is_placed, stands_there}
-use Rattle.pm_islands.proofs.Ties.{ties_touch, ties_within}
+use Rattle.pm_islands.proofs.Ties.{earlier_parent, ties_touch, ties_within}
 
 -- before anything is joined each node has its own label
 pub labels_apart : (plan : Plan) (labels : List ℕ) → length labels ≡ nodes plan → ((k : ℕ) → k < nodes plan → label_at labels k ≡ k) → AreLabels plan labels
@@ -124,6 +126,42 @@ two_more plan tie n a b old mid so_far found = record {
         let x_at : place plan x ≡ a = ap (place plan) (sym same.0) ∙ it.one_at in
         let y_at : place plan y ≡ b = ap (place plan) (sym same.1) ∙ it.other_at in
         ap (label_at (joined a b mid)) x_at ∙ join.shares ∙ sym (ap (label_at (joined a b mid)) y_at)
+
+-- the first n devices have been joined to their parents, and the nodes behind them still have labels of their own
+pub record ParentsJoined (plan : Plan) (n : ℕ) (old new : List ℕ) : Type 0 where
+  pub joined : Joined plan ToParent n old new
+  pub own : (k : ℕ) → n ≤ k → k < nodes plan → label_at new k ≡ k
+
+-- a parent and its device stand in the row, the parent first
+pub parent_within : (plan : Plan) (n a b : ℕ) → Some (a, b) ≡ places plan (tied plan ToParent n) → (a ≡ n) × ((b < n) × (n < nodes plan))
+parent_within plan n a b found =
+    let it = tied_at plan ToParent n a b found in
+    let are = earlier_parent plan n (it.one, it.other) it.is in
+    let at : a ≡ n = sym it.one_at ∙ are.0 in
+    (at, (subst (λ k. k < n) it.other_at are.1, subst (λ k. k < nodes plan) at (tied_within plan ToParent n a b found).0))
+
+-- one device more
+pub parent_more : (plan : Plan) (n a b : ℕ) (old mid : List ℕ) → ParentsJoined plan n old mid → Some (a, b) ≡ places plan (tied plan ToParent n)
+    → ParentsJoined plan (n + 1) old (set mid a (label_at mid b))
+parent_more plan n a b old mid so_far found = record {
+  joined = subst (Joined plan ToParent (n + 1) old) (sym same) (two_more plan ToParent n a b old mid so_far.joined found);
+  own = λ k behind below. get_or-set_other mid a k (label_at mid b) 0 (λ e. absurd (omega (arith, behind, e, stands.0))) ∙ so_far.own k (omega (arith, behind)) below;
+}
+  where
+    stands : (a ≡ n) × ((b < n) × (n < nodes plan))
+    stands = parent_within plan n a b found
+
+    same : set mid a (label_at mid b) ≡ joined a b mid
+    same =
+        joins_alone plan mid a b so_far.joined.labels (omega (arith, stands.0, stands.1.0)) (omega (arith, stands.0, stands.1.1))
+        (λ k behind below. so_far.own k (omega (arith, behind, stands.0)) below)
+
+-- and where it has no parent
+pub no_parent : (plan : Plan) (n : ℕ) (old new : List ℕ) → ParentsJoined plan n old new → None ≡ places plan (tied plan ToParent n) → ParentsJoined plan (n + 1) old new
+no_parent plan n old new so_far none = record {
+  joined = none_more plan ToParent n old new so_far.joined none;
+  own = λ k behind below. so_far.own k (omega (arith, behind)) below;
+}
 
 -- the order in which ties are gone over
 abbrev pub phase : Tie → ℕ

@@ -22,7 +22,7 @@ use Rattle.pm_stacks.proofs.PlanLaw.{all_get, command_lawful, device_lawful}
 use Rattle.pm_stacks.proofs.Tests.{front, rear, same_self}
 use Rattle.pm_islands.specs.declared.touching.Tie.{Tie}
 use Rattle.pm_islands.specs.declared.touching.Tie.TheVariants.{OfCaller, OfDomains, ToDomain, ToParent, ToSupplier}
-use Rattle.pm_islands.specs.Places.{has_node, rows, tied}
+use Rattle.pm_islands.specs.Places.{has_node, place, rows, tied}
 
 map_some : {A B P : Type 0} (f : A → B) (o : Option A) (y : B) → option_map f o ≡ Some y → ((x : A) → o ≡ Some x → f x ≡ y → P) → P
 map_some f None y is gives = absurd (cc)
@@ -76,6 +76,16 @@ by_parent plan d row p at has = record {
       (subst (λ o. option_map_or (λ x. nat_lt x.0 d) o true ≡ true) has (parent_earlier (length plan.domains) d row (device_lawful plan d row at)))
       (in_list plan.devices d row at);
 }
+
+-- the parent of a device stands earlier, and a device stands at its own place
+pub earlier_parent : (plan : Plan) (d : ℕ) (p : Node × Node) → tied plan ToParent d ≡ Some p → (place plan p.0 ≡ d) × (place plan p.1 < d)
+earlier_parent plan d p is =
+    option_and_then_some _ (slice_get plan.devices d) p is (λ row at gives.
+    map_some (λ q. (the_device d, the_device q.0)) row.parent p gives (λ q has same. (
+      sym (ap (λ n. place plan n.0) same),
+      subst (λ k. k < d) (ap (λ n. place plan n.1) same)
+          (ltb-true q.0 d (subst (λ o. option_map_or (λ x. nat_lt x.0 d) o true ≡ true) has (parent_earlier (length plan.domains) d row (device_lawful plan d row at)))),
+    )))
 
 by_domain : (plan : Plan) (d : ℕ) (row : DeviceRow) (o : DomId) → slice_get plan.devices d ≡ Some row → row.domain ≡ Some o → AreTied plan (the_device d) (the_domain o.0)
 unfolding domain

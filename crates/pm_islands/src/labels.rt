@@ -2,6 +2,7 @@
 
 ghost use Rattle.std.specs.Prelude.{ℕ, ◌≡◌, ◌≤◌, ◌<◌, length};
 ghost use Rattle.pm_islands.specs.declared.touching.TheConstants.{MAX_NODES};
+ghost use Rattle.pm_islands.specs.declared.touching.Tie.TheVariants.{ToParent};
 ghost use Rattle.pm_islands.specs.Labels.{AreLabels, AreShared, Joined, joined, label_at, put_for, relabelled};
 ghost use Rattle.pm_islands.specs.Places.{nodes, rows};
 
@@ -50,6 +51,20 @@ fn join_all(plan: &Plan, tie: Tie, labels: &mut [u32])
     }
 }
 
+// Joins each device and its parent, where each node has its own label. A parent stands earlier, so a
+// device's label is no other node's when its turn comes.
+fn join_parents(plan: &Plan, labels: &mut [u32])
+    requires one_each { length labels.old ≡ nodes plan.now }
+    requires own_place { (k : ℕ) → k < nodes plan.now → label_at labels.old k ≡ k }
+    ensures { Joined plan.now ToParent (rows plan.now ToParent) labels.old labels.new }
+{
+    for row in 0..row_count(plan, Tie::ToParent) {
+        if let Some((device, parent)) = tied(plan, Tie::ToParent, row) {
+            labels[device] = labels[parent];
+        }
+    }
+}
+
 // Labels each node by its place.
 fn label_apart(labels: &mut [u32])
     requires { length labels.old ≤ MAX_NODES }
@@ -69,7 +84,7 @@ pub fn label(plan: &Plan, labels: &mut [u32])
     ensures { AreShared plan.now labels.new }
 {
     label_apart(labels);
-    join_all(plan, Tie::ToParent, labels);
+    join_parents(plan, labels);
     join_all(plan, Tie::ToDomain, labels);
     join_all(plan, Tie::ToSupplier, labels);
     join_all(plan, Tie::OfDomains, labels);

@@ -2,17 +2,18 @@ use Rattle.std.proofs.Common.{◌∙◌, ◌<◌, ◌≤◌, arith, length, subs
 use Rattle.pm_islands.proofs.Sharing.{all_shared, caller_shared, four_shared, labels_apart}
 use Rattle.pm_islands.proofs.labels.label.Goals as goal
 
-pub join_all-requires : goal.join_all-requires
-join_all-requires c =
-    labels_apart c.args.plan.now c.label_apart.new.labels (c.label_apart.ensures.one_each ∙ c.requires.one_each)
-    (λ k below. c.label_apart.ensures.own_place k (subst (λ n. k < n) (sym c.requires.one_each) below))
+pub join_parents-requires-clause-one_each : goal.join_parents-requires-clause-one_each
+join_parents-requires-clause-one_each c = c.label_apart.ensures.one_each ∙ c.requires.one_each
+
+pub join_parents-requires-clause-own_place : goal.join_parents-requires-clause-own_place
+join_parents-requires-clause-own_place c = λ k below. c.label_apart.ensures.own_place k (subst (λ n. k < n) (sym c.requires.one_each) below)
 
 pub loop-caller-init : goal.loop-caller-init
 loop-caller-init c =
-    four_shared c.args.plan.now c.label_apart.new.labels c.join_all.new.labels c.join_all-2.new.labels c.join_all-3.new.labels c.join_all-4.new.labels
+    four_shared c.args.plan.now c.label_apart.new.labels c.join_parents.new.labels c.join_all.new.labels c.join_all-2.new.labels c.join_all-3.new.labels
     (labels_apart c.args.plan.now c.label_apart.new.labels (c.label_apart.ensures.one_each ∙ c.requires.one_each)
     (λ k below. c.label_apart.ensures.own_place k (subst (λ n. k < n) (sym c.requires.one_each) below)))
-    c.join_all.ensures c.join_all-2.ensures c.join_all-3.ensures c.join_all-4.ensures
+    c.join_parents.ensures c.join_all.ensures c.join_all-2.ensures c.join_all-3.ensures
 
 pub loop-caller-preserved : goal.loop-caller-preserved
 loop-caller-preserved c =
