@@ -1,8 +1,10 @@
 -- Labels stay labels where two nodes that touch are joined, and then the two share theirs.
-use Rattle.std.proofs.Common.{ℕ, ◌≡◌, ◌≢◌, ◌<◌, ◌≤◌, Bool, true, false, List, [], ◌∷◌, length, max, min, nat_eq, if◌then◌else◌, refl, sym, ap, subst, arith, inl, inr, ◌∙◌, ◌⊎◌}
+use Rattle.std.proofs.Common.{ℕ, ◌≡◌, ◌≢◌, ◌<◌, ◌≤◌, Bool, true, false, List, [], ◌∷◌, ◌++◌, ◌-◌, drop, length, max, min, nat_eq, take, if◌then◌else◌, refl, sym, ap, subst, arith, inl, inr, ◌∙◌, ◌⊎◌}
 use Rattle.std.proofs.Math.ListN.{get_or, set}
 use Rattle.std.proofs.lemmas.Bool.{cases_lt, cases_order, eq-eqb, eqb-true}
-use Rattle.std.proofs.lemmas.List.{ext_get_or, get_or-map, get_or-set_other, get_or-set_same, length-map, length-set}
+use Rattle.std.proofs.lemmas.List.{ext_get_or, get_or-map, get_or-set_other, get_or-set_same, get_or-take, length-drop, length-map, length-set, length-take, map-append, take-append-drop, take_all}
+use Rattle.std.proofs.lemmas.Slice.{take-put_mid}
+use borrow.Rule.Slice.PartMut.{put_mid, same_len_mid}
 use Rattle.pm_model.specs.declared.plan.Plan.{Plan}
 use Rattle.pm_model.specs.Islands.{Connected}
 use Rattle.pm_islands.specs.Labels.{AreLabels, Keeps, joined, label_at, put_for, relabelled}
@@ -32,6 +34,38 @@ relabelled_same from to (x ∷ labels) same =
 
 at_new : (from to : ℕ) (labels : List ℕ) (i : ℕ) → i < length labels → label_at (relabelled from to labels) i ≡ put_for from to (label_at labels i)
 at_new from to labels i below = get_or-map (put_for from to) labels i 0 0 below
+
+-- where no label stands before the place that it names, one is put for another behind that place alone
+pub relabelled_behind : (labels new : List ℕ) (from to : ℕ) → from ≤ length labels → ((k : ℕ) → k < length labels → label_at labels k ≤ k)
+    → new ≡ relabelled from to (take (length labels - from) (drop from labels)) → put_mid from (length labels - from) labels new ≡ relabelled from to labels
+relabelled_behind labels new from to within no_later is =
+    sym (take_all (length labels) (put_mid from (length labels - from) labels new) (omega (arith, same_len_mid from (length labels - from) labels new (omega (arith, as_long, ap length rest, length-drop from labels)))))
+    ∙ take-put_mid from (length labels - from) labels new (length labels) (omega (arith, as_long, within)) within
+    ∙ ap (λ back. take from labels ++ back) new_is ∙ ap (λ front. front ++ relabelled from to (drop from labels)) before
+    ∙ sym (map-append (put_for from to) (take from labels) (drop from labels)) ∙ ap (relabelled from to) (take-append-drop from labels)
+  where
+    rest : take (length labels - from) (drop from labels) ≡ drop from labels
+    rest = take_all (length labels - from) (drop from labels) (omega (arith, length-drop from labels))
+
+    new_is : new ≡ relabelled from to (drop from labels)
+    new_is = is ∙ ap (relabelled from to) rest
+
+    as_long : length new ≡ length labels - from
+    as_long = ap length new_is ∙ length-map (drop from labels) (put_for from to) ∙ length-drop from labels
+
+    short : length (take from labels) ≡ from
+    short = grind (arith, length-take)
+
+    same : (i : ℕ) → i < length (take from labels) → get_or (take from labels) i 0 ≡ get_or (relabelled from to (take from labels)) i 0
+    same i below =
+        let i_below : i < from = subst (λ n. i < n) short below in
+        let at : label_at (take from labels) i ≡ label_at labels i = get_or-take from labels i 0 i_below in
+        sym
+        (at_new from to (take from labels) i below
+        ∙ elim (puts from to (label_at (take from labels) i)) [ inl p ↦ absurd (omega (arith, p.0, at, no_later i (omega (arith, i_below, within)), i_below)) | inr e ↦ e ])
+
+    before : take from labels ≡ relabelled from to (take from labels)
+    before = ext_get_or 0 (take from labels) (relabelled from to (take from labels)) (sym (length-map (take from labels) (put_for from to))) same
 
 -- one label put for another, of a node that is connected with the other's
 relabels : (plan : Plan) (labels : List ℕ) (from to : ℕ) → AreLabels plan labels → to ≤ from → label_at labels to ≡ to → Connected plan (node_at plan from) (node_at plan to)

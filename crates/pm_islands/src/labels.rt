@@ -29,14 +29,17 @@ fn relabel(labels: &mut [u32], from: u32, to: u32)
     }
 }
 
-// Puts the lower of the labels at two places for the other, wherever it stands.
+// Puts the lower of the labels at two places for the other, wherever it stands: no label stands before the
+// place that it names.
 fn join(labels: &mut [u32], a: usize, b: usize)
     requires a_in_range { a < length labels.old }
     requires b_in_range { b < length labels.old }
+    requires no_later { (k : ℕ) → k < length labels.old → label_at labels.old k ≤ k }
     ensures { labels.new ≡ joined a b labels.old }
 {
     let (a, b) = (labels[a], labels[b]);
-    relabel(labels, a.max(b), a.min(b));
+    let from = a.max(b);
+    relabel(&mut labels[from as usize..], from, a.min(b));
 }
 
 // Joins all that is tied in this way. A pair that shares its label already costs one look.

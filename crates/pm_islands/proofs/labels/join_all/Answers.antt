@@ -16,6 +16,9 @@ pub join-requires-clause-b_in_range : goal.join-requires-clause-b_in_range
 join-requires-clause-b_in_range c =
     subst (λ n. c.in-Some.b < n) (sym c.loop-row.invariant.labels.one_each) (tied_within c.args.plan.now c.args.tie c.loop-row.row c.in-Some.a c.in-Some.b c.in-Some.ensures).1
 
+pub join-requires-clause-no_later : goal.join-requires-clause-no_later
+join-requires-clause-no_later c = λ k below. c.loop-row.invariant.labels.no_later k (subst (λ n. k < n) c.loop-row.invariant.labels.one_each below)
+
 pub loop-row-preserved : goal.loop-row-preserved
 loop-row-preserved c =
     elim c.match-tied.branch [
