@@ -1,3 +1,5 @@
+pub mod Walks
+pub mod OneNumbering
 pub mod Region
 pub mod AlikeLists
 pub mod ViewsAlike

@@ -1,5 +1,3 @@
-pub mod Walks
-pub mod OneNumbering
 pub mod NodeOrder
 pub mod Joining
 pub mod Ties

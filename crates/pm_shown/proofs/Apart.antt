@@ -5,7 +5,7 @@ use Rattle.pm_model.specs.Islands.{Connected, IsLabelling, IsPart, Node, Numberi
 use Rattle.pm_model.specs.Serial.{callers_and_works, timer_actors}
 use Rattle.pm_runs.proofs.CallTable.{call_table}
 use Rattle.pm_shown.proofs.Rows.{rows_share}
-use Rattle.pm_shown.proofs.Walks.{goes_back, goes_further, keeps_number}
+use Rattle.pm_apart.proofs.Walks.{goes_back, goes_further, keeps_number}
 use Rattle.pm_shown.specs.ThreeIslands.{first_part, firsts, numbers, second_part, third_part, three_islands}
 
 shared : IsLabelling three_islands numbers

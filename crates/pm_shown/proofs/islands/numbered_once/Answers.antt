@@ -1,5 +1,5 @@
 -- By the first nodes: both numberings have the same, in the same order.
-use Rattle.pm_shown.proofs.OneNumbering.{one_count, one_number}
+use Rattle.pm_apart.proofs.OneNumbering.{one_count, one_number}
 use Rattle.pm_shown.proofs.islands.numbered_once.Goals as goal
 
 pub returns-clause-count : goal.returns-clause-count

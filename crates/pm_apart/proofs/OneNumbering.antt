@@ -3,7 +3,7 @@ use Rattle.std.proofs.Common.{ℕ, zero, suc, ◌≡◌, ◌∙◌, ◌<◌, ◌
 use Rattle.std.proofs.lemmas.Bool.{cases_order, false≢true, ltb-true}
 use Rattle.pm_model.specs.declared.plan.Plan.{Plan}
 use Rattle.pm_model.specs.Islands.{Node, Numbering, comes_before, the_caller, the_device, the_domain}
-use Rattle.pm_islands.proofs.Walks.{keeps_number}
+use Rattle.pm_apart.proofs.Walks.{keeps_number}
 
 -- the order of nodes is total and strict
 not_less : (a b : ℕ) → nat_lt a b ≡ false → b ≤ a
