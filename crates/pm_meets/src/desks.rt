@@ -113,6 +113,32 @@ fn one_pass(desk: &mut Desk) -> Option<Pass> {
     }
 }
 
+/// Whether a desk was closed, all of a finished run.
+fn is_closed(closed: Option<Result<Closed, CloseFault>>) -> bool {
+    match closed {
+        Some(Ok(closed)) => !closed.full,
+        _ => false,
+    }
+}
+
+/// A call answers what the helper returns, be it an error, 0 or 1: a device that is disabled isn't resumed,
+/// one that is enabled is, and one that is Active needn't be.
+pub fn calls_answer_their_codes<R: Wait>(rt: &R, alloc: Global) -> Result<bool, PlanFault> {
+    let mut desk = open(alloc, CALLED)?;
+    let clock = ticker(alloc)?;
+    let Some(mut pass) = one_pass(&mut desk) else {
+        return Ok(false);
+    };
+    let disabled = call(rt, &desk, &mut pass, b"get_sync a", &clock);
+    let enables = call(rt, &desk, &mut pass, b"enable a", &clock);
+    let resumes = call(rt, &desk, &mut pass, b"resume a", &clock);
+    let active = call(rt, &desk, &mut pass, b"resume a", &clock);
+    let refused = disabled == Some(Ok(-13)) && enables == Some(Ok(0));
+    let resumed = resumes == Some(Ok(0)) && active == Some(Ok(1));
+    let passes = vec![in alloc; pass]?;
+    Ok(refused && resumed && is_closed(close(desk, passes)))
+}
+
 /// Where a list is full, a call is stopped, and so is each behind it; the desk is closed as full.
 pub fn full_list_stops<R: Wait>(rt: &R, alloc: Global) -> Result<bool, PlanFault> {
     let mut desk = open(alloc, FOUR)?;

@@ -13,8 +13,8 @@ use cases::{
     held_lock_stops_no_other, hints_decide_nothing, strange_book_is_replaced,
 };
 use desks::{
-    full_list_stops, full_script_stops, lost_pass_is_told, pass_is_given_once, passes_in_any_order,
-    two_callers_at_once,
+    calls_answer_their_codes, full_list_stops, full_script_stops, lost_pass_is_told,
+    pass_is_given_once, passes_in_any_order, two_callers_at_once,
 };
 use pm_planread::PlanFault;
 use std::alloc::Global;
@@ -22,7 +22,7 @@ use std::io;
 use std::sync::Wait;
 use std::thread::Threads;
 use written::{
-    cut_run_is_of_one_thread, desk_meets, desk_passes_audit, run_goes_by_its_clock,
+    cut_desk_is_of_one_thread, cut_run_is_of_one_thread, desk_meets, desk_passes_audit, run_goes_by_its_clock,
     run_tells_what_overlaps, trace_passes_audit,
 };
 
@@ -66,11 +66,15 @@ fn main(rt: HostRuntime) -> io::Result<()> {
 fn desk_cases<R: Threads + Wait + Sync>(
     rt: &R,
     alloc: Global,
-) -> [(&'static str, &'static str); 8] {
+) -> [(&'static str, &'static str); 10] {
     [
         (
             "two callers call at once, and each call answers 0",
             word(two_callers_at_once(rt, alloc)),
+        ),
+        (
+            "a call answers the code that the helper returns",
+            word(calls_answer_their_codes(rt, alloc)),
         ),
         (
             "a full list stops a call and each behind it",
@@ -99,6 +103,10 @@ fn desk_cases<R: Threads + Wait + Sync>(
         (
             "what desk writes passes its audit",
             word(desk_passes_audit(rt, alloc)),
+        ),
+        (
+            "where the list of a desk is full, desk writes what serial does",
+            word(cut_desk_is_of_one_thread(rt, alloc)),
         ),
     ]
 }

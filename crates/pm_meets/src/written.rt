@@ -175,3 +175,13 @@ pub fn desk_passes_audit<R: Threads + Wait + Sync>(
     let status = audit_top(alloc, "plan", "trace", &mut files, &mut out, &mut err);
     Ok(ran.status == 0 && status == 0 && out.taken() == b"yes finished\n".as_slice())
 }
+
+/// Where the list is full, what passes come to isn't written: it is what one thread writes.
+pub fn cut_desk_is_of_one_thread<R: Threads + Wait + Sync>(
+    rt: &R,
+    alloc: Global,
+) -> Result<bool, PlanFault> {
+    let ran = desk(rt, alloc, CUT, &Quiet)?;
+    let alone = run_alone(alloc, CUT)?;
+    Ok(ran.status == 6 && alone.status == 6 && ran.out.taken() == alone.out.taken())
+}
