@@ -1,0 +1,3 @@
+pub mod PlanStatuses
+pub mod TraceStatuses
+pub mod AskedStatuses
