@@ -1,6 +1,6 @@
 //! All commands, by what they are asked for.
 
-ghost use Rattle.std.specs.Prelude.{ℕ, Bool, List, Option, Contains, IfSome, IsTrue};
+ghost use Rattle.std.specs.Prelude.{ℕ, ◌⊎◌, Bool, List, Option, Contains, IfSome, IsTrue};
 ghost use Rattle.pm_io.specs.Faults.{Rose};
 ghost use Rattle.pm_endings.specs.Ending.{Answered, Failed, Taking};
 ghost use Rattle.pm_words.specs.Request.{Asked, asked_by};
@@ -9,7 +9,8 @@ ghost use Rattle.pm_complete.specs.Complete.{HasAll, IsMissing, IsRefused, refus
 
 /// A command that has all that it needs answers one of its own statuses, where neither reading nor writing
 /// fails. One that is refused answers 3, unless reading or memory fails first; so does one whose file isn't
-/// there, where all files are told. `top` answers so of the command that the words name.
+/// there, where all files are told. Of files that are told one of the three holds. `top` answers so of the
+/// command that the words name.
 pub fn commands_answer_exactly()
     ensures complete { (all : Bool) (told : List ℕ → Option (List ℕ)) (asked : Asked)
         (status old new : ℕ) (out err : Taking)
@@ -26,6 +27,8 @@ pub fn commands_answer_exactly()
         → IsTrue all → IsMissing told asked
         → Answered (AskedEnds all told asked) status (Rose old new) out err
         → Contains refused_statuses status }
+    ensures covered { (told : List ℕ → Option (List ℕ)) (asked : Asked)
+        → HasAll told asked ⊎ (IsRefused told asked ⊎ IsMissing told asked) }
     ensures top { (all : Bool) (told : List ℕ → Option (List ℕ)) (words : List (List ℕ))
         (status old new : ℕ) (out err : Taking)
         → ¬ Rose old new → ¬ Failed out
