@@ -8,9 +8,8 @@ ghost use Rattle.pm_commands.specs.Commands.{AskedEnds};
 ghost use Rattle.pm_complete.specs.Complete.{HasAll, IsMissing, IsRefused, refused_statuses, statuses_of};
 
 /// A command that has all that it needs answers one of its own statuses, where neither reading nor writing
-/// fails. One that is refused answers 3, unless reading or memory fails first; so does one whose file isn't
-/// there, where all files are told. Of files that are told one of the three holds. `top` answers so of the
-/// command that the words name.
+/// fails. One that is refused answers 3, 4 or 7, and so does one whose file isn't there, where all files are
+/// told. Of files that are told one of the three holds. `top` answers so of the command that the words name.
 pub fn commands_answer_exactly()
     ensures complete { (all : Bool) (told : List ℕ → Option (List ℕ)) (asked : Asked)
         (status old new : ℕ) (out err : Taking)
