@@ -13,6 +13,7 @@ use std::thread::Threads;
 
 /// What the two callers of `CALLED` call.
 static C_CALLS: [&[u8]; 3] = [b"enable a", b"get_sync a", b"put_noidle a"];
+
 static E_CALLS: [&[u8]; 2] = [b"enable b", b"get_sync b"];
 
 /// Opens a desk for a plan.
@@ -212,13 +213,17 @@ pub fn lost_pass_is_told<R: Wait>(rt: &R, alloc: Global) -> Result<bool, PlanFau
     call_all(rt, &desk, &mut second, &E_CALLS, &clock);
     let called = second.receipts().first().copied();
     match close(desk, vec![in alloc; first]?) {
-        Some(Err(CloseFault::Differs {
-            book,
-            caller: 1,
-            nth: 1,
-            kept: None,
-            found,
-        })) => Ok(book.lines().len() == 29 && called.is_some() && found == called),
+        Some(
+            Err(
+                CloseFault::Differs {
+                    book,
+                    caller: 1,
+                    nth: 1,
+                    kept: None,
+                    found,
+                },
+            ),
+        ) => Ok(book.lines().len() == 29 && called.is_some() && found == called),
         _ => Ok(false),
     }
 }

@@ -22,8 +22,8 @@ use std::io;
 use std::sync::Wait;
 use std::thread::Threads;
 use written::{
-    cut_desk_is_of_one_thread, cut_run_is_of_one_thread, desk_meets, desk_passes_audit, run_goes_by_its_clock,
-    run_tells_what_overlaps, trace_passes_audit,
+    cut_desk_is_of_one_thread, cut_run_is_of_one_thread, desk_meets, desk_passes_audit,
+    desk_tells_what_overlaps, run_goes_by_its_clock, run_tells_what_overlaps, trace_passes_audit,
 };
 
 fn main(rt: HostRuntime) -> io::Result<()> {
@@ -66,7 +66,7 @@ fn main(rt: HostRuntime) -> io::Result<()> {
 fn desk_cases<R: Threads + Wait + Sync>(
     rt: &R,
     alloc: Global,
-) -> [(&'static str, &'static str); 10] {
+) -> [(&'static str, &'static str); 11] {
     [
         (
             "two callers call at once, and each call answers 0",
@@ -84,10 +84,7 @@ fn desk_cases<R: Threads + Wait + Sync>(
             "a full script stops a call",
             word(full_script_stops(rt, alloc)),
         ),
-        (
-            "a pass is given once",
-            word(pass_is_given_once(alloc)),
-        ),
+        ("a pass is given once", word(pass_is_given_once(alloc))),
         (
             "passes come back in any order, and an unused one not at all",
             word(passes_in_any_order(rt, alloc)),
@@ -99,6 +96,10 @@ fn desk_cases<R: Threads + Wait + Sync>(
         (
             "callbacks of two passes run at once",
             word(desk_meets(rt, alloc)),
+        ),
+        (
+            "what desk writes has side by side what serial has one behind the other",
+            word(desk_tells_what_overlaps(rt, alloc)),
         ),
         (
             "what desk writes passes its audit",

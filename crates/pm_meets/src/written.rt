@@ -164,6 +164,17 @@ pub fn desk_meets<R: Threads + Wait + Sync>(rt: &R, alloc: Global) -> Result<boo
     Ok(ran.status == 0 && meet.met())
 }
 
+/// By passes too what is written has side by side what one thread runs one behind the other.
+pub fn desk_tells_what_overlaps<R: Threads + Wait + Sync>(
+    rt: &R,
+    alloc: Global,
+) -> Result<bool, PlanFault> {
+    let meet = Meet::new(DevId(0), DevId(1));
+    let ran = desk(rt, alloc, STAGGERED, &meet)?;
+    let is_done = ran.status == 0 && meet.met();
+    Ok(is_done && overlaps(alloc, STAGGERED, ran.out.taken())?)
+}
+
 /// The trace of a run by passes is that of a finished run.
 pub fn desk_passes_audit<R: Threads + Wait + Sync>(
     rt: &R,

@@ -195,8 +195,7 @@ fn fits(desk: &Desk, plan: &Plan, caller: u32) -> bool
     ensures caller { IsTrue result → caller < length desk.now.plan.callers }
     ensures devices { IsTrue result → length plan.now.devices ≡ length desk.now.plan.devices }
 {
-    (caller as usize) < desk.plan().callers.len()
-        && plan.devices.len() == desk.plan().devices.len()
+    (caller as usize) < desk.plan().callers.len() && plan.devices.len() == desk.plan().devices.len()
 }
 
 /// Calls by a pass what the commands say, in turn, until a call is stopped.
