@@ -1,2 +1,1 @@
-pub mod Exactly
 pub mod SummaryLemmas

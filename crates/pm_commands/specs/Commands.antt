@@ -1,7 +1,7 @@
 -- What each command may come to: its own endings (this project's own). Those that it shares with the others stand in
--- `Ending` of pm_endings, what comes of a plan's file in `Reading`, those of `serial` and `run` in pm_run, and those of
--- the commands over a trace in pm_traces.
-use Rattle.std.specs.Prelude.{◌≡◌, ℕ, Bool, Option, Some, None, List, option_and_then}
+-- `Ending` of pm_endings, what comes of a plan's file in `Reading`, those of `serial`, `run` and `desk` in pm_run, and
+-- those of the commands over a trace in pm_traces.
+use Rattle.std.specs.Prelude.{◌≡◌, ℕ, Bool, Option, List}
 use Rattle.pm_make.specs.Generator.{IsGenerated}
 use Rattle.pm_model.specs.declared.plan.Plan.{Plan}
 use Rattle.pm_model.specs.Islands.{Numbering}
@@ -10,7 +10,7 @@ use Rattle.pm_report.specs.Report.{summary, summary_text}
 use Rattle.pm_run.specs.Runs.{IsRun, RunEnds, SerialEnds, is_whole, run_ending}
 use Rattle.pm_serial.specs.declared.running.End.{End}
 use Rattle.pm_traces.specs.Commands.{OfAudit, OfConvert, OfTimes, OfWhy}
-use Rattle.pm_words.specs.Request.{Asked, Audit, Check, Convert, Make, Run, Serial, Times, Why, asked_by}
+use Rattle.pm_words.specs.Request.{Asked, Audit, Check, Convert, Desk, Make, Run, Serial, Times, Why}
 use Rattle.pm_commands.specs.Counts.{counts_text}
 use Rattle.pm_endings.specs.Ending.{Done, Ending}
 use Rattle.pm_endings.specs.Reading.{OfPlan}
@@ -29,21 +29,6 @@ pub record MakeEnds (number devices : ℕ) (ending : Ending) : Type 0 where
   pub run : IsRun plan end_of
   pub is : ending ≡ run_ending end_of (summary_text (summary plan (serial plan) (is_whole end_of)))
 
--- the commands that are here; the others are answered as wrong words
-abbrev pub here : Asked → Option Asked
-here (Serial plan) = Some (Serial plan)
-here (Run plan hands) = Some (Run plan hands)
-here (Check plan) = Some (Check plan)
-here (Audit plan trace) = Some (Audit plan trace)
-here (Convert plan trace) = Some (Convert plan trace)
-here (Times plan trace) = Some (Times plan trace)
-here (Why plan trace device) = Some (Why plan trace device)
-here (Make number devices) = Some (Make number devices)
-here _ = None
-
-abbrev pub named : List (List ℕ) → Option Asked
-named words = option_and_then here (asked_by words)
-
 -- the endings of the command that is asked for, over files of which so much is told
 abbrev pub AskedEnds : Bool → (List ℕ → Option (List ℕ)) → Asked → Ending → Type 0
 AskedEnds all told (Serial plan) = OfPlan all (told plan) SerialEnds
@@ -54,4 +39,4 @@ AskedEnds all told (Convert plan trace) = OfPlan all (told plan) (OfConvert all 
 AskedEnds all told (Times plan trace) = OfPlan all (told plan) (OfTimes all (told trace))
 AskedEnds all told (Why plan trace device) = OfPlan all (told plan) (OfWhy all (told trace) device)
 AskedEnds all told (Make number devices) = MakeEnds number devices
-AskedEnds all told _ = λ _. ⊥
+AskedEnds all told (Desk plan) = OfPlan all (told plan) RunEnds

@@ -2,7 +2,8 @@
 
 ghost use Rattle.std.specs.Prelude.{◌≡◌, ◌↔◌, map, string_bytes, IfSome, IsNone};
 ghost use Rattle.pm_io.specs.Faults.{Rose};
-ghost use Rattle.pm_commands.specs.Commands.{AskedEnds, named};
+ghost use Rattle.pm_commands.specs.Commands.{AskedEnds};
+ghost use Rattle.pm_words.specs.Request.{asked_by};
 ghost use Rattle.pm_endings.specs.Ending.{Answered, Told, taking, usage};
 
 use crate::check::check_top;
@@ -10,7 +11,7 @@ use crate::make::make_top;
 use pm_endings::{WRONG_WORDS, refuse_words};
 use pm_gate::{Clock, Gate};
 use pm_io::{Files, Sink};
-use pm_run::{run_top, serial_top};
+use pm_run::{desk_top, run_top, serial_top};
 use pm_traces::{audit_top, convert_top, times_top, why_top};
 use pm_words::{Request, read_words};
 use std::alloc::Global;
@@ -20,9 +21,7 @@ use std::thread::Threads;
 /// Runs the command that the words name: they are those after the program's name. The answer is the status
 /// that the program ends with. Wrong words are answered by the usage text, which goes to `err`.
 ///
-/// `run` hands `clock` and `gate` on to its threads and may wait for them; no other command does.
-///
-/// `desk` isn't here yet; its words are answered as wrong ones.
+/// `run` and `desk` hand `clock` and `gate` on to their threads and may wait for them; no other command does.
 pub fn top<R: Threads + Wait + Sync, F: Files, O: Sink, E: Sink, C: Clock + Sync, G: Gate + Sync>(
     rt: &R,
     alloc: Global,
@@ -33,12 +32,12 @@ pub fn top<R: Threads + Wait + Sync, F: Files, O: Sink, E: Sink, C: Clock + Sync
     clock: &C,
     gate: &G,
 ) -> u8
-    ensures words { (result ≡ WRONG_WORDS) ↔ IsNone (named (map string_bytes words.now)) }
+    ensures words { (result ≡ WRONG_WORDS) ↔ IsNone (asked_by (map string_bytes words.now)) }
     ensures untouched { result ≡ WRONG_WORDS → (files.new ≡ files.old) × (out.new ≡ out.old) }
     ensures usage { result ≡ WRONG_WORDS → Told (taking E.taken E.faults err.old err.new) usage }
 
     // Else the clause of the command that they name.
-    ensures answer { IfSome (named (map string_bytes words.now)) (λ asked.
+    ensures answer { IfSome (asked_by (map string_bytes words.now)) (λ asked.
         Answered (AskedEnds F.tells_all (F.told files.old) asked) result
         (Rose (F.faults files.old) (F.faults files.new))
         (taking O.taken O.faults out.old out.new) (taking E.taken E.faults err.old err.new)) }
@@ -60,6 +59,7 @@ pub fn top<R: Threads + Wait + Sync, F: Files, O: Sink, E: Sink, C: Clock + Sync
             },
         ) => why_top(alloc, plan, trace, device, files, out, err),
         Some(Request::Make { number, devices }) => make_top(alloc, number, devices, out, err),
-        _ => refuse_words(err),
+        Some(Request::Desk { plan }) => desk_top(rt, alloc, plan, files, out, err, clock, gate),
+        None => refuse_words(err),
     }
 }

@@ -4,7 +4,6 @@
 mod check;
 mod counts;
 mod dispatch;
-mod laws;
 mod make;
 #[cfg(test)]
 mod tests;
@@ -12,5 +11,4 @@ mod tests;
 pub use check::check_top;
 pub use counts::counts_text;
 pub use dispatch::top;
-pub use laws::serial_answers_exactly;
 pub use make::make_top;

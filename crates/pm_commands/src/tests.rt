@@ -225,7 +225,7 @@ static WORDS: [(&str, u8); 13] = [
     ("convert plan -", 4),
     ("times plan -", 4),
     ("why plan - b", 3),
-    ("desk plan", 2),
+    ("desk -", 4),
 ];
 
 #[test]

@@ -4,6 +4,7 @@
 
 mod cases;
 mod counting;
+mod desks;
 mod plans;
 mod written;
 
@@ -11,10 +12,18 @@ use cases::{
     counts_callbacks, cut_merge_is_none, empty_plan_is_finished, hands_meet,
     held_lock_stops_no_other, hints_decide_nothing, strange_book_is_replaced,
 };
+use desks::{
+    calls_answer_their_codes, full_list_stops, full_script_stops, lost_pass_is_told,
+    pass_is_given_once, passes_in_any_order, two_callers_at_once,
+};
 use pm_planread::PlanFault;
+use std::alloc::Global;
 use std::io;
+use std::sync::Wait;
+use std::thread::Threads;
 use written::{
-    cut_run_is_of_one_thread, run_goes_by_its_clock, run_tells_what_overlaps, trace_passes_audit,
+    cut_desk_is_of_one_thread, cut_run_is_of_one_thread, desk_meets, desk_passes_audit,
+    desk_tells_what_overlaps, run_goes_by_its_clock, run_tells_what_overlaps, trace_passes_audit,
 };
 
 fn main(rt: HostRuntime) -> io::Result<()> {
@@ -46,7 +55,61 @@ fn main(rt: HostRuntime) -> io::Result<()> {
     let passes = word(trace_passes_audit(&rt, alloc));
     println!(rt; "what run writes by 4 hands passes its audit: {passes}")?;
     let alone = word(cut_run_is_of_one_thread(&rt, alloc));
-    println!(rt; "where the merge is none, run writes what serial does: {alone}")
+    println!(rt; "where the merge is none, run writes what serial does: {alone}")?;
+    for (shown, case) in desk_cases(&rt, alloc) {
+        println!(rt; "{shown}: {case}")?;
+    }
+    Ok(())
+}
+
+/// What is shown of callers that call by passes, and what each case came to.
+fn desk_cases<R: Threads + Wait + Sync>(
+    rt: &R,
+    alloc: Global,
+) -> [(&'static str, &'static str); 11] {
+    [
+        (
+            "two callers call at once, and each call answers 0",
+            word(two_callers_at_once(rt, alloc)),
+        ),
+        (
+            "a call answers the code that the helper returns",
+            word(calls_answer_their_codes(rt, alloc)),
+        ),
+        (
+            "a full list stops a call and each behind it",
+            word(full_list_stops(rt, alloc)),
+        ),
+        (
+            "a full script stops a call",
+            word(full_script_stops(rt, alloc)),
+        ),
+        ("a pass is given once", word(pass_is_given_once(alloc))),
+        (
+            "passes come back in any order, and an unused one not at all",
+            word(passes_in_any_order(rt, alloc)),
+        ),
+        (
+            "a used pass that doesn't come back is told",
+            word(lost_pass_is_told(rt, alloc)),
+        ),
+        (
+            "callbacks of two passes run at once",
+            word(desk_meets(rt, alloc)),
+        ),
+        (
+            "what desk writes has side by side what serial has one behind the other",
+            word(desk_tells_what_overlaps(rt, alloc)),
+        ),
+        (
+            "what desk writes passes its audit",
+            word(desk_passes_audit(rt, alloc)),
+        ),
+        (
+            "where the list of a desk is full, desk writes what serial does",
+            word(cut_desk_is_of_one_thread(rt, alloc)),
+        ),
+    ]
 }
 
 /// What a case came to.

@@ -43,3 +43,24 @@ pub static SECONDS: &[u8] = b"0 c pm_call: enable a
 11000 c rpm_return_int: rpm_resume:a ret=0
 12000 c pm_ret: get_sync a 0
 ";
+
+/// Two devices, and two callers that call by passes.
+pub static CALLED: &[u8] = b"device = [{name = 'a'}, {name = 'b'}]
+caller = [{name = 'c'}, {name = 'e'}]";
+
+/// A device and a caller, with four lines.
+pub static FOUR: &[u8] = b"lines = 4
+device = [{name = 'a'}]
+caller = [{name = 'c'}]";
+
+/// A USB hub behind a host controller with a power domain, and a PHY that one of its devices needs.
+pub static HUB: &[u8] = b"domain = [{name = 'pd'}]
+device = [{name = 'phy', idle = [], suspend_ms = 3, resume_ms = 5},
+{name = '0000:00:14.0', domain = 'pd', idle = [], suspend_ms = 3, resume_ms = 5},
+{name = '1-1', parent = '0000:00:14.0', idle = [], suspend_ms = 3, resume_ms = 5},
+{name = '1-1.1', parent = '1-1', idle = [], suspend_ms = 3, resume_ms = 5},
+{name = '1-1.2', parent = '1-1', idle = [], suspend_ms = 3, resume_ms = 5}]
+link = [{consumer = '1-1.2', supplier = 'phy'}]
+caller = [{name = 'boot', script = ['enable phy', 'enable 0000:00:14.0', 'enable 1-1', 'enable 1-1.1', 'enable 1-1.2']},
+{name = 'x', script = ['delay 100', 'get_sync 1-1.1', 'delay 20', 'put 1-1.1']},
+{name = 'y', script = ['delay 100', 'get_sync 1-1.2', 'delay 30', 'put 1-1.2']}]";

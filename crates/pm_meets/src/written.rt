@@ -1,16 +1,16 @@
-//! Cases over what `run` writes.
+//! Cases over what `run` and `desk` write.
 
 ghost use Rattle.std.specs.Prelude.{◌≤◌};
 
 use crate::cases::ticker;
-use crate::plans::{CUT, ONE, SECONDS, STAGGERED, TIMED};
+use crate::plans::{CUT, HUB, ONE, SECONDS, STAGGERED, TIED, TIMED};
 use pm_audit::load_trace;
 use pm_base::{Cb, DevId};
 use pm_gate::{Gate, Meet, Quiet};
 use pm_io::{MemFiles, MemSink};
 use pm_model::{Event, Line};
 use pm_planread::{PlanFault, read_plan};
-use pm_run::{run_top, serial_top};
+use pm_run::{desk_top, run_top, serial_top};
 use pm_traces::audit_top;
 use std::alloc::{AllocError, Global};
 use std::sync::Wait;
@@ -137,6 +137,62 @@ pub fn cut_run_is_of_one_thread<R: Threads + Wait + Sync>(
     alloc: Global,
 ) -> Result<bool, PlanFault> {
     let ran = run(rt, alloc, CUT, 4, &Quiet)?;
+    let alone = run_alone(alloc, CUT)?;
+    Ok(ran.status == 6 && alone.status == 6 && ran.out.taken() == alone.out.taken())
+}
+
+/// Runs each script of the plan by a pass of its own.
+fn desk<R: Threads + Wait + Sync, G: Gate + Sync>(
+    rt: &R,
+    alloc: Global,
+    plan: &[u8],
+    gate: &G,
+) -> Result<Seen, AllocError> {
+    let mut files = files(alloc, plan, b"")?;
+    let (mut out, mut err) = (sink(alloc), sink(alloc));
+    let clock = ticker(alloc)?;
+    let status = desk_top(
+        rt, alloc, "plan", &mut files, &mut out, &mut err, &clock, gate,
+    );
+    Ok(Seen { status, out })
+}
+
+/// Two callbacks of scripts that passes call run at once.
+pub fn desk_meets<R: Threads + Wait + Sync>(rt: &R, alloc: Global) -> Result<bool, PlanFault> {
+    let meet = Meet::new(DevId(0), DevId(1));
+    let ran = desk(rt, alloc, TIED, &meet)?;
+    Ok(ran.status == 0 && meet.met())
+}
+
+/// By passes too what is written has side by side what one thread runs one behind the other.
+pub fn desk_tells_what_overlaps<R: Threads + Wait + Sync>(
+    rt: &R,
+    alloc: Global,
+) -> Result<bool, PlanFault> {
+    let meet = Meet::new(DevId(0), DevId(1));
+    let ran = desk(rt, alloc, STAGGERED, &meet)?;
+    let is_done = ran.status == 0 && meet.met();
+    Ok(is_done && overlaps(alloc, STAGGERED, ran.out.taken())?)
+}
+
+/// The trace of a run by passes is that of a finished run.
+pub fn desk_passes_audit<R: Threads + Wait + Sync>(
+    rt: &R,
+    alloc: Global,
+) -> Result<bool, PlanFault> {
+    let ran = desk(rt, alloc, HUB, &Quiet)?;
+    let mut files = files(alloc, HUB, ran.out.taken())?;
+    let (mut out, mut err) = (sink(alloc), sink(alloc));
+    let status = audit_top(alloc, "plan", "trace", &mut files, &mut out, &mut err);
+    Ok(ran.status == 0 && status == 0 && out.taken() == b"yes finished\n".as_slice())
+}
+
+/// Where the list is full, what passes come to isn't written: it is what one thread writes.
+pub fn cut_desk_is_of_one_thread<R: Threads + Wait + Sync>(
+    rt: &R,
+    alloc: Global,
+) -> Result<bool, PlanFault> {
+    let ran = desk(rt, alloc, CUT, &Quiet)?;
     let alone = run_alone(alloc, CUT)?;
     Ok(ran.status == 6 && alone.status == 6 && ran.out.taken() == alone.out.taken())
 }

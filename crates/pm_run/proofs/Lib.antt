@@ -1,1 +1,2 @@
+mod DeskLemmas
 pub mod RunLemmas

@@ -45,7 +45,7 @@ pub record SerialEnds (plan : Plan) (ending : Ending) : Type 0 where
   pub run : IsRun plan end_of
   pub is : ending ≡ run_ending end_of (text plan (serial plan))
 
--- `run PLAN`: the text of a finished run; or that of the one that one thread makes, which has all the lines that the plan
+-- `run PLAN` and `desk PLAN`: the text of a finished run; or that of the one that one thread makes, which has all the lines that the plan
 -- allows and isn't finished
 pub data RunEnds (plan : Plan) : Ending → Type 0 where
   whole : (lines : List Line) → IsWholeRun plan lines → RunEnds plan (Done (text plan lines))

@@ -102,7 +102,7 @@ fn run_plan<R: Threads + Wait + Sync, O: Sink, C: Clock + Sync, G: Gate + Sync>(
 }
 
 /// Writes the lines of a finished run.
-fn write_finished<O: Sink>(
+pub(crate) fn write_finished<O: Sink>(
     alloc: Global,
     plan: &Plan,
     lines: &[Line],
@@ -116,7 +116,7 @@ fn write_finished<O: Sink>(
 }
 
 /// Writes the lines of the run that one thread makes.
-fn write_alone<O: Sink>(alloc: Global, plan: Plan, out: &mut O) -> Result<(), Fault>
+pub(crate) fn write_alone<O: Sink>(alloc: Global, plan: Plan, out: &mut O) -> Result<(), Fault>
     ensures { Came (RunEnds plan) result ⊥ (taking O.taken O.faults out.old out.new) }
 {
     write_serial(alloc, plan, out)

@@ -1,0 +1,4 @@
+pub mod PlanStatuses
+pub mod TraceStatuses
+pub mod AskedStatuses
+pub mod FileCases
