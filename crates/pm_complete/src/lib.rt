@@ -5,10 +5,8 @@
 
 mod commands;
 mod plans;
-mod table;
 mod traces;
 
 pub use commands::commands_answer_exactly;
 pub use plans::{plans_answer_exactly, serial_answers_exactly};
-pub use table::statuses;
 pub use traces::traces_answer_exactly;
