@@ -1,5 +1,6 @@
 pub mod Walks
 pub mod OneNumbering
+pub mod OnePart
 pub mod Region
 pub mod AlikeLists
 pub mod ViewsAlike

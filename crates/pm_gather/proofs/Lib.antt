@@ -1,2 +1,3 @@
 mod ComesLemmas
 mod GatherLemmas
+mod OneRun

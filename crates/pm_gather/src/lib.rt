@@ -3,9 +3,11 @@
 #![tactic(auto)]
 
 mod books;
+mod laws;
 mod lists;
 mod locks;
 
 pub use books::{finished, mended};
+pub use laws::gathered_once;
 pub use lists::gather;
 pub use locks::{locked_parts, run_islands};

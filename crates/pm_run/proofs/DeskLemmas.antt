@@ -1,9 +1,7 @@
 -- What a desk that is closed comes to, and what its passes call.
-use Rattle.std.proofs.Common.{◌≡◌, ℕ, ℤ, true, List, Ok, Err, Some, get_or, length, reverse, slice_get, ap, subst, sym}
-use Rattle.std.specs.Prelude.{IfErr, IfOk, Result}
+use Rattle.std.proofs.Common.{◌≡◌, ℕ, true, List, Some, get_or, length, reverse, slice_get, subst, sym}
 use Rattle.std.specs.List.{AllPass, list_all}
 use Rattle.std.proofs.lemmas.Option.{slice_get-get_or}
-use Rattle.pm_model.specs.declared.event.Command.{Command}
 use Rattle.pm_model.specs.declared.event.Line.{Line}
 use Rattle.pm_model.specs.declared.plan.Plan.{Plan}
 use Rattle.pm_model.specs.declared.rows.CallerRow.{CallerRow}
@@ -13,8 +11,6 @@ use Rattle.pm_model.specs.LineOf.{is_line_of}
 use Rattle.pm_stacks.proofs.PlanLaw.{command_lawful}
 use Rattle.pm_book.specs.Pages.{Pages}
 use Rattle.pm_gather.specs.Gathering.{IsFinishedRun}
-use Rattle.pm_desk.specs.declared.pass.Stop.{Stop}
-use Rattle.pm_desk.specs.Slips.{Slip, with_receipt, with_stop}
 
 -- the lines of a book of the plan, in order, whose run is finished
 pub closed_run : (plan : Plan) (p : Pages) (lines : List Line) → p.plan ≡ plan → IsFinished p.plan p.lines → reverse lines ≡ p.lines → IsLawful p.plan p.lines
@@ -31,9 +27,3 @@ closed_run plan p lines plan_is finished lines_are lawful of_plan =
 pub script_lawful : (plan : Plan) (c n : ℕ) (row : CallerRow) → slice_get plan.callers c ≡ Some row → length plan.devices ≡ n → AllPass (is_command n) row.script
 script_lawful plan c n row at same i d within =
     subst (λ (k : ℕ). is_command k (get_or row.script i d) ≡ true) same (command_lawful plan c i row (get_or row.script i d) at (slice_get-get_or row.script i d within))
-
--- a pass stays its caller's
-pub same_caller : (command : Command) (old new : Slip) (result : Result ℤ Stop) → IfOk result (λ code. new ≡ with_receipt old (record { command = command; code = code }))
-    → IfErr result (λ why. new ≡ with_stop old why) → new.caller ≡ old.caller
-same_caller command old new (Ok code) ok err = ap (λ (slip : Slip). slip.caller) ok
-same_caller command old new (Err why) ok err = ap (λ (slip : Slip). slip.caller) err

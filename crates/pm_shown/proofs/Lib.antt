@@ -2,7 +2,6 @@ pub mod Followed
 pub mod Stuck
 pub mod Texts
 pub mod Rows
-pub mod OnePart
 pub mod Apart
 pub mod Replay
 pub mod Merging

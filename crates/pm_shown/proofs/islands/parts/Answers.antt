@@ -1,6 +1,6 @@
 -- By the rows of the parts.
 use Rattle.pm_shown.proofs.Apart.{is_first_part, is_no_part, is_second_part, is_third_part}
-use Rattle.pm_shown.proofs.OnePart.{one_part}
+use Rattle.pm_apart.proofs.OnePart.{one_part}
 use Rattle.pm_shown.proofs.islands.parts.Goals as goal
 
 pub returns-clause-of_one : goal.returns-clause-of_one
