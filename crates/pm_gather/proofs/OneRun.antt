@@ -1,5 +1,5 @@
 -- Books come to one run of their plan, or to none.
-use Rattle.std.proofs.Common.{◌≡◌, ◌∙◌, ◌<◌, ◌≤◌, ℕ, suc, List, [], ◌∷◌, Option, Some, None, length, reverse, slice_get, refl, sym, ap, subst, arith}
+use Rattle.std.proofs.Common.{◌≡◌, ◌∙◌, ◌<◌, ◌≤◌, ℕ, suc, false, List, [], ◌∷◌, Option, Some, None, length, reverse, slice_get, refl, sym, ap, subst, arith}
 use Rattle.std.proofs.Math.ListN.{get_or}
 use Rattle.std.proofs.lemmas.Bool.{false≢true}
 use Rattle.std.proofs.lemmas.Option.{same_Some, slice_get-get_or, slice_get_within}
@@ -13,7 +13,7 @@ use Rattle.pm_apart.proofs.OneNumbering.{one_count}
 use Rattle.pm_apart.proofs.OnePart.{one_part}
 use Rattle.pm_book.specs.Pages.{Pages}
 use Rattle.pm_serial.specs.Ends.{whole}
-use Rattle.pm_gather.specs.Gathering.{AllFinish, ComesTo, Finishes, Gathered, IsCutOn, IsKeptOf, IsPartOf, SomeIsCut, all_lines, lists, merges, no_lines, not_one_each, one_is_cut, too_many_lines}
+use Rattle.pm_gather.specs.Gathering.{AllFinish, ComesTo, Finishes, Gathered, IsKeptOf, IsPartOf, SomeIsCut, all_lines, lists, merges, no_lines, not_one_each, one_is_cut, too_many_lines}
 
 -- one list is kept of a book
 one_kept : (plan : Plan) (book : Pages) (a b : History) → IsKeptOf plan book a → IsKeptOf plan book b → a ≡ b
@@ -82,7 +82,7 @@ none_cut plan count k books done all some = false≢true (sym unfinished ∙ a.2
         (subst (λ book. ComesTo p.plan book p.lines) same_book a.2.comes)
 
     unfinished : is_finished p.plan (world p.plan p.lines) ≡ false
-    unfinished = (λ i. is_finished (same_plan (~ i)) (world (same_plan (~ i)) (same_run (~ i)))) ∙ some.cut.cut.unfinished
+    unfinished = sym (λ i. is_finished (same_plan i) (world (same_plan i) (same_run i))) ∙ some.cut.cut.unfinished
 
 -- where the merge is what they come to, nothing else is
 merge_alone : (plan : Plan) (books done : List Pages) → Numbering plan (length books) → AllFinish plan books done → length (merged (lists done)) ≤ plan.lines
