@@ -4,17 +4,12 @@
 
 mod cases;
 mod counting;
-mod desks;
 mod plans;
 mod written;
 
 use cases::{
     counts_callbacks, cut_merge_is_none, empty_plan_is_finished, hands_meet,
     held_lock_stops_no_other, hints_decide_nothing, strange_book_is_replaced,
-};
-use desks::{
-    calls_answer_their_codes, full_list_stops, full_script_stops, lost_pass_is_told,
-    pass_is_given_once, passes_in_any_order, two_callers_at_once,
 };
 use pm_planread::PlanFault;
 use std::alloc::Global;
@@ -62,37 +57,12 @@ fn main(rt: HostRuntime) -> io::Result<()> {
     Ok(())
 }
 
-/// What is shown of callers that call by passes, and what each case came to.
+/// What is shown of scripts that passes call, and what each case came to.
 fn desk_cases<R: Threads + Wait + Sync>(
     rt: &R,
     alloc: Global,
-) -> [(&'static str, &'static str); 11] {
+) -> [(&'static str, &'static str); 4] {
     [
-        (
-            "two callers call at once, and each call answers 0",
-            word(two_callers_at_once(rt, alloc)),
-        ),
-        (
-            "a call answers the code that the helper returns",
-            word(calls_answer_their_codes(rt, alloc)),
-        ),
-        (
-            "a full list stops a call and each behind it",
-            word(full_list_stops(rt, alloc)),
-        ),
-        (
-            "a full script stops a call",
-            word(full_script_stops(rt, alloc)),
-        ),
-        ("a pass is given once", word(pass_is_given_once(alloc))),
-        (
-            "passes come back in any order, and an unused one not at all",
-            word(passes_in_any_order(rt, alloc)),
-        ),
-        (
-            "a used pass that doesn't come back is told",
-            word(lost_pass_is_told(rt, alloc)),
-        ),
         (
             "callbacks of two passes run at once",
             word(desk_meets(rt, alloc)),

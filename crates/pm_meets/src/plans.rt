@@ -44,15 +44,6 @@ pub static SECONDS: &[u8] = b"0 c pm_call: enable a
 12000 c pm_ret: get_sync a 0
 ";
 
-/// Two devices, and two callers that call by passes.
-pub static CALLED: &[u8] = b"device = [{name = 'a'}, {name = 'b'}]
-caller = [{name = 'c'}, {name = 'e'}]";
-
-/// A device and a caller, with four lines.
-pub static FOUR: &[u8] = b"lines = 4
-device = [{name = 'a'}]
-caller = [{name = 'c'}]";
-
 /// A USB hub behind a host controller with a power domain, and a PHY that one of its devices needs.
 pub static HUB: &[u8] = b"domain = [{name = 'pd'}]
 device = [{name = 'phy', idle = [], suspend_ms = 3, resume_ms = 5},

@@ -1,12 +1,11 @@
 //! Cases over desks, whose callers call by passes.
 
-use crate::cases::ticker;
 use crate::plans::{CALLED, FOUR};
 use pm_desk::{CloseFault, Closed, Desk, Pass, Receipt, Stop};
-use pm_gate::{Clock, Quiet};
+use pm_gate::{Clock, Quiet, Ticker};
 use pm_planread::{PlanFault, read_plan};
 use pm_script::read_command;
-use std::alloc::Global;
+use std::alloc::{AllocError, Global};
 use std::sync::Wait;
 use std::thread;
 use std::thread::Threads;
@@ -15,6 +14,11 @@ use std::thread::Threads;
 static C_CALLS: [&[u8]; 3] = [b"enable a", b"get_sync a", b"put_noidle a"];
 
 static E_CALLS: [&[u8]; 2] = [b"enable b", b"get_sync b"];
+
+/// A clock that goes on by a second at each reading.
+fn ticker(alloc: Global) -> Result<Ticker, AllocError> {
+    Ok(Ticker::new(Vec::from_slice(alloc, &[0])?))
+}
 
 /// Opens a desk for a plan.
 fn open(alloc: Global, plan: &[u8]) -> Result<Desk, PlanFault> {
