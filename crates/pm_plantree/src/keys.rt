@@ -1,6 +1,6 @@
 //! The keys of a plan's tables and the kinds of their values.
 
-ghost use Rattle.std.specs.Prelude.{◌≡◌, is_some};
+ghost use Rattle.std.specs.Prelude.{◌≡◌, is_some, length};
 ghost use Rattle.std.specs.List.{list_all};
 ghost use Rattle.std.specs.Str.{bytes_eq};
 ghost use Rattle.toml.specs.Data.{as_integer, as_str};
@@ -49,12 +49,26 @@ pub fn kind_of(section: Section, key: &str) -> Option<Kind>
     }
 }
 
-/// Whether the key is this word. Most keys have another length, which is looked at first.
+/// Whether the key is this word. Most keys have another length, which is looked at first. Keys are
+/// short, and their bytes are looked at one by one.
 #[tactic(auto, using(crate::proofs::TreeLemmas::same_of_one_length))]
 pub fn is_word(key: &str, word: &str) -> bool
     ensures { result ≡ bytes_eq key.now word.now }
 {
-    key.len() == word.len() && key == word
+    key.len() == word.len() && is_same(key.as_bytes(), word.as_bytes())
+}
+
+/// Whether the bytes are the same.
+fn is_same(a: &[u8], b: &[u8]) -> bool
+    requires { length a.now ≡ length b.now }
+    ensures { result ≡ bytes_eq a.now b.now }
+{
+    for (i, x) in a.iter().enumerate() {
+        if b.get(i) != Some(x) {
+            return false;
+        }
+    }
+    true
 }
 
 fn is_text_key(section: Section, key: &str) -> bool
