@@ -2,32 +2,56 @@
 //! did (this project's own). It is an example too of how a program calls from its own threads.
 #![tactic(auto)]
 
+mod cases;
 mod desks;
 mod plans;
 
-use desks::{
+use cases::{
     calls_answer_their_codes, full_list_stops, full_script_stops, lost_pass_is_told,
     pass_is_given_once, passes_in_any_order, two_callers_at_once,
 };
 use pm_planread::PlanFault;
+use std::alloc::Global;
 use std::io;
+use std::sync::Wait;
+use std::thread::Threads;
 
 fn main(rt: HostRuntime) -> io::Result<()> {
-    let alloc = rt.alloc();
-    let both = word(two_callers_at_once(&rt, alloc));
-    println!(rt; "two callers call at once, and each call answers 0: {both}")?;
-    let codes = word(calls_answer_their_codes(&rt, alloc));
-    println!(rt; "a call answers the code that the helper returns: {codes}")?;
-    let list = word(full_list_stops(&rt, alloc));
-    println!(rt; "a full list stops a call and each behind it: {list}")?;
-    let script = word(full_script_stops(&rt, alloc));
-    println!(rt; "a full script stops a call: {script}")?;
-    let once = word(pass_is_given_once(alloc));
-    println!(rt; "a pass is given once: {once}")?;
-    let order = word(passes_in_any_order(&rt, alloc));
-    println!(rt; "passes come back in any order, and an unused one not at all: {order}")?;
-    let lost = word(lost_pass_is_told(&rt, alloc));
-    println!(rt; "a used pass that doesn't come back is told: {lost}")
+    for (what, case) in shown(&rt, rt.alloc()) {
+        println!(rt; "{what}: {case}")?;
+    }
+    Ok(())
+}
+
+/// What is shown, and what each case came to.
+fn shown<R: Threads + Wait + Sync>(rt: &R, alloc: Global) -> [(&'static str, &'static str); 7] {
+    [
+        (
+            "two callers call at once, and each call answers 0",
+            word(two_callers_at_once(rt, alloc)),
+        ),
+        (
+            "a call answers the code that the helper returns",
+            word(calls_answer_their_codes(rt, alloc)),
+        ),
+        (
+            "a full list stops a call and each behind it",
+            word(full_list_stops(rt, alloc)),
+        ),
+        (
+            "a full script stops a call",
+            word(full_script_stops(rt, alloc)),
+        ),
+        ("a pass is given once", word(pass_is_given_once(alloc))),
+        (
+            "passes come back in any order, and an unused one not at all",
+            word(passes_in_any_order(rt, alloc)),
+        ),
+        (
+            "a used pass that doesn't come back is told",
+            word(lost_pass_is_told(rt, alloc)),
+        ),
+    ]
 }
 
 /// What a case came to.

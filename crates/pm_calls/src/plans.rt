@@ -8,3 +8,8 @@ caller = [{name = 'c'}, {name = 'e'}]";
 pub static FOUR: &[u8] = b"lines = 4
 device = [{name = 'a'}]
 caller = [{name = 'c'}]";
+
+/// What the two callers of `CALLED` call.
+pub static C_CALLS: [&[u8]; 3] = [b"enable a", b"get_sync a", b"put_noidle a"];
+
+pub static E_CALLS: [&[u8]; 2] = [b"enable b", b"get_sync b"];
