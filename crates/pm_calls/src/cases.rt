@@ -186,11 +186,23 @@ pub fn passes_in_any_order<R: Wait>(rt: &R, alloc: Global) -> Result<bool, PlanF
     both_orders(rt, alloc, &clock)
 }
 
-/// Whether a desk is closed with the second pass first, and one without its second pass.
+/// Whether a desk is closed with its second pass first, and another without its second pass.
 fn both_orders<R: Wait>(rt: &R, alloc: Global, clock: &Ticker) -> Result<bool, PlanFault> {
-    let both = second_comes_first(rt, alloc, open(alloc, CALLED)?, clock)?;
-    let one = unused_is_kept(rt, alloc, open(alloc, CALLED)?, clock)?;
+    let both = takes_swapped(rt, alloc, clock)?;
+    let one = takes_first(rt, alloc, clock)?;
     Ok(both && one)
+}
+
+/// Whether a desk is closed with its second pass first.
+fn takes_swapped<R: Wait>(rt: &R, alloc: Global, clock: &Ticker) -> Result<bool, PlanFault> {
+    let desk = open(alloc, CALLED)?;
+    second_comes_first(rt, alloc, desk, clock)
+}
+
+/// Whether a desk is closed without its second pass.
+fn takes_first<R: Wait>(rt: &R, alloc: Global, clock: &Ticker) -> Result<bool, PlanFault> {
+    let desk = open(alloc, CALLED)?;
+    unused_is_kept(rt, alloc, desk, clock)
 }
 
 /// Whether the run is finished where the second pass is handed back first.

@@ -109,7 +109,7 @@ pub enum Ending {
 }
 
 /// How the closing of a desk ended that answered this.
-fn ending(closed: &Option<Result<Closed, CloseFault>>) -> Ending {
+fn ending_by(closed: &Option<Result<Closed, CloseFault>>) -> Ending {
     match closed {
         Some(Ok(closed)) => ending_of(closed),
         _ => Ending::Open,
@@ -130,12 +130,12 @@ fn ending_of(closed: &Closed) -> Ending {
 pub fn close_one(alloc: Global, desk: Desk, pass: Pass) -> Result<Ending, PlanFault> {
     let passes = vec![in alloc; pass]?;
     let closed = close(desk, passes);
-    Ok(ending(&closed))
+    Ok(ending_by(&closed))
 }
 
 /// Closes a desk to which two passes are handed back, in this order.
 pub fn close_two(alloc: Global, desk: Desk, one: Pass, other: Pass) -> Result<Ending, PlanFault> {
     let passes = vec![in alloc; one, other]?;
     let closed = close(desk, passes);
-    Ok(ending(&closed))
+    Ok(ending_by(&closed))
 }
