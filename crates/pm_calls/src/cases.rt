@@ -1,11 +1,11 @@
 //! The cases: each opens a desk and a clock, and what it shows stands in the functions below it.
 
 use crate::desks::{
-    Ending, are_done, call, call_all, call_at_once, close, close_one, close_two, open, pass_of,
+    Ending, are_done, call, call_all, call_at_once, close_one, close_two, one_pass, open, pass_of,
     two_passes,
 };
 use crate::plans::{C_CALLS, CALLED, E_CALLS, FOUR};
-use pm_desk::{CloseFault, Closed, Desk, Pass, Receipt, Stop};
+use pm_desk::{CloseFault, Desk, Pass, Receipt, Stop};
 use pm_gate::Ticker;
 use pm_planread::PlanFault;
 use std::alloc::{AllocError, Global};
@@ -272,21 +272,23 @@ fn tells_loss(
     first: Pass,
     called: Option<Receipt>,
 ) -> Result<bool, PlanFault> {
-    let passes = vec![in alloc; first]?;
-    let closed = close(desk, passes);
-    Ok(is_loss(&closed, called))
+    let passes = one_pass(alloc, first)?;
+    Ok(is_told(desk, passes, called))
 }
 
-/// Whether a desk isn't closed since the second caller's first call, which is this one, lacks its receipt.
-fn is_loss(closed: &Option<Result<Closed, CloseFault>>, called: Option<Receipt>) -> bool {
-    match closed {
-        Some(Err(fault)) => is_loss_of(fault, called),
-        _ => false,
+/// Whether a desk to which these passes are handed back names this call, the second caller's first.
+fn is_told(desk: Desk, passes: Vec<Pass>, called: Option<Receipt>) -> bool {
+    if !desk.takes_back(&passes) {
+        return false;
+    }
+    match desk.close(passes) {
+        Ok(_) => false,
+        Err(fault) => is_loss(fault, called),
     }
 }
 
 /// Whether the fault is that the second caller's first call, which is this one, lacks its receipt.
-fn is_loss_of(fault: &CloseFault, called: Option<Receipt>) -> bool {
+fn is_loss(fault: CloseFault, called: Option<Receipt>) -> bool {
     match fault {
         CloseFault::Differs {
             book,
@@ -295,8 +297,8 @@ fn is_loss_of(fault: &CloseFault, called: Option<Receipt>) -> bool {
             kept,
             found,
         } => {
-            let is_first = *caller == 1 && *nth == 1 && kept.is_none();
-            is_first && is_call(*found, called) && book.lines().len() == 29
+            let is_first = caller == 1 && nth == 1 && kept.is_none();
+            is_first && is_call(found, called) && book.lines().len() == 29
         }
         _ => false,
     }

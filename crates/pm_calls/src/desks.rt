@@ -5,7 +5,7 @@ use pm_desk::{CloseFault, Closed, Desk, Pass, Receipt, Stop};
 use pm_gate::{Clock, Quiet};
 use pm_planread::{PlanFault, read_plan};
 use pm_script::read_command;
-use std::alloc::Global;
+use std::alloc::{AllocError, Global};
 use std::sync::Wait;
 use std::thread;
 use std::thread::Threads;
@@ -88,15 +88,6 @@ pub fn are_done(receipts: &[Receipt], count: usize) -> bool {
     receipts.len() == count
 }
 
-/// Closes a desk to which these passes are handed back; `None` where they can't be.
-pub fn close(desk: Desk, passes: Vec<Pass>) -> Option<Result<Closed, CloseFault>> {
-    if desk.takes_back(&passes) {
-        Some(desk.close(passes))
-    } else {
-        None
-    }
-}
-
 /// How the closing of a desk ended.
 #[derive(Clone, Copy, Debug, PartialEq, Eq)]
 pub enum Ending {
@@ -108,16 +99,19 @@ pub enum Ending {
     Open,
 }
 
-/// How the closing of a desk ended that answered this.
-fn ending_by(closed: &Option<Result<Closed, CloseFault>>) -> Ending {
-    match closed {
-        Some(Ok(closed)) => ending_of(closed),
-        _ => Ending::Open,
+/// Closes a desk to which these passes are handed back.
+pub fn close(desk: Desk, passes: Vec<Pass>) -> Ending {
+    if !desk.takes_back(&passes) {
+        return Ending::Open;
+    }
+    match desk.close(passes) {
+        Ok(closed) => ending_of(closed),
+        Err(fault) => ending_by(fault),
     }
 }
 
 /// How the closing of a desk ended that was closed.
-fn ending_of(closed: &Closed) -> Ending {
+fn ending_of(closed: Closed) -> Ending {
     let lines = closed.book.lines().len();
     if closed.full {
         Ending::Full(lines)
@@ -126,16 +120,39 @@ fn ending_of(closed: &Closed) -> Ending {
     }
 }
 
+/// How the closing of a desk ended that wasn't.
+fn ending_by(_fault: CloseFault) -> Ending {
+    Ending::Open
+}
+
+/// A list of one pass.
+pub fn one_pass(alloc: Global, pass: Pass) -> Result<Vec<Pass>, AllocError> {
+    let mut passes = Vec::new(alloc);
+    passes.push(pass)?;
+    Ok(passes)
+}
+
+/// The list with one pass more.
+fn with_pass(passes: Vec<Pass>, pass: Pass) -> Result<Vec<Pass>, AllocError> {
+    let mut passes = passes;
+    passes.push(pass)?;
+    Ok(passes)
+}
+
+/// A list of two passes, in this order.
+fn both_passes(alloc: Global, one: Pass, other: Pass) -> Result<Vec<Pass>, AllocError> {
+    let passes = one_pass(alloc, one)?;
+    with_pass(passes, other)
+}
+
 /// Closes a desk to which this pass alone is handed back.
 pub fn close_one(alloc: Global, desk: Desk, pass: Pass) -> Result<Ending, PlanFault> {
-    let passes = vec![in alloc; pass]?;
-    let closed = close(desk, passes);
-    Ok(ending_by(&closed))
+    let passes = one_pass(alloc, pass)?;
+    Ok(close(desk, passes))
 }
 
 /// Closes a desk to which two passes are handed back, in this order.
 pub fn close_two(alloc: Global, desk: Desk, one: Pass, other: Pass) -> Result<Ending, PlanFault> {
-    let passes = vec![in alloc; one, other]?;
-    let closed = close(desk, passes);
-    Ok(ending_by(&closed))
+    let passes = both_passes(alloc, one, other)?;
+    Ok(close(desk, passes))
 }
