@@ -6,12 +6,11 @@ ghost use Rattle.pm_model.specs.NoWhy.{is_within_line};
 ghost use Rattle.pm_model.specs.Spelling.{newline};
 ghost use Rattle.pm_model.specs.Verdict.{IsVerdict};
 
+use crate::reader::Reader;
 use crate::reading::{Format, NoWhy, end_line};
 use crate::rest::Rest;
 use bstr::ByteSlice;
 use pm_base::NoMemory;
-use pm_judge::Judge;
-use pm_lineread::Finders;
 use pm_model::Plan;
 use std::alloc::Global;
 
@@ -51,8 +50,7 @@ fn verdict_of_bad(bad: BadLine) -> Verdict
 /// stands: all those that it was fed.
 #[derive(Drop)]
 pub struct Auditor {
-    judge: Judge,
-    finders: Finders,
+    judge: Reader,
     format: Format,
     rest: Rest,
     bad: Option<BadLine>,
@@ -70,14 +68,9 @@ impl Auditor {
             Ok(rest) => rest,
             Err(error) => return Err((plan, error)),
         };
-        let finders = match Finders::new(alloc, &plan) {
-            Ok(finders) => finders,
-            Err(error) => return Err((plan, error)),
-        };
-        match Judge::start(alloc, plan) {
+        match Reader::start(alloc, plan) {
             Ok(judge) => Ok(Auditor {
                 judge,
-                finders,
                 format: Format::Untold,
                 rest,
                 bad: None,
@@ -98,7 +91,6 @@ impl Auditor {
         let line = u64::from(self.judge.lines()) + 1;
         if let Some(why) = end_line(
             &mut self.judge,
-            &self.finders,
             &mut self.format,
             &mut self.rest,
             piece,

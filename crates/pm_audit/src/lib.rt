@@ -5,6 +5,7 @@
 
 mod auditor;
 mod loading;
+mod reader;
 mod reading;
 mod rest;
 #[cfg(test)]

@@ -1,15 +1,13 @@
 //! Reads whole lines of a trace.
 
 ghost use Rattle.std.specs.Prelude.{◌≡◌, ◌++◌, ◌<◌, ◌^◌, List, ℕ, IfNone, IfSome, Some, [], true};
-ghost use Rattle.pm_audit.specs.Auditing.{IsGood, IsRead, IsRest, IsTaken};
-ghost use Rattle.pm_judge.specs.Judging.{JudgeStandsFor};
+ghost use Rattle.pm_audit.specs.Auditing.{IsGood, IsRest, IsTaken};
 ghost use Rattle.pm_model.specs.declared.event.Line.{Line as ALine};
-ghost use Rattle.pm_model.specs.Lawful.{IsLawful};
 ghost use Rattle.pm_model.specs.NoWhy.{is_within_line};
 ghost use Rattle.pm_model.specs.Text.{IsTextBehind};
 
+use crate::reader::Reader;
 use crate::rest::Rest;
-use pm_judge::{Bad, Judge};
 use pm_lineread::{Finders, read_line_by, read_line2_by};
 use pm_model::{Line, Plan};
 
@@ -58,24 +56,8 @@ pub(crate) fn line_of(
     read_line_by(plan, Some(by), text).ok()
 }
 
-// Takes the line whose text this is, or says why it is bad.
-fn read(judge: &mut Judge, by: &Finders, is_format2: bool, text: &[u8]) -> Option<NoWhy>
-    ensures read { (h : List ALine) → IsLawful judge.old.plan h → JudgeStandsFor judge.old h → IsRead is_format2 judge.old.plan h text.now judge.new result }
-    ensures plan { judge.new.plan ≡ judge.old.plan }
-{
-    let Some(line) = line_of(judge.plan(), by, judge.last_time(), is_format2, text) else {
-        return Some(NoWhy::Text);
-    };
-    match judge.judge(&line) {
-        Ok(()) => None,
-        Err(Bad::Limit) => Some(NoWhy::Limit),
-        Err(Bad::Step) => Some(NoWhy::Step),
-        Err(Bad::Time) => Some(NoWhy::Time),
-    }
-}
-
 // Takes one more whole line, without its newline, or says why it is bad.
-fn take(judge: &mut Judge, by: &Finders, format: &mut Format, text: &[u8]) -> Option<NoWhy>
+fn take(judge: &mut Reader, format: &mut Format, text: &[u8]) -> Option<NoWhy>
     ensures taken { (whole : List ℕ) (h : List ALine) → is_within_line text.now ≡ true → IsGood judge.old.plan judge.old format.old whole h → IsTaken judge.old.plan whole h text.now format.new judge.new result }
     ensures plan { judge.new.plan ≡ judge.old.plan }
 {
@@ -86,21 +68,21 @@ fn take(judge: &mut Judge, by: &Finders, format: &mut Format, text: &[u8]) -> Op
                 return None;
             }
             *format = Format::One;
-            read(judge, by, false, text)
+            judge.read(false, text)
         }
-        Format::One => read(judge, by, false, text),
-        Format::Two => read(judge, by, true, text),
+        Format::One => judge.read(false, text),
+        Format::Two => judge.read(true, text),
     }
 }
 
 // Takes a whole line that is the rest, or says why it is bad.
-fn take_rest(judge: &mut Judge, by: &Finders, format: &mut Format, rest: &Rest) -> Option<NoWhy>
+fn take_rest(judge: &mut Reader, format: &mut Format, rest: &Rest) -> Option<NoWhy>
     ensures taken { (whole line : List ℕ) (h : List ALine) → IsRest rest.now line → is_within_line line ≡ true → IsGood judge.old.plan judge.old format.old whole h
         → IsTaken judge.old.plan whole h line format.new judge.new result }
     ensures plan { judge.new.plan ≡ judge.old.plan }
 {
     match rest.bytes() {
-        Some(text) => take(judge, by, format, text),
+        Some(text) => take(judge, format, text),
         None => Some(NoWhy::Text),
     }
 }
@@ -108,8 +90,7 @@ fn take_rest(judge: &mut Judge, by: &Finders, format: &mut Format, rest: &Rest) 
 /// Takes the whole line that the rest begins and this piece ends, or says why it is bad. Nothing is left of
 /// the rest.
 pub(crate) fn end_line(
-    judge: &mut Judge,
-    by: &Finders,
+    judge: &mut Reader,
     format: &mut Format,
     rest: &mut Rest,
     piece: &[u8],
@@ -121,10 +102,10 @@ pub(crate) fn end_line(
     ensures plan { judge.new.plan ≡ judge.old.plan }
 {
     if rest.is_empty() {
-        return take(judge, by, format, piece);
+        return take(judge, format, piece);
     }
     rest.push(piece);
-    let bad = take_rest(judge, by, format, rest);
+    let bad = take_rest(judge, format, rest);
     rest.clear();
     bad
 }

@@ -21,6 +21,10 @@ use Rattle.pm_judge.proofs.Moves.{may_come, permits, stays_of, world_after}
 abbrev pub judged : Plan → World → ℕ → ℕ → Judged
 judged plan w last lines = record { plan = plan; world = w; last = last; lines = lines }
 
+-- what a line may come next by, told of a judge that is the same
+pub may_write : (new old : Judged) (line : Line) (c : Change) (next : Then) → new ≡ old → Writes new.plan new.world new.last line c next → Writes old.plan old.world old.last line c next
+may_write new old line c next same may = subst (λ (j : Judged). Writes j.plan j.world j.last line c next) same may
+
 -- the stage at which an actor stands may go on
 pub stands_at : (plan : Plan) (w : World) (actor : ActorId) (s : Stage) → StandsWell plan w actor → Some s ≡ stage_at plan w actor → can_go_on plan w.views s ≡ true
 stands_at plan w actor s well is = subst (λ o. option_map_or (can_go_on plan w.views) o true ≡ true) (sym is) well

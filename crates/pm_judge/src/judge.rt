@@ -1,17 +1,22 @@
 //! The judge.
 
-ghost use Rattle.std.specs.Prelude.{◌≡◌, ◌<◌, ◌^◌, ◌∷◌, [], List, IfErr, IfOk, OnErr, OnOk};
+ghost use Rattle.std.specs.Prelude.{◌≡◌, ◌<◌, ◌^◌, ◌∷◌, [], List, Ok, IfErr, IfNone, IfOk, IfSome, OnErr, OnOk, true};
 ghost use Rattle.pm_judge.specs.Judging.{IsAnswer, JudgeStandsFor, Judged};
+ghost use Rattle.pm_judge.specs.Sometime.{MayCome, Writes};
+ghost use Rattle.pm_model.specs.declared.event.Event.{Event};
 ghost use Rattle.pm_model.specs.declared.event.Line.{Line};
 ghost use Rattle.pm_model.specs.Lawful.{IsLawful, is_finished};
+ghost use Rattle.pm_model.specs.LineOf.{is_line_of};
 ghost use Rattle.pm_model.specs.World.{world};
 ghost use Rattle.pm_state.specs.Standing.{IsActor};
 
 use crate::deciding::decide;
 use crate::laws::{all_stand_well, each_line_fits, each_line_is_taken};
-use pm_base::NoMemory;
+use crate::standing::row_at;
+use pm_base::{ActorId, NoMemory};
+use pm_bounds::lines_are_of_plan;
 use pm_laws::sizes;
-use pm_model::{Line, Plan};
+use pm_model::{Change, Line, Plan, Then};
 use pm_state::State;
 use std::alloc::Global;
 use std::marker::Model;
@@ -25,6 +30,17 @@ pub enum Bad {
     Step,
     /// It may at another time.
     Time,
+}
+
+/// A line that may come next.
+#[derive(Clone, Copy)]
+pub struct Offer {
+    /// The line.
+    pub line: Line,
+    /// What its row changes beside the line's event.
+    pub change: Change,
+    /// What takes the place of the stage at which its actor stands.
+    pub next: Then,
 }
 
 /// The counters, places, last time and number of lines after some lawful list of lines of a plan, without
@@ -103,13 +119,52 @@ impl Judge {
             return Err(Bad::Limit);
         }
         all_stand_well();
+        let coming = decide(&self.plan, &self.state, self.last, line)?;
+        self.accept(line, coming.change, &coming.next);
+        Ok(())
+    }
+
+    /// The line that an actor of the plan may write next at a time below 2^63 milliseconds of the run: there
+    /// is one at most. `None` comes exactly where it may write none then, or there are as many lines as the
+    /// plan allows. It takes no memory.
+    pub fn offer(&self, actor: ActorId, time: u64) -> Option<Offer>
+        requires in_range { IsActor self.now.plan actor }
+        requires in_time { time < 2 ^ 63 }
+        ensures actor { IfSome result (λ offer. offer.line.actor ≡ actor) }
+        ensures time { IfSome result (λ offer. offer.line.time ≡ time) }
+        ensures of_plan { IfSome result (λ offer. is_line_of self.now.plan offer.line ≡ true) }
+        ensures room { IfSome result (λ _. self.now.lines < self.now.plan.lines) }
+        ensures writes { IfSome result (λ offer. Writes self.now.plan self.now.world self.now.last offer.line offer.change offer.next) }
+        ensures none { IfNone result (self.now.lines < self.now.plan.lines → (event : Event) → ¬ MayCome self.now.plan self.now.world self.now.last (record { time = time; actor = actor; event = event })) }
+    {
+        if self.plan.lines <= self.lines {
+            return None;
+        }
+        all_stand_well();
+        lines_are_of_plan();
+        let stage = self.state.stage_at(&self.plan, actor)?;
+        let (event, change, next) = row_at(&self.plan, &self.state, stage, self.last, time)?;
+        let line = Line { time, actor, event };
+        Some(Offer { line, change, next })
+    }
+
+    /// Takes a line by an actor of the plan, at a time below 2^63 milliseconds of the run, that may come next:
+    /// its row changes this beside the line's event, and this takes the place of its actor's stage. It takes no
+    /// memory.
+    pub fn accept(&mut self, line: &Line, change: Change, next: &Then)
+        requires in_range { IsActor self.old.plan line.now.actor }
+        requires in_time { line.now.time < 2 ^ 63 }
+        requires room { self.old.lines < self.old.plan.lines }
+        requires writes { Writes self.old.plan self.old.world self.old.last line.now change next.now }
+        ensures answer { (h : List Line) → IsLawful self.old.plan h → JudgeStandsFor self.old h → IsAnswer self.old.plan h line.now (Ok tt) }
+        ensures taken { (h : List Line) → IsLawful self.old.plan h → JudgeStandsFor self.old h → JudgeStandsFor self.new (line.now ∷ h) }
+        ensures plan { self.new.plan ≡ self.old.plan }
+    {
         each_line_is_taken();
         each_line_fits();
-        let coming = decide(&self.plan, &self.state, self.last, line)?;
-        self.state.go(&self.plan, coming.change, line, &coming.next);
+        self.state.go(&self.plan, change, line, next);
         self.last = line.time;
         self.lines += 1;
-        Ok(())
     }
 
     /// Whether the run is finished: each script has ended, each place is empty, no device is queued and no

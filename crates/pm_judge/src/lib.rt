@@ -10,5 +10,5 @@ mod standing;
 mod tests;
 
 pub use deciding::{Permitted, decide};
-pub use judge::{Bad, Judge};
+pub use judge::{Bad, Judge, Offer};
 pub use laws::{all_stand_well, each_line_fits, each_line_is_taken};

@@ -1,13 +1,17 @@
 //! What is asked of the state of a run.
 
-ghost use Rattle.std.specs.Prelude.{◌≡◌, ◌<◌, ◌≤◌, ◌^◌, Some, IfNone, IfSome, IsTrue, ◌↔◌, true};
+ghost use Rattle.std.specs.Prelude.{◌≡◌, ◌≢◌, ◌<◌, ◌≤◌, ◌^◌, Some, IfNone, IfSome, IsTrue, ◌↔◌, true};
 ghost use Rattle.pm_judge.specs.Sometime.{MayCome, Writes};
-ghost use Rattle.pm_model.specs.World.{due, stage_at};
+ghost use Rattle.pm_model.specs.declared.event.Event.{Event as AnEvent};
+ghost use Rattle.pm_model.specs.declared.stage.Change.{Change as AChange};
+ghost use Rattle.pm_model.specs.declared.stage.Move.TheVariants.{Write};
+ghost use Rattle.pm_model.specs.declared.stage.Then.{Then as AThen};
+ghost use Rattle.pm_model.specs.World.{due, move, stage_at};
 ghost use Rattle.pm_state.specs.Standing.{IsOf, can_go_on};
 ghost use Rattle.pm_times.specs.Times.{event_at};
 
 use crate::deciding::Permitted;
-use pm_model::{Event, Line, Move, Plan, Stage};
+use pm_model::{Change, Event, Line, Move, Plan, Stage, Then};
 use pm_state::State;
 
 // Whether two events are equal.
@@ -31,6 +35,31 @@ pub(crate) fn event_of(plan: &Plan, state: &State, stage: Stage, time: u64) -> O
     }
 }
 
+// What the row at a stage writes at this moment, what it changes beside that and what takes the stage's place,
+// where the last line was written at this; `None` where it waits or comes later.
+pub(crate) fn row_at(
+    plan: &Plan,
+    state: &State,
+    stage: Stage,
+    last: u64,
+    time: u64,
+) -> Option<(Event, Change, Then)>
+    requires is_of { IsOf plan.now state.now }
+    requires stands { can_go_on plan.now state.now.world.views stage ≡ true }
+    requires in_time { time < 2 ^ 63 }
+    ensures gives { IfSome result (λ row. move plan.now state.now.world.views stage time ≡ Some (Write row.0 row.1 row.2)) }
+    ensures in_order { IfSome result (λ _. last ≤ time) }
+    ensures none { IfNone result ((event : AnEvent) (change : AChange) (next : AThen) → last ≤ time → move plan.now state.now.world.views stage time ≢ Some (Write event change next)) }
+{
+    if time < last {
+        return None;
+    }
+    match state.next(plan, &stage, time) {
+        Move::Write(event, change, next) => Some((event, change, next)),
+        Move::Late(_) | Move::Wait(_) => None,
+    }
+}
+
 // A line that may come next at its time, where the last one was written at this.
 pub(crate) fn written(
     plan: &Plan,
@@ -47,21 +76,14 @@ pub(crate) fn written(
     ensures some { IfSome result (λ coming. Writes plan.now state.now.world last line.now coming.change coming.next) }
     ensures none { IfNone result (¬ MayCome plan.now state.now.world last line.now) }
 {
-    if line.time < last {
-        return None;
-    }
-    match state.next(plan, &stage, line.time) {
-        Move::Write(event, change, next) => {
-            if same(event, line.event) {
-                Some(Permitted {
-                    stage,
-                    change,
-                    next,
-                })
-            } else {
-                None
-            }
-        }
-        Move::Late(_) | Move::Wait(_) => None,
+    let (event, change, next) = row_at(plan, state, stage, last, line.time)?;
+    if same(event, line.event) {
+        Some(Permitted {
+            stage,
+            change,
+            next,
+        })
+    } else {
+        None
     }
 }

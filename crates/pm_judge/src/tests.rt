@@ -1,6 +1,6 @@
 //! A judge of a plan with one delay.
 
-ghost use Rattle.std.specs.Prelude.{◌≡◌, IfOk, length};
+ghost use Rattle.std.specs.Prelude.{◌≡◌, ◌<◌, ◌^◌, IfOk, length};
 
 use super::*;
 use pm_base::{ActorId, DevId, NoMemory};
@@ -66,19 +66,68 @@ fn ret(time: u64) -> Line
     }
 }
 
+// Takes the line that the caller may write at this time, if there is one, and tells its event.
+fn take_offered(judge: &mut Judge, time: u64) -> Option<Event>
+    requires callers { length judge.old.plan.callers ≡ 1 }
+    requires in_time { time < 2 ^ 63 }
+    ensures plan { judge.new.plan ≡ judge.old.plan }
+{
+    let offer = judge.offer(ActorId::Caller(0), time)?;
+    judge.accept(&offer.line, offer.change, &offer.next);
+    Some(offer.line.event)
+}
+
+// The judge of that plan.
+fn judge(alloc: Global) -> Result<Judge, NoMemory>
+    ensures { IfOk result (λ judge. length judge.plan.callers ≡ 1) }
+{
+    match Judge::start(alloc, plan(alloc)?) {
+        Ok(judge) => Ok(judge),
+        Err((_plan, error)) => Err(error),
+    }
+}
+
 #[test]
 fn a_judge_takes_a_delay(rt: HostRuntime) -> Result<(), Fail> {
-    let Ok(mut judge) = Judge::start(rt.alloc(), plan(rt.alloc())?) else {
-        return Err("no memory".into());
-    };
-    assert_eq!(rt; judge.judge(&call(6)), Err(Bad::Step));
-    assert_eq!(rt; judge.judge(&call(5)), Ok(()));
-    assert_eq!(rt; judge.judge(&ret(11)), Err(Bad::Time));
-    assert_eq!(rt; judge.finished(), false);
-    assert_eq!(rt; judge.judge(&ret(12)), Ok(()));
-    assert_eq!(rt; judge.judge(&ret(12)), Err(Bad::Limit));
-    assert_eq!(rt; judge.finished(), true);
-    assert_eq!(rt; judge.last_time(), 12);
-    assert_eq!(rt; judge.lines(), judge.plan().lines);
+    let mut judge = judge(rt.alloc())?;
+    let answers = [
+        judge.judge(&call(6)),
+        judge.judge(&call(5)),
+        judge.judge(&ret(11)),
+        judge.judge(&ret(12)),
+        judge.judge(&ret(12)),
+    ];
+    assert_eq!(rt;
+        answers,
+        [
+            Err(Bad::Step),
+            Ok(()),
+            Err(Bad::Time),
+            Ok(()),
+            Err(Bad::Limit)
+        ]
+    );
+    assert_eq!(rt;
+        (judge.last_time(), judge.lines(), judge.finished()),
+        (12, 2, true)
+    );
+    Ok(())
+}
+
+#[test]
+fn what_is_offered_is_taken(rt: HostRuntime) -> Result<(), Fail> {
+    let mut judge = judge(rt.alloc())?;
+    let open = judge.finished();
+    let events = [
+        take_offered(&mut judge, 7),
+        take_offered(&mut judge, 11),
+        take_offered(&mut judge, 12),
+        take_offered(&mut judge, 13),
+    ];
+    assert_eq!(rt;
+        events,
+        [Some(call(5).event), None, Some(ret(12).event), None]
+    );
+    assert_eq!(rt; (open, judge.finished()), (false, true));
     Ok(())
 }

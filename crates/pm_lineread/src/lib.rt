@@ -19,10 +19,12 @@ mod finders;
 mod kinds;
 mod lines;
 mod pieces;
+mod starts;
 #[cfg(test)]
 mod tests;
 
 use crate::lines::line;
+pub use crate::starts::line_start;
 pub use finders::Finders;
 use pm_model::{Line, Plan};
 

@@ -82,7 +82,7 @@ pub(crate) fn word<T: Drop>(word: &[u8], value: T, bytes: &[u8]) -> Result<T, Le
 }
 
 /// How many bytes stand before the first stop.
-fn word_len(stop: u8, bytes: &[u8]) -> usize
+pub(crate) fn word_len(stop: u8, bytes: &[u8]) -> usize
     ensures len { result ≡ position_or_len (λ b. nat_eq b stop) bytes.now }
     ensures within { result ≤ length bytes.now }
 {

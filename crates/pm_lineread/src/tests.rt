@@ -4,7 +4,7 @@ ghost use Rattle.std.specs.Prelude.{◌≡◌, [], None, IfOk, false, true, ◌^
 ghost use Rattle.pm_model.specs.IsPlan.{is_plan};
 
 use super::*;
-use pm_base::NoMemory;
+use pm_base::{ActorId, NoMemory};
 use pm_linetext::write_line;
 use pm_model::{CallerRow, DeviceRow, Items, NamedList};
 use std::alloc::Global;
@@ -382,6 +382,88 @@ static ACTORLESS: [(u64, &[u8], Option<usize>); 4] = [
 fn actorless_of_texts(rt: HostRuntime) -> Result<(), Fail> {
     let plan = no_actor(rt.alloc())?;
     faults(&rt, &plan, &ACTORLESS)
+}
+
+// The front of each of these, behind a line of that time, says this time and actor, or nothing.
+fn starts(
+    rt: &(impl Abort + AllocGlobal),
+    plan: &Plan,
+    cases: &[(u64, &[u8], Option<(u64, ActorId)>)],
+) -> Result<(), Fail> {
+    let finders = Finders::new(rt.alloc(), plan)?;
+    for (base, bytes, start) in cases {
+        if *base >= 1 << 63 {
+            return Err("a time that no line has".into());
+        }
+        let found = line_start(plan, &finders, *base, *bytes);
+        assert_eq!(rt; found, *start, "{base} {bytes:?}");
+    }
+    Ok(())
+}
+
+// Each kind of actor in format 1 and behind a line, and bytes that begin otherwise.
+static STARTS: [(u64, &[u8], Option<(u64, ActorId)>); 19] = [
+    (0, b"0 c pm_call: enable a", Some((0, ActorId::Caller(0)))),
+    (
+        0,
+        b"17 abcdefghijklmnopqrstuvwxyz-_ABCD pm_call: delay 5",
+        Some((17, ActorId::Caller(2))),
+    ),
+    (
+        0,
+        b"17 work.a pm_work: a run none",
+        Some((17, ActorId::Work(0))),
+    ),
+    (
+        0,
+        b"9223372036854775807 timer.0000:00:14.0_abcdefghijklmnopqrs pm_timer: a fire plain",
+        Some((9223372036854775807, ActorId::Timer(1))),
+    ),
+    (5, b"0 e pm_wait: a", Some((5, ActorId::Caller(1)))),
+    (
+        5,
+        b"12 work.0000:00:14.0_abcdefghijklmnopqrs pm_wait: a",
+        Some((17, ActorId::Work(1))),
+    ),
+    (
+        5,
+        b"9223372036854775802 timer.a pm_timer: a fire auto",
+        Some((9223372036854775807, ActorId::Timer(0))),
+    ),
+    (0, b"3 c", Some((3, ActorId::Caller(0)))),
+    (5, b"9223372036854775803 c pm_wait: a", None),
+    (0, b"", None),
+    (0, b"0", None),
+    (0, b" c pm_wait: a", None),
+    (0, b"00 c pm_wait: a", None),
+    (0, b"0  c pm_wait: a", None),
+    (0, b"0 a pm_wait: a", None),
+    (0, b"0 work.c pm_wait: a", None),
+    (0, b"0 timer. pm_wait: a", None),
+    (0, b"0 work pm_wait: a", None),
+    (0, b"0 c\0 pm_wait: a", None),
+];
+
+#[test]
+fn starts_of_texts(rt: HostRuntime) -> Result<(), Fail> {
+    let plan = few(rt.alloc())?;
+    starts(&rt, &plan, &STARTS)
+}
+
+// Actors whose names begin as other actors do.
+static WHOLE_STARTS: [(u64, &[u8], Option<(u64, ActorId)>); 6] = [
+    (0, b"0 work pm_wait: 1-1", Some((0, ActorId::Caller(0)))),
+    (0, b"0 w pm_wait: 1-1", Some((0, ActorId::Caller(1)))),
+    (0, b"0 timer-1 pm_wait: 1-1", Some((0, ActorId::Caller(2)))),
+    (0, b"0 work.1-1.1 pm_wait: 1-1", Some((0, ActorId::Work(1)))),
+    (0, b"0 timer.1-1 pm_wait: 1-1", Some((0, ActorId::Timer(0)))),
+    (0, b"0 timer-1.1 pm_wait: 1-1", None),
+];
+
+#[test]
+fn whole_starts_of_texts(rt: HostRuntime) -> Result<(), Fail> {
+    let plan = alike(rt.alloc())?;
+    starts(&rt, &plan, &WHOLE_STARTS)
 }
 
 // Of each line of a run its text, whether it still is a text without its last byte, and whether with its

@@ -20,7 +20,7 @@ use Rattle.pm_base.specs.declared.DevId.{DevId}
 use Rattle.pm_base.specs.declared.Why.{Why}
 use Rattle.pm_base.specs.declared.Why.TheVariants as why
 use Rattle.pm_model.specs.LineOf.{are_fields, fits_i32, fits_signed, fits_u32, is_actor_of, is_device_of, is_event_of, is_line, is_line_of, is_number_of, is_timer_line}
-use Rattle.pm_model.specs.Spelling.{Names, actor_text, bit, caller_name, cb_word, device_name, device_part, event_text, helper_word, kind_word, line_text, operand_of, operand_part, padded, payload, req_word, space, status_word, takes_device, timer_text, why_text, work_text}
+use Rattle.pm_model.specs.Spelling.{Names, actor_text, bit, cb_word, device_name, device_part, event_text, helper_word, kind_word, line_text, operand_of, operand_part, padded, payload, req_word, space, status_word, takes_device, timer_text, why_text, work_text}
 use Rattle.pm_model.specs.declared.event.Command.{Command}
 use Rattle.pm_model.specs.declared.event.Event.{Event}
 use Rattle.pm_model.specs.declared.event.Event.TheVariants as event
@@ -42,12 +42,8 @@ use Rattle.pm_model.specs.declared.rows.CallerRow.{CallerRow}
 use Rattle.pm_model.specs.declared.rows.DeviceRow.{DeviceRow}
 use Rattle.pm_model.specs.declared.rows.DomainRow.{DomainRow}
 use Rattle.pm_model.specs.declared.rows.LinkRow.{LinkRow}
+use Rattle.pm_linetext.specs.NamesFit.{NamesFit}
 use Rattle.pm_linetext.specs.ShortLine.{are_short_fields, is_short_event, is_short_line}
-
--- a name of a plan has at most 32 bytes
-pub record NamesFit (names : Names) : Type 0 where
-  pub devices : (d : ℕ) → length (device_name names d) ≤ 32
-  pub callers : (c : ℕ) → length (caller_name names c) ≤ 32
 
 name_fits : (is_byte : ℕ → Bool) (name : List ℕ) → is_name_of is_byte name ≡ true → length name ≤ 32
 name_fits is_byte name h = grind (arith, common_steps, nat_tests)
@@ -274,12 +270,16 @@ line_parts devices callers line h =
     let parts = and_parts (nat_lt line.time (2 ^ 63) && is_actor_of devices callers line.actor) (is_event_of devices line.event) h in
     (ltb-true line.time (2 ^ 63) (and_parts (nat_lt line.time (2 ^ 63)) (is_actor_of devices callers line.actor) parts.0).0, parts.1)
 
+-- the text of a line over names that fit, with an earlier time in its place
+pub named_text_len : (names : Names) → NamesFit names → (devices callers : ℕ) (line : Line) (time : ℕ) → is_line devices callers line ≡ true → time ≤ line.time → length (line_text names (record line { time = time })) ≤ TEXT_BYTES
+named_text_len names fit devices callers line time h earlier =
+    let parts = line_parts devices callers line h in
+    let event = event_len names fit devices line.event parts.1 in
+    line_len names fit (record line { time = time }) 118 (omega (arith, parts.0)) (either_len (is_short_event line.event) _ 103 118 (omega arith) event)
+
 -- the text of a line of a plan, and of the same line with an earlier time in its place
 pub text_len : (plan : Plan) (line : Line) (time : ℕ) → is_line_of plan line ≡ true → time ≤ line.time → length (line_text (names_of plan) (record line { time = time })) ≤ TEXT_BYTES
-text_len plan line time h earlier =
-    let parts = line_parts (length plan.devices) (length plan.callers) line h in
-    let event = event_len (names_of plan) (names_fit plan) (length plan.devices) line.event parts.1 in
-    line_len (names_of plan) (names_fit plan) (record line { time = time }) 118 (omega (arith, parts.0)) (either_len (is_short_event line.event) _ 103 118 (omega arith) event)
+text_len plan line time h earlier = named_text_len (names_of plan) (names_fit plan) (length plan.devices) (length plan.callers) line time h earlier
 
 pub short_text_len : (plan : Plan) (line : Line) (time : ℕ) → is_line_of plan line ≡ true → is_short_line line ≡ true → time ≤ line.time → length (line_text (names_of plan) (record line { time = time })) ≤ LINE_BYTES
 short_text_len plan line time h short earlier =

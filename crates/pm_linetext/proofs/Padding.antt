@@ -1,9 +1,13 @@
 -- Names of a plan, of which none is longer than what it is padded to.
-use Rattle.std.proofs.Common.{◌≡◌, ℕ, ◌≤◌, zero, suc, List, [], ◌∷◌, ◌++◌, map, min, length, take, slice_index_or, refl, arith}
+use Rattle.std.proofs.Common.{◌≡◌, ℕ, ◌≤◌, zero, suc, List, [], ◌∷◌, ◌++◌, true, map, min, length, take, slice_index_or, refl, sym, subst, arith}
 use Rattle.std.proofs.lemmas.Grind.{common_steps}
-use Rattle.std.proofs.lemmas.List.{length-take, take_all, take-append-le}
+use Rattle.std.proofs.lemmas.List.{length-map, length-take, take_all, take-append-le}
+use Rattle.pm_model.specs.LineOf.{is_line, is_line_of}
+use Rattle.pm_model.specs.declared.event.Line.{Line}
 use Rattle.pm_model.specs.declared.plan.Plan.{Plan}
+use Rattle.pm_model.specs.Spelling.{Names}
 use Rattle.pm_model.specs.Text.{names_of}
+use Rattle.pm_linetext.specs.NamesFit.{NamesFit}
 use Rattle.pm_linetext.proofs.Lengths.{names_fit}
 
 -- as much of a name as is kept is what stands before the padding
@@ -24,3 +28,18 @@ devices_whole plan = kept_whole (λ row. row.name) plan.devices (names_fit plan)
 
 pub callers_whole : (plan : Plan) → map (λ row. take 32 row.name) plan.callers ≡ (names_of plan).callers
 callers_whole plan = kept_whole (λ row. row.name) plan.callers (names_fit plan).callers
+
+-- a line of a plan is one over its names
+pub line_of_names : (plan : Plan) (names : Names) (line : Line) → names ≡ names_of plan → is_line_of plan line ≡ true → is_line (length names.devices) (length names.callers) line ≡ true
+line_of_names plan names line e h =
+    rw (e, length-map plan.devices (λ row. row.name), length-map plan.callers (λ row. row.name)) h
+
+abbrev names_of_both : List (List ℕ) → List (List ℕ) → Names
+names_of_both devices callers = record { devices = devices; callers = callers }
+
+-- the names that are at hand of a plan are its names, and they fit
+pub names_at_hand : (plan : Plan) (devices callers : List (List ℕ)) → devices ≡ (names_of plan).devices → callers ≡ (names_of plan).callers → names_of_both devices callers ≡ names_of plan
+names_at_hand plan devices callers d c = rw (d, c) refl
+
+pub at_hand_fit : (plan : Plan) (devices callers : List (List ℕ)) → devices ≡ (names_of plan).devices → callers ≡ (names_of plan).callers → NamesFit (names_of_both devices callers)
+at_hand_fit plan devices callers d c = subst NamesFit (sym (names_at_hand plan devices callers d c)) (names_fit plan)

@@ -1,4 +1,4 @@
-pub mod AtHand
+pub mod NamesFit
 pub mod Payload
 pub mod Room
 pub mod ShortLine

@@ -1,8 +1,8 @@
 //! The text of a line, in both formats of a trace.
 //!
 //! A line of a plan has one text in each format. `LineSpeller` puts it with a newline into a `LineText`,
-//! with no memory and without failure. `write_line` and `write_line2` append it to a `Vec`, without a
-//! newline, and take no memory but for that.
+//! with no memory and without failure, and `NamesAtHand` without one, and without the plan. `write_line`
+//! and `write_line2` append it to a `Vec`, without a newline, and take no memory but for that.
 #![tactic(auto)]
 
 ghost use Rattle.std.specs.Prelude.{◌≡◌, ℕ, ◌+◌, ◌<◌, ◌≤◌, ◌++◌, true, length, IsOk, OnErr, OnOk, vec_capacity, vec_len};
@@ -14,6 +14,7 @@ ghost use Rattle.pm_model.specs.declared.event.Line.{Line};
 ghost use Rattle.pm_model.specs.declared.plan.Plan.{Plan};
 ghost use Rattle.pm_linetext.specs.ShortLine.{is_short_line};
 
+mod at_hand;
 mod events;
 mod names;
 mod padded;
@@ -24,6 +25,7 @@ mod tests;
 mod text;
 mod words;
 
+pub use crate::at_hand::NamesAtHand;
 use crate::events::push_line;
 pub use crate::speller::LineSpeller;
 pub use crate::text::LineText;

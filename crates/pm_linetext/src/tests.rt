@@ -347,6 +347,26 @@ fn a_speller_spells_in_place(rt: HostRuntime) -> Result<(), Fail> {
 }
 
 #[test]
+fn names_at_hand_spell_in_place(rt: HostRuntime) -> Result<(), Fail> {
+    let plan = plan(rt.alloc())?;
+    let names = NamesAtHand::new(rt.alloc(), &plan)?;
+    let mut text = LineText::new();
+    names.spell(LONGEST.time, &LONGEST, &mut text);
+    assert_eq!(rt; text.as_slice().len(), 177);
+    names.spell(10, &TIMED[4], &mut text);
+    assert_eq!(rt;
+        text.as_slice(),
+        b"10 timer.a pm_timer: a fire auto".as_slice()
+    );
+    names.spell(1, &TIMED[4], &mut text);
+    assert_eq!(rt;
+        text.as_slice(),
+        b"1 timer.a pm_timer: a fire auto".as_slice()
+    );
+    Ok(())
+}
+
+#[test]
 fn words_name_what_stands_at_their_place(rt: HostRuntime) {
     assert_eq!(rt; helper_of(29), Some(Helper::SetAutosuspendDelay));
     assert_eq!(rt; helper_of(34), None);

@@ -1,12 +1,14 @@
--- The longest line has room with its newline.
-use Rattle.std.proofs.Common.{arith, lit<}
+-- A line of the plan is one over its names, and the longest has room with its newline.
+use Rattle.std.proofs.Common.{◌≡◌, true, arith, lit<, subst, sym}
+use Rattle.pm_model.specs.LineOf.{is_line_of}
 use Rattle.pm_linetext.proofs.Lengths.{text_len}
+use Rattle.pm_linetext.proofs.Padding.{line_of_names}
 use Rattle.pm_linetext.proofs.speller.LineSpeller.spell_timed.Goals as goal
 
-pub push_line-requires : goal.push_line-requires
-push_line-requires c =
-    rw c.clear.ensures (omega (arith, text_len c.args.self.now c.args.line.now c.args.time c.requires.line_of_plan c.requires.not_later))
+pub spell-requires-clause-line_of_names : goal.spell-requires-clause-line_of_names
+spell-requires-clause-line_of_names c =
+    line_of_names c.self.inside.plan.now _ c.args.line.now c.self.invariant (subst (λ plan. is_line_of plan c.args.line.now ≡ true) (sym c.self.view_is) c.requires.line_of_plan)
 
 pub push-requires : goal.push-requires
 push-requires c =
-    (lit< tt, rw (c.push_line.ensures, c.clear.ensures) (omega (arith, text_len c.args.self.now c.args.line.now c.args.time c.requires.line_of_plan c.requires.not_later)))
+    (lit< tt, rw (c.spell.ensures, c.self.invariant, c.self.view_is) (omega (arith, text_len c.args.self.now c.args.line.now c.args.time c.requires.line_of_plan c.requires.not_later)))
