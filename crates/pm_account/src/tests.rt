@@ -38,21 +38,25 @@ fn device(alloc: Global, name: &[u8]) -> Result<DeviceRow, NoMemory>
     })
 }
 
-#[test]
-fn before_any_line_no_time_has_passed(rt: HostRuntime) -> Result<(), Fail> {
-    let alloc = rt.alloc();
+// Two devices.
+fn plan(alloc: Global) -> Result<Plan, NoMemory> {
     let mut devices = Vec::new(alloc);
     devices.push(device(alloc, b"a")?)?;
     devices.push(device(alloc, b"b")?)?;
-    let plan = Plan {
+    Ok(Plan {
         lines: 20,
         trace: 1,
         domains: NamedList::new(alloc, Vec::new(alloc))?,
         devices: NamedList::new(alloc, devices)?,
         links: Items::new(Vec::new(alloc)),
         callers: NamedList::new(alloc, Vec::new(alloc))?,
-    };
-    let times = account(alloc, &plan, &[])?;
+    })
+}
+
+#[test]
+fn before_any_line_no_time_has_passed(rt: HostRuntime) -> Result<(), Fail> {
+    let plan = plan(rt.alloc())?;
+    let times = account(rt.alloc(), &plan, &[])?;
     let none = Times {
         active: 0,
         suspended: 0,

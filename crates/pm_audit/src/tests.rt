@@ -131,11 +131,25 @@ fn worked_plan(alloc: Global) -> Result<Plan, NoMemory> {
     })
 }
 
+// The plans of the tests.
+#[derive(Clone, Copy)]
+enum Run {
+    Short,
+    Worked,
+}
+
+fn plan_of(alloc: Global, run: Run) -> Result<Plan, NoMemory> {
+    match run {
+        Run::Short => short_plan(alloc),
+        Run::Worked => worked_plan(alloc),
+    }
+}
+
 // What is said of a text that is fed in pieces of this length.
-fn said(alloc: Global, plan: Plan, text: &[u8], len: usize) -> Result<Verdict, Fail>
+fn said(alloc: Global, run: Run, text: &[u8], len: usize) -> Result<Verdict, Fail>
     requires { 0 < len }
 {
-    let Ok(mut auditor) = Auditor::new(alloc, plan) else {
+    let Ok(mut auditor) = Auditor::new(alloc, plan_of(alloc, run)?) else {
         return Err("no memory".into());
     };
     for piece in text.chunks(len) {
@@ -145,8 +159,8 @@ fn said(alloc: Global, plan: Plan, text: &[u8], len: usize) -> Result<Verdict, F
 }
 
 // What is said of a text from which a book is loaded.
-fn loaded(alloc: Global, plan: Plan, text: &[u8]) -> Result<Verdict, Fail> {
-    match load_trace(alloc, plan, text) {
+fn loaded(alloc: Global, run: Run, text: &[u8]) -> Result<Verdict, Fail> {
+    match load_trace(alloc, plan_of(alloc, run)?, text) {
         Ok(book) => Ok(if book.finished() {
             Verdict::YesFinished
         } else {
@@ -155,6 +169,16 @@ fn loaded(alloc: Global, plan: Plan, text: &[u8]) -> Result<Verdict, Fail> {
         Err(LoadFault::No { line, why }) => Ok(Verdict::No { line, why }),
         Err(LoadFault::NoMemory) => Err("no memory".into()),
     }
+}
+
+// What is said of a text in one piece, in pieces of 7 bytes and of one, and loaded.
+fn said_each_way(alloc: Global, run: Run, text: &[u8]) -> Result<[Verdict; 4], Fail> {
+    Ok([
+        said(alloc, run, text, text.len().max(1))?,
+        said(alloc, run, text, 7)?,
+        said(alloc, run, text, 1)?,
+        loaded(alloc, run, text)?,
+    ])
 }
 
 static SAID: [(&str, Verdict); 24] = [
@@ -307,19 +331,8 @@ static SAID: [(&str, Verdict); 24] = [
 #[test]
 fn each_trace_is_judged_however_it_is_cut(rt: HostRuntime) -> Result<(), Fail> {
     for (text, wanted) in &SAID {
-        let text = text.as_bytes();
-        for len in [text.len().max(1), 7, 1] {
-            assert_eq!(rt;
-                said(rt.alloc(), short_plan(rt.alloc())?, text, len)?,
-                *wanted,
-                "{text:?} {len}"
-            );
-        }
-        assert_eq!(rt;
-            loaded(rt.alloc(), short_plan(rt.alloc())?, text)?,
-            *wanted,
-            "{text:?}"
-        );
+        let said = said_each_way(rt.alloc(), Run::Short, text.as_bytes())?;
+        assert_eq!(rt; said, [*wanted; 4], "{text:?}");
     }
     Ok(())
 }
@@ -355,41 +368,35 @@ static WORKED: [(&str, Verdict); 4] = [
 #[test]
 fn a_worked_run_is_judged(rt: HostRuntime) -> Result<(), Fail> {
     for (text, wanted) in &WORKED {
-        let text = text.as_bytes();
-        for len in [text.len().max(1), 7, 1] {
-            assert_eq!(rt;
-                said(rt.alloc(), worked_plan(rt.alloc())?, text, len)?,
-                *wanted,
-                "{text:?} {len}"
-            );
-        }
-        assert_eq!(rt;
-            loaded(rt.alloc(), worked_plan(rt.alloc())?, text)?,
-            *wanted,
-            "{text:?}"
-        );
+        let said = said_each_way(rt.alloc(), Run::Worked, text.as_bytes())?;
+        assert_eq!(rt; said, [*wanted; 4], "{text:?}");
     }
     Ok(())
 }
 
+// 193 digits, and the same with a newline.
+static LONG: [u8; 193] = [b'0'; 193];
+
+fn long_line() -> [u8; 194] {
+    let mut text = [b'0'; 194];
+    text[193] = b'\n';
+    text
+}
+
 #[test]
 fn a_long_line_is_no_text(rt: HostRuntime) -> Result<(), Fail> {
-    let long = [b'0'; 193];
-    assert_eq!(rt;
-        said(rt.alloc(), short_plan(rt.alloc())?, &long, 7)?,
-        Verdict::No {
-            line: 1,
-            why: NoWhy::Cut
-        }
-    );
-    let mut text = Vec::from_slice(rt.alloc(), &long)?;
-    text.push(b'\n')?;
-    assert_eq!(rt;
-        said(rt.alloc(), short_plan(rt.alloc())?, &text, 7)?,
-        Verdict::No {
-            line: 1,
-            why: NoWhy::Text
-        }
-    );
+    let said = [
+        said(rt.alloc(), Run::Short, &LONG, 7)?,
+        said(rt.alloc(), Run::Short, &long_line(), 7)?,
+    ];
+    let cut = Verdict::No {
+        line: 1,
+        why: NoWhy::Cut,
+    };
+    let no_text = Verdict::No {
+        line: 1,
+        why: NoWhy::Text,
+    };
+    assert_eq!(rt; said, [cut, no_text]);
     Ok(())
 }

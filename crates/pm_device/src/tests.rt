@@ -7,6 +7,7 @@ use super::*;
 use pm_base::{Cb, DomId, NoMemory, Pending, Req};
 use pm_model::{DeviceRow, DomainRow, Items, LinkRow, NamedList, Plan};
 use std::alloc::Global;
+use std::process::Abort;
 use std::test::Fail;
 
 // The supplier of `CHILD`.
@@ -150,34 +151,6 @@ fn gives(parts: &mut Parts, dev: DevId)
     }
 }
 
-// A device is enabled once.
-fn enables(parts: &mut Parts, dev: DevId)
-    requires { dev.0 < length parts.old.shape.parents }
-    ensures { parts.new.shape ≡ parts.old.shape }
-{
-    parts.enables(dev);
-}
-
-// A change of one device.
-#[derive(Clone, Copy)]
-enum Change {
-    Status(Status),
-    Error(i32),
-    Ignores(bool),
-    Last(bool),
-    LastBusy(u64),
-    Setting(bool, i64),
-    EndIdle,
-    Place(Req),
-    Deferred(bool),
-    CancelRequest,
-    Clear,
-    Arm(u64, bool),
-    Cancel,
-    CancelAll,
-    ResumeCancel,
-}
-
 // The settings become these, where they may.
 fn sets_setting(parts: &mut Parts, dev: DevId, use_auto: bool, delay: i64)
     requires { dev.0 < length parts.old.shape.parents }
@@ -198,12 +171,62 @@ fn marks(parts: &mut Parts, dev: DevId, time: u64)
     }
 }
 
+// A device is disabled once more, where that fits.
+fn disables(parts: &mut Parts, dev: DevId)
+    requires { dev.0 < length parts.old.shape.parents }
+    ensures { parts.new.shape ≡ parts.old.shape }
+{
+    if parts.device(dev).depth < 9 {
+        parts.disables(dev);
+    }
+}
+
+// A callback begins, where that can be counted.
+fn begins(parts: &mut Parts, dev: DevId, cb: Cb)
+    requires { dev.0 < length parts.old.shape.parents }
+    ensures { parts.new.shape ≡ parts.old.shape }
+{
+    if parts.begun(dev, cb) < 9 {
+        parts.begin(dev, cb);
+    }
+}
+
+// A change of one device.
+#[derive(Clone, Copy)]
+enum Change {
+    Enable,
+    Disable,
+    Take,
+    Give,
+    Begin(Cb),
+    Status(Status),
+    Error(i32),
+    Ignores(bool),
+    Last(bool),
+    LastBusy(u64),
+    Setting(bool, i64),
+    EndIdle,
+    Place(Req),
+    Deferred(bool),
+    CancelRequest,
+    Clear,
+    Arm(u64, bool),
+    Cancel,
+    CancelAll,
+    ResumeCancel,
+}
+
 // One change. Its clause hides the views, so that the proofs of the tests stay small.
 fn sets(parts: &mut Parts, dev: DevId, change: Change)
     requires { dev.0 < length parts.old.shape.parents }
     ensures { parts.new.shape ≡ parts.old.shape }
 {
     match change {
+        Change::Enable => parts.enables(dev),
+        Change::Disable => disables(parts, dev),
+        Change::Take => takes(parts, dev),
+        Change::Give => gives(parts, dev),
+        Change::Begin(cb) => begins(parts, dev, cb),
         Change::Status(status) => parts.set_status(dev, status),
         Change::Error(error) => parts.set_error(dev, error),
         Change::Ignores(ignores) => parts.set_ignores(dev, ignores),
@@ -222,26 +245,6 @@ fn sets(parts: &mut Parts, dev: DevId, change: Change)
     }
 }
 
-// A device is disabled once more, where that fits.
-fn disables(parts: &mut Parts, dev: DevId)
-    requires { dev.0 < length parts.old.shape.parents }
-    ensures { parts.new.shape ≡ parts.old.shape }
-{
-    if parts.device(dev).depth < 9 {
-        parts.disables(dev);
-    }
-}
-
-// A callback of `CHILD` begins, where that can be counted.
-fn begins(parts: &mut Parts, cb: Cb)
-    requires { length parts.old.shape.parents ≡ 3 }
-    ensures { parts.new.shape ≡ parts.old.shape }
-{
-    if parts.begun(CHILD, cb) < 9 {
-        parts.begin(CHILD, cb);
-    }
-}
-
 // What the callback of `CHILD` that has begun last answers, and 1 where none has.
 fn answer(parts: &Parts, plan: &Plan, cb: Cb) -> i32
     requires made_for { IsFor plan.now parts.now.shape }
@@ -255,66 +258,14 @@ fn answer(parts: &Parts, plan: &Plan, cb: Cb) -> i32
     }
 }
 
-// Each of these walks answers what it sees on its way, so that a test has one assertion.
-fn walks_refusals(parts: &mut Parts, plan: &Plan) -> [i32; 9]
-    requires made_for { IsFor plan.now parts.old.shape }
-    requires devices { length plan.now.devices ≡ 3 }
-    requires parts { length parts.old.shape.parents ≡ 3 }
+// The deadline of `CHILD`'s timer.
+fn deadline(parts: &Parts) -> Option<u64>
+    requires { length parts.now.shape.parents ≡ 3 }
 {
-    let disabled = parts.refusal(plan, BUS);
-    enables(parts, BUS);
-    let suspended = parts.refusal(plan, BUS);
-    takes(parts, BUS);
-    takes(parts, BUS);
-    gives(parts, BUS);
-    let in_use = parts.refusal(plan, BUS);
-    gives(parts, BUS);
-    sets(parts, CHILD, Change::Status(Status::Active));
-    let with_children = parts.refusal(plan, BUS);
-    sets(parts, BUS, Change::Ignores(true));
-    let ignoring = parts.refusal(plan, BUS);
-    sets(parts, BUS, Change::Place(Req::Resume));
-    let asking = parts.refusal(plan, BUS);
-    sets(parts, BUS, Change::CancelRequest);
-    sets(parts, BUS, Change::Status(Status::Suspending));
-    let suspending = parts.refusal(plan, BUS);
-    sets(parts, BUS, Change::Deferred(true));
-    let deferred = parts.refusal(plan, BUS);
-    sets(parts, BUS, Change::Error(-5));
-    let failed = parts.refusal(plan, BUS);
-    [
-        disabled,
-        suspended,
-        in_use,
-        with_children,
-        ignoring,
-        asking,
-        suspending,
-        deferred,
-        failed,
-    ]
-}
-
-#[test]
-fn a_refusal_is_the_first_that_holds(rt: HostRuntime) -> Result<(), Fail> {
-    let plan = plan(rt.alloc())?;
-    let mut parts = fresh(rt.alloc(), &plan)?;
-    let seen = walks_refusals(&mut parts, &plan);
-    assert_eq!(rt; seen, [-13, 1, -11, -16, 1, -11, 0, -11, -22]);
-    Ok(())
-}
-
-// How many children count while `CHILD` is Suspending, Resuming and Active.
-fn walks_children(parts: &mut Parts) -> [u32; 3]
-    requires { length parts.old.shape.parents ≡ 3 }
-    ensures { parts.new.shape ≡ parts.old.shape }
-{
-    sets(parts, CHILD, Change::Status(Status::Suspending));
-    let suspending = parts.children(BUS);
-    sets(parts, CHILD, Change::Status(Status::Resuming));
-    let resuming = parts.children(BUS);
-    sets(parts, CHILD, Change::Status(Status::Active));
-    [suspending, resuming, parts.children(BUS)]
+    match parts.timer(CHILD) {
+        Some(armed) => Some(armed.deadline),
+        None => None,
+    }
 }
 
 // Whether `CHILD` minds its parent, awaits it and tells it.
@@ -330,247 +281,523 @@ fn sees_parent(parts: &Parts, plan: &Plan) -> [bool; 3]
     ]
 }
 
-#[test]
-fn children_count_while_they_work(rt: HostRuntime) -> Result<(), Fail> {
-    let plan = plan(rt.alloc())?;
-    let mut parts = fresh(rt.alloc(), &plan)?;
-    let disabled = sees_parent(&parts, &plan);
-    assert_eq!(rt; walks_children(&mut parts), [1, 0, 1]);
-    enables(&mut parts, BUS);
-    let enabled = sees_parent(&parts, &plan);
-    sets(&mut parts, BUS, Change::Ignores(true));
-    let ignoring = sees_parent(&parts, &plan);
+// A step of a test.
+#[derive(Clone, Copy)]
+enum Step {
+    Nothing,
+    Bus(Change),
+    Child(Change),
+    // The link of `CHILD` to `CLOCK` is held.
+    Hold,
+    // Its link to `BUS` is added.
+    Add,
+    // The domain of `CHILD` is switched.
+    SwitchUp,
+    SwitchDown,
+}
+
+// What is looked at after a step.
+#[derive(Clone, Copy)]
+enum Look {
+    Nothing,
+    Refusal,
+    Children,
+    Parent,
+    MayNotForce,
+    WasActive,
+    Deadline,
+    Expiry,
+    AutosuspendAt,
+    Pending,
+    Answer(Cb),
+    FirstFree,
+    FirstHeld,
+    NextSupplier,
+    UpCount,
+    DownCount,
+}
+
+// What is seen then.
+#[derive(Clone, Copy, Debug, PartialEq, Eq)]
+enum Seen {
+    Nothing,
+    Code(i32),
+    Count(u32),
+    Is(bool),
+    Parent([bool; 3]),
+    Moment(Option<u64>),
+    Pending(Pending),
+    Link(Option<(u32, DevId)>),
+}
+
+// A step, what is looked at after it, and what must be seen.
+type Row = (Step, Look, Seen);
+
+fn steps(parts: &mut Parts, plan: &Plan, step: Step)
+    requires made_for { IsFor plan.now parts.old.shape }
+    requires devices { length plan.now.devices ≡ 3 }
+    requires parts { length parts.old.shape.parents ≡ 3 }
+    ensures { parts.new.shape ≡ parts.old.shape }
+{
+    match step {
+        Step::Nothing => {}
+        Step::Bus(change) => sets(parts, BUS, change),
+        Step::Child(change) => sets(parts, CHILD, change),
+        Step::Hold => parts.set_held(plan, CHILD, CLOCK, true),
+        Step::Add => parts.set_present(plan, CHILD, BUS, true),
+        Step::SwitchUp => parts.switch_up(plan, CHILD),
+        Step::SwitchDown => parts.switch_down(plan, CHILD),
+    }
+}
+
+fn sees(parts: &Parts, plan: &Plan, look: Look) -> Seen
+    requires made_for { IsFor plan.now parts.now.shape }
+    requires devices { length plan.now.devices ≡ 3 }
+    requires parts { length parts.now.shape.parents ≡ 3 }
+{
+    match look {
+        Look::Nothing => Seen::Nothing,
+        Look::Refusal => Seen::Code(parts.refusal(plan, BUS)),
+        Look::Children => Seen::Count(parts.children(BUS)),
+        Look::Parent => Seen::Parent(sees_parent(parts, plan)),
+        Look::MayNotForce => Seen::Is(parts.may_not_force(BUS)),
+        Look::WasActive => Seen::Is(parts.was_active(BUS)),
+        Look::Deadline => Seen::Moment(deadline(parts)),
+        Look::Expiry => Seen::Moment(parts.expiry(CHILD)),
+        Look::AutosuspendAt => Seen::Moment(Some(parts.autosuspend_at(CHILD))),
+        Look::Pending => Seen::Pending(parts.pending(CHILD)),
+        Look::Answer(cb) => Seen::Code(answer(parts, plan, cb)),
+        Look::FirstFree => Seen::Link(parts.first_free(plan, CHILD)),
+        Look::FirstHeld => Seen::Link(parts.first_held(plan, CHILD)),
+        Look::NextSupplier => Seen::Link(parts.next_supplier(plan, CHILD, Some(CLOCK))),
+        Look::UpCount => Seen::Count(parts.up_count(plan, CHILD)),
+        Look::DownCount => Seen::Count(parts.down_count(plan, CHILD)),
+    }
+}
+
+fn tells(parts: &mut Parts, plan: &Plan, row: &Row) -> Seen
+    requires made_for { IsFor plan.now parts.old.shape }
+    requires devices { length plan.now.devices ≡ 3 }
+    requires parts { length parts.old.shape.parents ≡ 3 }
+    ensures { parts.new.shape ≡ parts.old.shape }
+{
+    steps(parts, plan, row.0);
+    sees(parts, plan, row.1)
+}
+
+fn tells_all(parts: &mut Parts, plan: &Plan, rows: &[Row; 8]) -> [Seen; 8]
+    requires made_for { IsFor plan.now parts.old.shape }
+    requires devices { length plan.now.devices ≡ 3 }
+    requires parts { length parts.old.shape.parents ≡ 3 }
+    ensures { parts.new.shape ≡ parts.old.shape }
+{
+    [
+        tells(parts, plan, &rows[0]),
+        tells(parts, plan, &rows[1]),
+        tells(parts, plan, &rows[2]),
+        tells(parts, plan, &rows[3]),
+        tells(parts, plan, &rows[4]),
+        tells(parts, plan, &rows[5]),
+        tells(parts, plan, &rows[6]),
+        tells(parts, plan, &rows[7]),
+    ]
+}
+
+// What is seen over these steps. It alone owns a plan and its counters, so that the proofs of the tests
+// stay small.
+fn walk(alloc: Global, rows: &[[Row; 8]; 2]) -> Result<[[Seen; 8]; 2], NoMemory> {
+    let plan = plan(alloc)?;
+    let mut parts = fresh(alloc, &plan)?;
+    Ok([
+        tells_all(&mut parts, &plan, &rows[0]),
+        tells_all(&mut parts, &plan, &rows[1]),
+    ])
+}
+
+// What must be seen over eight steps.
+fn wanted(rows: &[Row; 8]) -> [Seen; 8] {
+    [
+        rows[0].2, rows[1].2, rows[2].2, rows[3].2, rows[4].2, rows[5].2, rows[6].2, rows[7].2,
+    ]
+}
+
+// These steps show what must be seen. The tests call it alone, so that one function has the assertion.
+fn shows(rt: &(impl Abort + AllocGlobal), rows: &[[Row; 8]; 2]) -> Result<(), Fail> {
     assert_eq!(rt;
-        [disabled, enabled, ignoring],
-        [
-            [false, false, true],
-            [true, true, true],
-            [false, false, false]
-        ]
+        walk(rt.alloc(), rows)?,
+        [wanted(&rows[0]), wanted(&rows[1])]
     );
     Ok(())
 }
 
-fn walks_depths(parts: &mut Parts) -> [bool; 7]
-    requires { length parts.old.shape.parents ≡ 3 }
-{
-    let disabled = parts.may_not_force(BUS);
-    enables(parts, BUS);
-    let enabled = parts.may_not_force(BUS);
-    sets(parts, BUS, Change::Error(-5));
-    let failed = parts.may_not_force(BUS);
-    sets(parts, BUS, Change::Status(Status::Resuming));
-    let resuming = parts.may_not_force(BUS);
-    sets(parts, BUS, Change::Status(Status::Active));
-    disables(parts, BUS);
-    sets(parts, BUS, Change::Last(true));
-    disables(parts, BUS);
-    enables(parts, BUS);
-    let twice = parts.was_active(BUS);
-    enables(parts, BUS);
-    let once = parts.was_active(BUS);
-    disables(parts, BUS);
+// No step.
+const REST: Row = (Step::Nothing, Look::Nothing, Seen::Nothing);
+
+static REFUSALS: [[Row; 8]; 2] = [
     [
-        disabled,
-        enabled,
-        failed,
-        resuming,
-        twice,
-        once,
-        parts.was_active(BUS),
-    ]
+        (Step::Nothing, Look::Refusal, Seen::Code(-13)),
+        (Step::Bus(Change::Enable), Look::Refusal, Seen::Code(1)),
+        (Step::Bus(Change::Take), Look::Nothing, Seen::Nothing),
+        (Step::Bus(Change::Take), Look::Nothing, Seen::Nothing),
+        (Step::Bus(Change::Give), Look::Refusal, Seen::Code(-11)),
+        (Step::Bus(Change::Give), Look::Nothing, Seen::Nothing),
+        (
+            Step::Child(Change::Status(Status::Active)),
+            Look::Refusal,
+            Seen::Code(-16),
+        ),
+        (
+            Step::Bus(Change::Ignores(true)),
+            Look::Refusal,
+            Seen::Code(1),
+        ),
+    ],
+    [
+        (
+            Step::Bus(Change::Place(Req::Resume)),
+            Look::Refusal,
+            Seen::Code(-11),
+        ),
+        (
+            Step::Bus(Change::CancelRequest),
+            Look::Nothing,
+            Seen::Nothing,
+        ),
+        (
+            Step::Bus(Change::Status(Status::Suspending)),
+            Look::Refusal,
+            Seen::Code(0),
+        ),
+        (
+            Step::Bus(Change::Deferred(true)),
+            Look::Refusal,
+            Seen::Code(-11),
+        ),
+        (Step::Bus(Change::Error(-5)), Look::Refusal, Seen::Code(-22)),
+        REST,
+        REST,
+        REST,
+    ],
+];
+
+#[test]
+fn a_refusal_is_the_first_that_holds(rt: HostRuntime) -> Result<(), Fail> {
+    shows(&rt, &REFUSALS)
 }
+
+static CHILDREN: [[Row; 8]; 2] = [
+    [
+        (
+            Step::Nothing,
+            Look::Parent,
+            Seen::Parent([false, false, true]),
+        ),
+        (
+            Step::Child(Change::Status(Status::Suspending)),
+            Look::Children,
+            Seen::Count(1),
+        ),
+        (
+            Step::Child(Change::Status(Status::Resuming)),
+            Look::Children,
+            Seen::Count(0),
+        ),
+        (
+            Step::Child(Change::Status(Status::Active)),
+            Look::Children,
+            Seen::Count(1),
+        ),
+        (
+            Step::Bus(Change::Enable),
+            Look::Parent,
+            Seen::Parent([true, true, true]),
+        ),
+        (
+            Step::Bus(Change::Ignores(true)),
+            Look::Parent,
+            Seen::Parent([false, false, false]),
+        ),
+        REST,
+        REST,
+    ],
+    [REST; 8],
+];
+
+#[test]
+fn children_count_while_they_work(rt: HostRuntime) -> Result<(), Fail> {
+    shows(&rt, &CHILDREN)
+}
+
+static DEPTHS: [[Row; 8]; 2] = [
+    [
+        (Step::Nothing, Look::MayNotForce, Seen::Is(false)),
+        (Step::Bus(Change::Enable), Look::MayNotForce, Seen::Is(true)),
+        (
+            Step::Bus(Change::Error(-5)),
+            Look::MayNotForce,
+            Seen::Is(false),
+        ),
+        (
+            Step::Bus(Change::Status(Status::Resuming)),
+            Look::MayNotForce,
+            Seen::Is(true),
+        ),
+        (
+            Step::Bus(Change::Status(Status::Active)),
+            Look::Nothing,
+            Seen::Nothing,
+        ),
+        (Step::Bus(Change::Disable), Look::Nothing, Seen::Nothing),
+        (Step::Bus(Change::Last(true)), Look::Nothing, Seen::Nothing),
+        (Step::Bus(Change::Disable), Look::Nothing, Seen::Nothing),
+    ],
+    [
+        (Step::Bus(Change::Enable), Look::WasActive, Seen::Is(true)),
+        (Step::Bus(Change::Enable), Look::WasActive, Seen::Is(false)),
+        (Step::Bus(Change::Disable), Look::WasActive, Seen::Is(false)),
+        REST,
+        REST,
+        REST,
+        REST,
+        REST,
+    ],
+];
 
 #[test]
 fn a_status_is_forced_only_of_a_device_at_rest(rt: HostRuntime) -> Result<(), Fail> {
-    let plan = plan(rt.alloc())?;
-    let mut parts = fresh(rt.alloc(), &plan)?;
-    assert_eq!(rt;
-        walks_depths(&mut parts),
-        [false, true, false, true, true, false, false]
-    );
-    Ok(())
+    shows(&rt, &DEPTHS)
 }
 
-fn walks_timers(parts: &mut Parts) -> [Option<u64>; 7]
-    requires { length parts.old.shape.parents ≡ 3 }
-{
-    sets(parts, CHILD, Change::Arm(30, true));
-    sets(parts, CHILD, Change::Place(Req::Idle));
-    sets(parts, CHILD, Change::ResumeCancel);
-    let kept = deadline(parts);
-    sets(parts, CHILD, Change::Arm(40, false));
-    let armed = deadline(parts);
-    sets(parts, CHILD, Change::ResumeCancel);
-    let resumed = deadline(parts);
-    sets(parts, CHILD, Change::Arm(50, true));
-    sets(parts, CHILD, Change::Cancel);
-    let cancelled = deadline(parts);
-    sets(parts, CHILD, Change::Setting(true, 20));
-    sets(parts, CHILD, Change::LastBusy(100));
-    let expiry = parts.expiry(CHILD);
-    sets(parts, CHILD, Change::Arm(110, true));
-    let earlier = Some(parts.autosuspend_at(CHILD));
-    sets(parts, CHILD, Change::Setting(true, -1));
+static TIMERS: [[Row; 8]; 2] = [
     [
-        kept,
-        armed,
-        resumed,
-        cancelled,
-        expiry,
-        earlier,
-        parts.expiry(CHILD),
-    ]
-}
-
-// The deadline of `CHILD`'s timer.
-fn deadline(parts: &Parts) -> Option<u64>
-    requires { length parts.now.shape.parents ≡ 3 }
-{
-    match parts.timer(CHILD) {
-        Some(armed) => Some(armed.deadline),
-        None => None,
-    }
-}
+        (
+            Step::Child(Change::Arm(30, true)),
+            Look::Nothing,
+            Seen::Nothing,
+        ),
+        (
+            Step::Child(Change::Place(Req::Idle)),
+            Look::Nothing,
+            Seen::Nothing,
+        ),
+        (
+            Step::Child(Change::ResumeCancel),
+            Look::Deadline,
+            Seen::Moment(Some(30)),
+        ),
+        (
+            Step::Child(Change::Arm(40, false)),
+            Look::Deadline,
+            Seen::Moment(Some(40)),
+        ),
+        (
+            Step::Child(Change::ResumeCancel),
+            Look::Deadline,
+            Seen::Moment(None),
+        ),
+        (
+            Step::Child(Change::Arm(50, true)),
+            Look::Nothing,
+            Seen::Nothing,
+        ),
+        (
+            Step::Child(Change::Cancel),
+            Look::Deadline,
+            Seen::Moment(None),
+        ),
+        (
+            Step::Child(Change::Setting(true, 20)),
+            Look::Nothing,
+            Seen::Nothing,
+        ),
+    ],
+    [
+        (
+            Step::Child(Change::LastBusy(100)),
+            Look::Expiry,
+            Seen::Moment(Some(120)),
+        ),
+        (
+            Step::Child(Change::Arm(110, true)),
+            Look::AutosuspendAt,
+            Seen::Moment(Some(110)),
+        ),
+        (
+            Step::Child(Change::Setting(true, -1)),
+            Look::Expiry,
+            Seen::Moment(None),
+        ),
+        REST,
+        REST,
+        REST,
+        REST,
+        REST,
+    ],
+];
 
 #[test]
 fn timers_are_armed_and_cancelled(rt: HostRuntime) -> Result<(), Fail> {
-    let plan = plan(rt.alloc())?;
-    let mut parts = fresh(rt.alloc(), &plan)?;
-    assert_eq!(rt;
-        walks_timers(&mut parts),
-        [Some(30), Some(40), None, None, Some(120), Some(110), None]
-    );
-    Ok(())
+    shows(&rt, &TIMERS)
 }
 
-fn walks_requests(parts: &mut Parts) -> [Pending; 4]
-    requires { length parts.old.shape.parents ≡ 3 }
-{
-    sets(parts, CHILD, Change::Place(Req::Resume));
-    sets(parts, CHILD, Change::Deferred(true));
-    let placed = parts.pending(CHILD);
-    sets(parts, CHILD, Change::CancelRequest);
-    let cancelled = parts.pending(CHILD);
-    sets(parts, CHILD, Change::Clear);
-    let cleared = parts.pending(CHILD);
-    sets(parts, CHILD, Change::Place(Req::Idle));
-    sets(parts, CHILD, Change::Deferred(false));
-    sets(parts, CHILD, Change::CancelAll);
-    [placed, cancelled, cleared, parts.pending(CHILD)]
-}
+// What is pending for `CHILD` on its way.
+const PLACED: Pending = Pending {
+    request: Req::Resume,
+    queued: true,
+    deferred: true,
+};
 
-fn pending(request: Req, queued: bool, deferred: bool) -> Pending {
-    Pending {
-        request,
-        queued,
-        deferred,
-    }
-}
+const CANCELLED: Pending = Pending {
+    request: Req::Nothing,
+    queued: true,
+    deferred: true,
+};
+
+const CLEARED: Pending = Pending {
+    request: Req::Nothing,
+    queued: false,
+    deferred: true,
+};
+
+const NONE: Pending = Pending {
+    request: Req::Nothing,
+    queued: false,
+    deferred: false,
+};
+
+static REQUESTS: [[Row; 8]; 2] = [
+    [
+        (
+            Step::Child(Change::Place(Req::Resume)),
+            Look::Nothing,
+            Seen::Nothing,
+        ),
+        (
+            Step::Child(Change::Deferred(true)),
+            Look::Pending,
+            Seen::Pending(PLACED),
+        ),
+        (
+            Step::Child(Change::CancelRequest),
+            Look::Pending,
+            Seen::Pending(CANCELLED),
+        ),
+        (
+            Step::Child(Change::Clear),
+            Look::Pending,
+            Seen::Pending(CLEARED),
+        ),
+        (
+            Step::Child(Change::Place(Req::Idle)),
+            Look::Nothing,
+            Seen::Nothing,
+        ),
+        (
+            Step::Child(Change::Deferred(false)),
+            Look::Nothing,
+            Seen::Nothing,
+        ),
+        (
+            Step::Child(Change::CancelAll),
+            Look::Pending,
+            Seen::Pending(NONE),
+        ),
+        REST,
+    ],
+    [REST; 8],
+];
 
 #[test]
 fn requests_are_placed_and_cancelled(rt: HostRuntime) -> Result<(), Fail> {
-    let plan = plan(rt.alloc())?;
-    let mut parts = fresh(rt.alloc(), &plan)?;
-    assert_eq!(rt;
-        walks_requests(&mut parts),
-        [
-            pending(Req::Resume, true, true),
-            pending(Req::Nothing, true, true),
-            pending(Req::Nothing, false, true),
-            pending(Req::Nothing, false, false),
-        ]
-    );
-    Ok(())
+    shows(&rt, &REQUESTS)
 }
 
-fn walks_callbacks(parts: &mut Parts, plan: &Plan) -> [i32; 6]
-    requires made_for { IsFor plan.now parts.old.shape }
-    requires devices { length plan.now.devices ≡ 3 }
-    requires parts { length parts.old.shape.parents ≡ 3 }
-{
-    let none = answer(parts, plan, Cb::Idle);
-    begins(parts, Cb::Idle);
-    let idle = answer(parts, plan, Cb::Idle);
-    sets(parts, CHILD, Change::EndIdle);
-    begins(parts, Cb::Suspend);
-    let first = answer(parts, plan, Cb::Suspend);
-    begins(parts, Cb::Suspend);
-    let second = answer(parts, plan, Cb::Suspend);
-    begins(parts, Cb::Suspend);
-    let third = answer(parts, plan, Cb::Suspend);
-    begins(parts, Cb::Resume);
+static CALLBACKS: [[Row; 8]; 2] = [
     [
-        none,
-        idle,
-        first,
-        second,
-        third,
-        answer(parts, plan, Cb::Resume),
-    ]
-}
+        (Step::Nothing, Look::Answer(Cb::Idle), Seen::Code(1)),
+        (
+            Step::Child(Change::Begin(Cb::Idle)),
+            Look::Answer(Cb::Idle),
+            Seen::Code(-16),
+        ),
+        (Step::Child(Change::EndIdle), Look::Nothing, Seen::Nothing),
+        (
+            Step::Child(Change::Begin(Cb::Suspend)),
+            Look::Answer(Cb::Suspend),
+            Seen::Code(-11),
+        ),
+        (
+            Step::Child(Change::Begin(Cb::Suspend)),
+            Look::Answer(Cb::Suspend),
+            Seen::Code(-5),
+        ),
+        (
+            Step::Child(Change::Begin(Cb::Suspend)),
+            Look::Answer(Cb::Suspend),
+            Seen::Code(0),
+        ),
+        (
+            Step::Child(Change::Begin(Cb::Resume)),
+            Look::Answer(Cb::Resume),
+            Seen::Code(0),
+        ),
+        REST,
+    ],
+    [REST; 8],
+];
 
 #[test]
 fn callbacks_answer_the_codes_of_the_plan(rt: HostRuntime) -> Result<(), Fail> {
-    let plan = plan(rt.alloc())?;
-    let mut parts = fresh(rt.alloc(), &plan)?;
-    assert_eq!(rt; walks_callbacks(&mut parts, &plan), [1, -16, -11, -5, 0, 0]);
-    Ok(())
+    shows(&rt, &CALLBACKS)
 }
 
-fn walks_links(parts: &mut Parts, plan: &Plan) -> [Option<(u32, DevId)>; 6]
-    requires made_for { IsFor plan.now parts.old.shape }
-    requires devices { length plan.now.devices ≡ 3 }
-    requires parts { length parts.old.shape.parents ≡ 3 }
-{
-    let free = parts.first_free(plan, CHILD);
-    let none_held = parts.first_held(plan, CHILD);
-    parts.set_held(plan, CHILD, CLOCK, true);
-    let held = parts.first_held(plan, CHILD);
-    let none_free = parts.first_free(plan, CHILD);
-    parts.set_present(plan, CHILD, BUS, true);
-    let added = parts.first_free(plan, CHILD);
-    let next = parts.next_supplier(plan, CHILD, Some(CLOCK));
-    [free, none_held, held, none_free, added, next]
-}
+static LINKS: [[Row; 8]; 2] = [
+    [
+        (Step::Nothing, Look::FirstFree, Seen::Link(Some((0, CLOCK)))),
+        (Step::Nothing, Look::FirstHeld, Seen::Link(None)),
+        (Step::Hold, Look::FirstHeld, Seen::Link(Some((0, CLOCK)))),
+        (Step::Nothing, Look::FirstFree, Seen::Link(None)),
+        (Step::Add, Look::FirstFree, Seen::Link(Some((1, BUS)))),
+        (
+            Step::Nothing,
+            Look::NextSupplier,
+            Seen::Link(Some((1, BUS))),
+        ),
+        REST,
+        REST,
+    ],
+    [REST; 8],
+];
 
 #[test]
 fn a_link_is_there_and_held(rt: HostRuntime) -> Result<(), Fail> {
-    let plan = plan(rt.alloc())?;
-    let mut parts = fresh(rt.alloc(), &plan)?;
-    let clock = Some((0, CLOCK));
-    let bus = Some((1, BUS));
-    assert_eq!(rt;
-        walks_links(&mut parts, &plan),
-        [clock, None, clock, None, bus, bus]
-    );
-    Ok(())
+    shows(&rt, &LINKS)
 }
 
-fn walks_domain(parts: &mut Parts, plan: &Plan) -> [u32; 6]
-    requires made_for { IsFor plan.now parts.old.shape }
-    requires devices { length plan.now.devices ≡ 3 }
-    requires parts { length parts.old.shape.parents ≡ 3 }
-{
-    let off = parts.up_count(plan, CHILD);
-    parts.switch_up(plan, CHILD);
-    let on = parts.up_count(plan, CHILD);
-    // `BUS` is Suspended and disabled.
-    let kept = parts.down_count(plan, CHILD);
-    enables(parts, BUS);
-    let goes = parts.down_count(plan, CHILD);
-    sets(parts, BUS, Change::Status(Status::Active));
-    parts.switch_down(plan, CHILD);
-    let still_on = parts.up_count(plan, CHILD);
-    sets(parts, BUS, Change::Status(Status::Suspended));
-    parts.switch_down(plan, CHILD);
-    [off, on, kept, goes, still_on, parts.up_count(plan, CHILD)]
-}
+static DOMAIN: [[Row; 8]; 2] = [
+    [
+        (Step::Nothing, Look::UpCount, Seen::Count(1)),
+        (Step::SwitchUp, Look::UpCount, Seen::Count(0)),
+        // `BUS` is Suspended and disabled.
+        (Step::Nothing, Look::DownCount, Seen::Count(0)),
+        (Step::Bus(Change::Enable), Look::DownCount, Seen::Count(1)),
+        (
+            Step::Bus(Change::Status(Status::Active)),
+            Look::Nothing,
+            Seen::Nothing,
+        ),
+        (Step::SwitchDown, Look::UpCount, Seen::Count(0)),
+        (
+            Step::Bus(Change::Status(Status::Suspended)),
+            Look::Nothing,
+            Seen::Nothing,
+        ),
+        (Step::SwitchDown, Look::UpCount, Seen::Count(1)),
+    ],
+    [REST; 8],
+];
 
 #[test]
 fn a_domain_goes_off_once_its_other_devices_are_quiet(rt: HostRuntime) -> Result<(), Fail> {
-    let plan = plan(rt.alloc())?;
-    let mut parts = fresh(rt.alloc(), &plan)?;
-    assert_eq!(rt; walks_domain(&mut parts, &plan), [1, 0, 0, 1, 0, 1]);
-    Ok(())
+    shows(&rt, &DOMAIN)
 }

@@ -1,9 +1,11 @@
 //! Domains of a small plan.
 
-ghost use Rattle.std.specs.Prelude.{◌≡◌, [], None, IfOk, false, length};
+ghost use Rattle.std.specs.Prelude.{◌≡◌, ◌∷◌, [], None, Some, IfOk, false, length};
+ghost use Rattle.pm_domain.specs.Domains.{IsMadeFor};
 
 use super::*;
 use pm_model::{DeviceRow, DomainRow, Items, NamedList};
+use std::process::Abort;
 use std::test::Fail;
 
 fn domain(
@@ -53,22 +55,46 @@ fn device(alloc: Global, name: &[u8], domain: Option<DomId>) -> Result<DeviceRow
     })
 }
 
-// Domains `top` (0) over `left` (1) over `leaf` (2), and `right` (3) under `top`. Devices `a` (0) and
-// `b` (1) in `leaf`, `c` (2) in `right`, `d` (3) in none.
-fn plan(alloc: Global, right_always_on: bool) -> Result<Plan, NoMemory>
-    ensures devices { IfOk result (λ plan. length plan.devices ≡ 4) }
-    ensures domains { IfOk result (λ plan. length plan.domains ≡ 4) }
+// Domains `top` (0) over `left` (1) over `leaf` (2), and `right` (3) under `top`.
+fn domains(alloc: Global, right_always_on: bool) -> Result<Vec<DomainRow>, NoMemory>
+    ensures { IfOk result (λ rows. rows.items ≡
+        record { name = 116 ∷ 111 ∷ 112 ∷ []; parent = None; always_on = false }
+        ∷ record { name = 108 ∷ 101 ∷ 102 ∷ 116 ∷ []; parent = Some (record { 0 = 0 }); always_on = false }
+        ∷ record { name = 108 ∷ 101 ∷ 97 ∷ 102 ∷ []; parent = Some (record { 0 = 1 }); always_on = false }
+        ∷ record { name = 114 ∷ 105 ∷ 103 ∷ 104 ∷ 116 ∷ []; parent = Some (record { 0 = 0 }); always_on = right_always_on }
+        ∷ []) }
 {
     let mut domains = Vec::new(alloc);
     domains.push(domain(alloc, b"top", None, false)?)?;
     domains.push(domain(alloc, b"left", Some(DomId(0)), false)?)?;
     domains.push(domain(alloc, b"leaf", Some(DomId(1)), false)?)?;
     domains.push(domain(alloc, b"right", Some(DomId(0)), right_always_on)?)?;
+    Ok(domains)
+}
+
+// Devices `a` (0) and `b` (1) in `leaf`, `c` (2) in `right`, `d` (3) in none.
+fn devices(alloc: Global) -> Result<Vec<DeviceRow>, NoMemory>
+    ensures { IfOk result (λ rows. rows.items ≡
+        record { name = 97 ∷ []; parent = None; domain = Some (record { 0 = 2 }); ignore_children = false; no_callbacks = false; busy = false; idle = None; suspend = []; resume = []; idle_ms = 0; suspend_ms = 0; resume_ms = 0 }
+        ∷ record { name = 98 ∷ []; parent = None; domain = Some (record { 0 = 2 }); ignore_children = false; no_callbacks = false; busy = false; idle = None; suspend = []; resume = []; idle_ms = 0; suspend_ms = 0; resume_ms = 0 }
+        ∷ record { name = 99 ∷ []; parent = None; domain = Some (record { 0 = 3 }); ignore_children = false; no_callbacks = false; busy = false; idle = None; suspend = []; resume = []; idle_ms = 0; suspend_ms = 0; resume_ms = 0 }
+        ∷ record { name = 100 ∷ []; parent = None; domain = None; ignore_children = false; no_callbacks = false; busy = false; idle = None; suspend = []; resume = []; idle_ms = 0; suspend_ms = 0; resume_ms = 0 }
+        ∷ []) }
+{
     let mut devices = Vec::new(alloc);
     devices.push(device(alloc, b"a", Some(DomId(2)))?)?;
     devices.push(device(alloc, b"b", Some(DomId(2)))?)?;
     devices.push(device(alloc, b"c", Some(DomId(3)))?)?;
     devices.push(device(alloc, b"d", None)?)?;
+    Ok(devices)
+}
+
+fn plan(alloc: Global, right_always_on: bool) -> Result<Plan, NoMemory>
+    ensures devices { IfOk result (λ plan. length plan.devices ≡ 4) }
+    ensures domains { IfOk result (λ plan. length plan.domains ≡ 4) }
+{
+    let domains = domains(alloc, right_always_on)?;
+    let devices = devices(alloc)?;
     Ok(Plan {
         lines: 20,
         trace: 1,
@@ -99,79 +125,176 @@ const C: DevId = DevId(2);
 
 const D: DevId = DevId(3);
 
-#[test]
-fn a_chain_goes_on_and_off_in_turn(rt: HostRuntime) -> Result<(), Fail> {
-    let plan = plan(rt.alloc(), false)?;
-    let mut domains = Domains::fresh(rt.alloc(), &plan)?;
-    assert_eq!(rt; lit(&domains), [false, false, false, false]);
-    assert_eq!(rt; domains.up_count(&plan, A), 3);
-    assert_eq!(rt; domains.up(&plan, A), 3);
-    assert_eq!(rt; lit(&domains), [true, true, true, false]);
-    assert_eq!(rt; domains.up_count(&plan, B), 0);
-    assert_eq!(rt; domains.up(&plan, B), 0);
-    let quiet = [true, true, true, true];
-    assert_eq!(rt; domains.down_count(&plan, A, &quiet), 3);
-    assert_eq!(rt; lit(&domains), [true, true, true, false]);
-    assert_eq!(rt; domains.down(&plan, A, &quiet), 3);
-    assert_eq!(rt; lit(&domains), [false, false, false, false]);
-    assert_eq!(rt; domains.down(&plan, A, &quiet), 0);
+// What is asked of the domains; each of the four devices is quiet or not.
+#[derive(Clone, Copy)]
+enum Step {
+    Look,
+    UpCount(DevId),
+    Up(DevId),
+    DownCount(DevId, [bool; 4]),
+    Down(DevId, [bool; 4]),
+}
+
+// The number that a step answers, and which domains are on after it.
+type Seen = (u32, [bool; 4]);
+
+// A step, and what must be seen.
+type Row = (Step, Seen);
+
+fn answers(domains: &mut Domains, plan: &Plan, step: Step) -> u32
+    requires made_for { IsMadeFor plan.now domains.old }
+    requires devices { length plan.now.devices ≡ 4 }
+    ensures { IsMadeFor plan.now domains.new }
+{
+    match step {
+        Step::Look => 0,
+        Step::UpCount(dev) => domains.up_count(plan, dev),
+        Step::Up(dev) => domains.up(plan, dev),
+        Step::DownCount(dev, quiet) => domains.down_count(plan, dev, &quiet),
+        Step::Down(dev, quiet) => domains.down(plan, dev, &quiet),
+    }
+}
+
+fn takes(domains: &mut Domains, plan: &Plan, step: Step) -> Seen
+    requires made_for { IsMadeFor plan.now domains.old }
+    requires devices { length plan.now.devices ≡ 4 }
+    requires domains { length plan.now.domains ≡ 4 }
+    ensures { IsMadeFor plan.now domains.new }
+{
+    let number = answers(domains, plan, step);
+    (number, lit(domains))
+}
+
+fn takes_all(domains: &mut Domains, plan: &Plan, rows: &[Row; 8]) -> [Seen; 8]
+    requires made_for { IsMadeFor plan.now domains.old }
+    requires devices { length plan.now.devices ≡ 4 }
+    requires domains { length plan.now.domains ≡ 4 }
+{
+    [
+        takes(domains, plan, rows[0].0),
+        takes(domains, plan, rows[1].0),
+        takes(domains, plan, rows[2].0),
+        takes(domains, plan, rows[3].0),
+        takes(domains, plan, rows[4].0),
+        takes(domains, plan, rows[5].0),
+        takes(domains, plan, rows[6].0),
+        takes(domains, plan, rows[7].0),
+    ]
+}
+
+// What is seen over these steps. It alone owns a plan and its domains, so that the proofs of the tests
+// stay small.
+fn walk(alloc: Global, right_always_on: bool, rows: &[Row; 8]) -> Result<[Seen; 8], NoMemory> {
+    let plan = plan(alloc, right_always_on)?;
+    let mut domains = Domains::fresh(alloc, &plan)?;
+    Ok(takes_all(&mut domains, &plan, rows))
+}
+
+// What must be seen.
+fn wanted(rows: &[Row; 8]) -> [Seen; 8] {
+    [
+        rows[0].1, rows[1].1, rows[2].1, rows[3].1, rows[4].1, rows[5].1, rows[6].1, rows[7].1,
+    ]
+}
+
+// These steps answer what must be seen. The tests call it alone, so that one function has the assertion.
+fn shows(
+    rt: &(impl Abort + AllocGlobal),
+    right_always_on: bool,
+    rows: &[Row; 8],
+) -> Result<(), Fail> {
+    assert_eq!(rt; walk(rt.alloc(), right_always_on, rows)?, wanted(rows));
     Ok(())
 }
+
+// Which domains are on.
+const NONE: [bool; 4] = [false, false, false, false];
+
+const LEFT: [bool; 4] = [true, true, true, false];
+
+const RIGHT: [bool; 4] = [true, false, false, true];
+
+const ALL: [bool; 4] = [true, true, true, true];
+
+static CHAIN: [Row; 8] = [
+    (Step::Look, (0, NONE)),
+    (Step::UpCount(A), (3, NONE)),
+    (Step::Up(A), (3, LEFT)),
+    (Step::UpCount(B), (0, LEFT)),
+    (Step::Up(B), (0, LEFT)),
+    (Step::DownCount(A, ALL), (3, LEFT)),
+    (Step::Down(A, ALL), (3, NONE)),
+    (Step::Down(A, ALL), (0, NONE)),
+];
+
+#[test]
+fn a_chain_goes_on_and_off_in_turn(rt: HostRuntime) -> Result<(), Fail> {
+    shows(&rt, false, &CHAIN)
+}
+
+// Device `b` is suspended and disabled; whether `a` itself is quiet doesn't matter.
+const NOT_QUIET: [bool; 4] = [false, false, true, true];
+
+static BUSY: [Row; 8] = [
+    (Step::Up(A), (3, LEFT)),
+    (Step::DownCount(A, NOT_QUIET), (0, LEFT)),
+    (Step::Down(A, NOT_QUIET), (0, LEFT)),
+    (Step::DownCount(A, [false, true, false, false]), (3, LEFT)),
+    (Step::Look, (0, LEFT)),
+    (Step::Look, (0, LEFT)),
+    (Step::Look, (0, LEFT)),
+    (Step::Look, (0, LEFT)),
+];
 
 #[test]
 fn a_device_that_is_not_quiet_keeps_its_domain_on(rt: HostRuntime) -> Result<(), Fail> {
-    let plan = plan(rt.alloc(), false)?;
-    let mut domains = Domains::fresh(rt.alloc(), &plan)?;
-    assert_eq!(rt; domains.up(&plan, A), 3);
-    // Device `b` is suspended and disabled; whether `a` itself is quiet doesn't matter.
-    let quiet = [false, false, true, true];
-    assert_eq!(rt; domains.down_count(&plan, A, &quiet), 0);
-    assert_eq!(rt; domains.down(&plan, A, &quiet), 0);
-    assert_eq!(rt; lit(&domains), [true, true, true, false]);
-    assert_eq!(rt;
-        domains.down_count(&plan, A, &[false, true, false, false]),
-        3
-    );
-    Ok(())
+    shows(&rt, false, &BUSY)
 }
+
+static SUBDOMAIN: [Row; 8] = [
+    (Step::Up(A), (3, LEFT)),
+    (Step::UpCount(C), (1, LEFT)),
+    (Step::Up(C), (1, ALL)),
+    (Step::DownCount(A, ALL), (2, ALL)),
+    (Step::Down(A, ALL), (2, RIGHT)),
+    (Step::Down(C, ALL), (2, NONE)),
+    (Step::Look, (0, NONE)),
+    (Step::Look, (0, NONE)),
+];
 
 #[test]
 fn a_subdomain_that_is_on_keeps_its_parent_on(rt: HostRuntime) -> Result<(), Fail> {
-    let plan = plan(rt.alloc(), false)?;
-    let mut domains = Domains::fresh(rt.alloc(), &plan)?;
-    assert_eq!(rt; domains.up(&plan, A), 3);
-    assert_eq!(rt; domains.up_count(&plan, C), 1);
-    assert_eq!(rt; domains.up(&plan, C), 1);
-    let quiet = [true, true, true, true];
-    assert_eq!(rt; domains.down_count(&plan, A, &quiet), 2);
-    assert_eq!(rt; domains.down(&plan, A, &quiet), 2);
-    assert_eq!(rt; lit(&domains), [true, false, false, true]);
-    assert_eq!(rt; domains.down(&plan, C, &quiet), 2);
-    assert_eq!(rt; lit(&domains), [false, false, false, false]);
-    Ok(())
+    shows(&rt, false, &SUBDOMAIN)
 }
+
+static ALWAYS_ON: [Row; 8] = [
+    (Step::Look, (0, RIGHT)),
+    (Step::DownCount(C, ALL), (0, RIGHT)),
+    (Step::Down(C, ALL), (0, RIGHT)),
+    (Step::Up(A), (2, ALL)),
+    (Step::Down(A, ALL), (2, RIGHT)),
+    (Step::Look, (0, RIGHT)),
+    (Step::Look, (0, RIGHT)),
+    (Step::Look, (0, RIGHT)),
+];
 
 #[test]
 fn a_domain_that_is_always_on_starts_on_with_its_ancestors(rt: HostRuntime) -> Result<(), Fail> {
-    let plan = plan(rt.alloc(), true)?;
-    let mut domains = Domains::fresh(rt.alloc(), &plan)?;
-    assert_eq!(rt; lit(&domains), [true, false, false, true]);
-    let quiet = [true, true, true, true];
-    assert_eq!(rt; domains.down_count(&plan, C, &quiet), 0);
-    assert_eq!(rt; domains.down(&plan, C, &quiet), 0);
-    assert_eq!(rt; domains.up(&plan, A), 2);
-    assert_eq!(rt; domains.down(&plan, A, &quiet), 2);
-    assert_eq!(rt; lit(&domains), [true, false, false, true]);
-    Ok(())
+    shows(&rt, true, &ALWAYS_ON)
 }
+
+static NO_DOMAIN: [Row; 8] = [
+    (Step::UpCount(D), (0, NONE)),
+    (Step::Up(D), (0, NONE)),
+    (Step::Down(D, ALL), (0, NONE)),
+    (Step::Look, (0, NONE)),
+    (Step::Look, (0, NONE)),
+    (Step::Look, (0, NONE)),
+    (Step::Look, (0, NONE)),
+    (Step::Look, (0, NONE)),
+];
 
 #[test]
 fn a_device_without_a_domain_switches_none(rt: HostRuntime) -> Result<(), Fail> {
-    let plan = plan(rt.alloc(), false)?;
-    let mut domains = Domains::fresh(rt.alloc(), &plan)?;
-    assert_eq!(rt; domains.up_count(&plan, D), 0);
-    assert_eq!(rt; domains.up(&plan, D), 0);
-    assert_eq!(rt; domains.down(&plan, D, &[true, true, true, true]), 0);
-    assert_eq!(rt; lit(&domains), [false, false, false, false]);
-    Ok(())
+    shows(&rt, false, &NO_DOMAIN)
 }

@@ -10,6 +10,7 @@ use pm_model::{
     LinkList, LinkRow, NamedList, Plan,
 };
 use std::alloc::Global;
+use std::process::Abort;
 use std::test::Fail;
 
 fn device(
@@ -151,74 +152,119 @@ fn part_at(alloc: Global, plan: &Plan, island: u32) -> Result<Option<Plan>, NoMe
     }
 }
 
-// How many commands the callers of the part of an island have.
-fn commands_of(alloc: Global, plan: &Plan, island: u32) -> Result<Vec<usize>, Fail> {
+fn has_part(alloc: Global, plan: &Plan, island: u32) -> Result<bool, NoMemory> {
+    Ok(part_at(alloc, plan, island)?.is_some())
+}
+
+// How many commands a caller has, if it is there.
+fn commands(plan: &Plan, caller: usize) -> Option<usize> {
+    let row = plan.callers.get(caller)?;
+    Some(row.script.as_slice().len())
+}
+
+// How many callers the part of an island has, and how many commands each of three.
+fn commands_of(
+    alloc: Global,
+    plan: &Plan,
+    island: u32,
+) -> Result<(usize, [Option<usize>; 3]), Fail> {
     let part = part_at(alloc, plan, island)?.ok_or("an island")?;
-    let mut counts = Vec::new(alloc);
-    for row in part.callers.as_slice() {
-        counts.push(row.script.as_slice().len())?;
-    }
-    Ok(counts)
+    let counts = [commands(&part, 0), commands(&part, 1), commands(&part, 2)];
+    Ok((part.callers.len(), counts))
+}
+
+// How many islands the numbers have, and where device 0 and caller 0 are.
+fn firsts(alloc: Global, plan: &Plan) -> Result<(u32, [Option<u32>; 2]), NoMemory> {
+    let numbers = number(alloc, plan)?;
+    let places = [
+        numbers.island_of_device(DevId(0)),
+        numbers.island_of(ActorId::Caller(0)),
+    ];
+    Ok((numbers.count(), places))
 }
 
 #[test]
 fn an_empty_plan_has_no_island(rt: HostRuntime) -> Result<(), Fail> {
     let plan = empty(rt.alloc())?;
-    assert_eq!(rt; islands(&plan), 0);
-    let numbers = number(rt.alloc(), &plan)?;
-    assert_eq!(rt; numbers.count(), 0);
-    assert_eq!(rt; numbers.island_of_device(DevId(0)), None);
-    assert_eq!(rt; numbers.island_of(ActorId::Caller(0)), None);
-    assert!(rt; part_at(rt.alloc(), &plan, 0)?.is_none());
+    let seen = (
+        islands(&plan),
+        firsts(rt.alloc(), &plan)?,
+        has_part(rt.alloc(), &plan, 0)?,
+    );
+    assert_eq!(rt; seen, (0, (0, [None, None]), false));
     Ok(())
+}
+
+// How many islands the numbers of the small plan have, where its callers are, and where a caller that
+// isn't there, the domain, and a domain that isn't there.
+fn places(alloc: Global, plan: &Plan) -> Result<(u32, [u32; 3], [Option<u32>; 3]), NoMemory>
+    requires { plan.now.callers ≡ the_callers }
+{
+    let numbers = number(alloc, plan)?;
+    let callers = [
+        numbers.island_of_caller(0),
+        numbers.island_of_caller(1),
+        numbers.island_of_caller(2),
+    ];
+    let others = [
+        numbers.island_of(ActorId::Caller(3)),
+        numbers.island_of_domain(DomId(0)),
+        numbers.island_of_domain(DomId(1)),
+    ];
+    Ok((numbers.count(), callers, others))
 }
 
 #[test]
 fn islands_go_by_their_least_device(rt: HostRuntime) -> Result<(), Fail> {
     let plan = small(rt.alloc())?;
-    assert_eq!(rt; islands(&plan), 3);
-    let numbers = number(rt.alloc(), &plan)?;
-    assert_eq!(rt; numbers.count(), 3);
-    assert_eq!(rt; numbers.island_of_caller(0), 2);
-    assert_eq!(rt; numbers.island_of_caller(1), 1);
-    assert_eq!(rt; numbers.island_of_caller(2), 0);
-    assert_eq!(rt; numbers.island_of(ActorId::Caller(3)), None);
-    assert_eq!(rt; numbers.island_of_domain(DomId(0)), Some(0));
-    assert_eq!(rt; numbers.island_of_domain(DomId(1)), None);
+    let seen = (islands(&plan), places(rt.alloc(), &plan)?);
+    assert_eq!(rt; seen, (3, (3, [2, 1, 0], [None, Some(0), None])));
     Ok(())
+}
+
+static DEVICES: [(u32, Option<u32>); 5] = [
+    (0, None),
+    (1, Some(0)),
+    (2, Some(0)),
+    (3, Some(0)),
+    (4, Some(1)),
+];
+
+// Each device and its timer are in this island.
+fn are_in(rt: &impl Abort, numbers: &IslandNumbers, devices: &[(u32, Option<u32>)]) {
+    for (device, island) in devices {
+        assert_eq!(rt;
+            (
+                numbers.island_of_device(DevId(*device)),
+                numbers.island_of(ActorId::Timer(*device))
+            ),
+            (*island, *island),
+            "{device}"
+        );
+    }
 }
 
 #[test]
 fn a_domain_connects_and_a_plain_link_does_not(rt: HostRuntime) -> Result<(), Fail> {
     let plan = small(rt.alloc())?;
     let numbers = number(rt.alloc(), &plan)?;
-    let devices = [None, Some(0), Some(0), Some(0), Some(1)];
-    for (place, island) in devices.iter().enumerate() {
-        let device = place as u32;
-        assert_eq!(rt; numbers.island_of_device(DevId(device)), *island, "{place}");
-        assert_eq!(rt;
-            numbers.island_of(ActorId::Timer(device)),
-            *island,
-            "{place}"
-        );
-    }
+    are_in(&rt, &numbers, &DEVICES);
     Ok(())
 }
 
 #[test]
 fn a_part_has_the_scripts_of_its_island(rt: HostRuntime) -> Result<(), Fail> {
     let plan = small(rt.alloc())?;
-    assert_eq!(rt;
-        commands_of(rt.alloc(), &plan, 0)?.as_slice(),
-        [0, 0, 2].as_slice()
-    );
-    assert_eq!(rt;
-        commands_of(rt.alloc(), &plan, 1)?.as_slice(),
-        [0, 1, 0].as_slice()
-    );
-    assert_eq!(rt;
-        commands_of(rt.alloc(), &plan, 2)?.as_slice(),
-        [1, 0, 0].as_slice()
-    );
+    let seen = [
+        commands_of(rt.alloc(), &plan, 0)?,
+        commands_of(rt.alloc(), &plan, 1)?,
+        commands_of(rt.alloc(), &plan, 2)?,
+    ];
+    let wanted = [
+        (3, [Some(0), Some(0), Some(2)]),
+        (3, [Some(0), Some(1), Some(0)]),
+        (3, [Some(1), Some(0), Some(0)]),
+    ];
+    assert_eq!(rt; seen, wanted);
     Ok(())
 }

@@ -541,18 +541,35 @@ static LAST_BYTES: [(&[u8], bool, bool); 42] = [
     (b"10 work.a rpm_return_int: rpm_idle:a ret=-16", true, true),
 ];
 
+// A line comes back, and its text without its last byte and with that byte twice is or isn't a text.
+fn loses_and_doubles(
+    rt: &(impl Abort + AllocGlobal),
+    plan: &Plan,
+    text: &[u8],
+    cut: bool,
+    doubled: bool,
+) -> Result<(), Fail> {
+    comes_back(rt, plan, text)?;
+    let (last, front) = text.split_last().ok_or("an empty text")?;
+    let whole = if cut { None } else { Some(front.len()) };
+    assert_eq!(rt; fault_at(plan, 0, front), whole, "{front:?}");
+    let whole = if doubled { None } else { Some(text.len()) };
+    let fault = doubled_fault(rt.alloc(), plan, text, *last)?;
+    assert_eq!(rt; fault, whole, "{text:?} {last}");
+    Ok(())
+}
+
+fn doubled_fault(alloc: Global, plan: &Plan, text: &[u8], last: u8) -> Result<Option<usize>, Fail> {
+    let mut twice = Vec::from_slice(alloc, text)?;
+    twice.push(last)?;
+    Ok(fault_at(plan, 0, &twice))
+}
+
 #[test]
 fn lines_that_lose_or_double_their_last_byte(rt: HostRuntime) -> Result<(), Fail> {
     let plan = few(rt.alloc())?;
     for (text, cut, doubled) in &LAST_BYTES {
-        comes_back(&rt, &plan, *text)?;
-        let (last, front) = text.split_last().ok_or("an empty text")?;
-        let whole = if *cut { None } else { Some(front.len()) };
-        assert_eq!(rt; fault_at(&plan, 0, front), whole, "{front:?}");
-        let mut twice = Vec::from_slice(rt.alloc(), *text)?;
-        twice.push(*last)?;
-        let whole = if *doubled { None } else { Some(text.len()) };
-        assert_eq!(rt; fault_at(&plan, 0, &twice), whole, "{twice:?}");
+        loses_and_doubles(&rt, &plan, *text, *cut, *doubled)?;
     }
     Ok(())
 }

@@ -10,6 +10,7 @@ use pm_model::{
     CallerRow, Command, DeviceRow, Event, Fields, Helper, Items, NamedList, Operand, TimerAct,
     Word, WorkAct,
 };
+use std::process::Abort;
 use std::test::Fail;
 
 fn device(alloc: Global, name: &[u8]) -> Result<DeviceRow, NoMemory>
@@ -85,6 +86,21 @@ fn texts(alloc: Global, plan: &Plan, lines: &[Line]) -> Result<Vec<u8>, NoMemory
     Ok(text)
 }
 
+// These lines have these texts in format 1. It alone owns them, so that the proofs of the tests stay
+// small.
+fn have_texts(
+    rt: &(impl Abort + AllocGlobal),
+    plan: &Plan,
+    lines: &[Line],
+    expected: &[u8],
+) -> Result<(), Fail>
+    requires { list_all (is_line (length plan.now.devices) (length plan.now.callers)) lines.now ≡ true }
+{
+    let text = texts(rt.alloc(), plan, lines)?;
+    assert_eq!(rt; text.as_slice(), expected);
+    Ok(())
+}
+
 // The texts of these lines in format 2 behind a line of time 0, each with a newline.
 fn texts2(alloc: Global, plan: &Plan, lines: &[Line]) -> Result<Vec<u8>, Fail>
     requires { list_all (is_line (length plan.now.devices) (length plan.now.callers)) lines.now ≡ true }
@@ -152,11 +168,7 @@ fn a_run_of_one_caller(rt: HostRuntime) -> Result<(), Fail> {
 0 c pm_put: a caller
 0 c pm_ret: put_noidle a 0
 ";
-    assert_eq!(rt;
-        texts(rt.alloc(), &plan, &RUN)?.as_slice(),
-        expected.as_slice()
-    );
-    Ok(())
+    have_texts(&rt, &plan, &RUN, expected)
 }
 
 static SMALLEST: [Line; 26] = [
@@ -219,11 +231,7 @@ fn the_smallest_of_each_event(rt: HostRuntime) -> Result<(), Fail> {
 0 timer.a pm_timer: a arm 0 plain
 0 timer.a pm_timer: a fire auto
 ";
-    assert_eq!(rt;
-        texts(rt.alloc(), &plan, &SMALLEST)?.as_slice(),
-        expected.as_slice()
-    );
-    Ok(())
+    have_texts(&rt, &plan, &SMALLEST, expected)
 }
 
 static LARGEST: [Line; 20] = [
@@ -274,11 +282,7 @@ fn the_largest_of_each_event(rt: HostRuntime) -> Result<(), Fail> {
 9223372036854775807 timer.0000:00:14.0_abcdefghijklmnopqrs pm_timer: 0000:00:14.0_abcdefghijklmnopqrs arm 18446744073709551615 auto
 9223372036854775807 timer.0000:00:14.0_abcdefghijklmnopqrs pm_timer: 0000:00:14.0_abcdefghijklmnopqrs fire plain
 ";
-    assert_eq!(rt;
-        texts(rt.alloc(), &plan, &LARGEST)?.as_slice(),
-        expected.as_slice()
-    );
-    Ok(())
+    have_texts(&rt, &plan, &LARGEST, expected)
 }
 
 static TIMED: [Line; 8] = [
@@ -318,23 +322,32 @@ static LONGEST: Line =
 static LONGEST_SHORT: Line =
     traced!(9223372036854775807 Timer 1 Suspend dev: B, fields: Fields { flags: 15, cnt: 999999, dep: 999999, auto_on: true, pending: true, child: 1024 });
 
-#[test]
-fn the_longest_lines(rt: HostRuntime) -> Result<(), Fail> {
-    let plan = plan(rt.alloc())?;
-    let mut text = Vec::with_capacity(rt.alloc(), LINE_BYTES)?;
-    write_line(rt.alloc(), &plan, &LONGEST_SHORT, &mut text)?;
-    assert_eq!(rt; text.len(), 162);
-    assert_eq!(rt; text.capacity(), 162);
+// The lengths of the texts of both lines, and the capacity that the shorter takes.
+fn longest(alloc: Global, plan: &Plan) -> Result<[usize; 3], NoMemory>
+    requires devices { length plan.now.devices ≡ 2 }
+    requires callers { length plan.now.callers ≡ 2 }
+{
+    let mut text = Vec::with_capacity(alloc, LINE_BYTES)?;
+    write_line(alloc, plan, &LONGEST_SHORT, &mut text)?;
+    let (short, capacity) = (text.len(), text.capacity());
     text.clear();
-    write_line(rt.alloc(), &plan, &LONGEST, &mut text)?;
-    assert_eq!(rt; text.len(), 177);
-    Ok(())
+    write_line(alloc, plan, &LONGEST, &mut text)?;
+    Ok([short, capacity, text.len()])
 }
 
 #[test]
-fn a_speller_spells_in_place(rt: HostRuntime) -> Result<(), Fail> {
+fn the_longest_lines(rt: HostRuntime) -> Result<(), Fail> {
     let plan = plan(rt.alloc())?;
-    let speller = LineSpeller::new(rt.alloc(), &plan)?;
+    let lengths = longest(rt.alloc(), &plan)?;
+    assert_eq!(rt; lengths, [162, 162, 177]);
+    Ok(())
+}
+
+fn speller_spells(rt: &(impl Abort + AllocGlobal), plan: &Plan) -> Result<(), Fail>
+    requires devices { length plan.now.devices ≡ 2 }
+    requires callers { length plan.now.callers ≡ 2 }
+{
+    let speller = LineSpeller::new(rt.alloc(), plan)?;
     let mut text = LineText::new();
     speller.spell_line(&LONGEST, &mut text);
     assert_eq!(rt; text.as_slice().len(), 178);
@@ -347,12 +360,19 @@ fn a_speller_spells_in_place(rt: HostRuntime) -> Result<(), Fail> {
 }
 
 #[test]
-fn names_at_hand_spell_in_place(rt: HostRuntime) -> Result<(), Fail> {
+fn a_speller_spells_in_place(rt: HostRuntime) -> Result<(), Fail> {
     let plan = plan(rt.alloc())?;
-    let names = NamesAtHand::new(rt.alloc(), &plan)?;
+    speller_spells(&rt, &plan)
+}
+
+fn names_spell(rt: &(impl Abort + AllocGlobal), plan: &Plan) -> Result<(), Fail>
+    requires devices { length plan.now.devices ≡ 2 }
+    requires callers { length plan.now.callers ≡ 2 }
+{
+    let names = NamesAtHand::new(rt.alloc(), plan)?;
     let mut text = LineText::new();
     names.spell(LONGEST.time, &LONGEST, &mut text);
-    assert_eq!(rt; text.as_slice().len(), 177);
+    let longest = text.as_slice().len();
     names.spell(10, &TIMED[4], &mut text);
     assert_eq!(rt;
         text.as_slice(),
@@ -363,25 +383,56 @@ fn names_at_hand_spell_in_place(rt: HostRuntime) -> Result<(), Fail> {
         text.as_slice(),
         b"1 timer.a pm_timer: a fire auto".as_slice()
     );
+    assert_eq!(rt; longest, 177);
     Ok(())
 }
 
 #[test]
+fn names_at_hand_spell_in_place(rt: HostRuntime) -> Result<(), Fail> {
+    let plan = plan(rt.alloc())?;
+    names_spell(&rt, &plan)
+}
+
+fn helpers_are_named(rt: &impl Abort) {
+    assert_eq!(rt;
+        (helper_of(29), helper_of(34)),
+        (Some(Helper::SetAutosuspendDelay), None)
+    );
+    assert_eq!(rt;
+        (helper_named(b"put_sync"), helper_named(b"put_")),
+        (Some(Helper::PutSync), None)
+    );
+    assert_eq!(rt;
+        (
+            helper_place(Helper::LinkDel),
+            operand_of(Helper::LinkAdd),
+            takes_device(Helper::Delay)
+        ),
+        (33, Operand::Supplier, false)
+    );
+}
+
+#[test]
 fn words_name_what_stands_at_their_place(rt: HostRuntime) {
-    assert_eq!(rt; helper_of(29), Some(Helper::SetAutosuspendDelay));
-    assert_eq!(rt; helper_of(34), None);
-    assert_eq!(rt; helper_place(Helper::LinkDel), 33);
-    assert_eq!(rt; helper_named(b"put_sync"), Some(Helper::PutSync));
-    assert_eq!(rt; helper_named(b"put_"), None);
-    assert_eq!(rt; status_of(3), Some(Word::Deferred));
-    assert_eq!(rt; status_place(Word::ForcedSuspended), 5);
-    assert_eq!(rt; status_named(b"forced_active"), Some(Word::ForcedActive));
-    assert_eq!(rt; req_of(0), Some(Req::Nothing));
-    assert_eq!(rt; req_place(Req::Resume), 4);
-    assert_eq!(rt; req_named(b"none"), Some(Req::Nothing));
-    assert_eq!(rt; cb_of(2), Some(Cb::Resume));
-    assert_eq!(rt; cb_place(Cb::Suspend), 1);
-    assert_eq!(rt; cb_named(b"idle"), Some(Cb::Idle));
-    assert_eq!(rt; operand_of(Helper::LinkAdd), Operand::Supplier);
-    assert!(rt; !takes_device(Helper::Delay));
+    helpers_are_named(&rt);
+    assert_eq!(rt;
+        (status_of(3), req_of(0), cb_of(2)),
+        (Some(Word::Deferred), Some(Req::Nothing), Some(Cb::Resume))
+    );
+    assert_eq!(rt;
+        (
+            status_named(b"forced_active"),
+            req_named(b"none"),
+            cb_named(b"idle")
+        ),
+        (Some(Word::ForcedActive), Some(Req::Nothing), Some(Cb::Idle))
+    );
+    assert_eq!(rt;
+        (
+            status_place(Word::ForcedSuspended),
+            req_place(Req::Resume),
+            cb_place(Cb::Suspend)
+        ),
+        (5, 4, 1)
+    );
 }

@@ -136,89 +136,141 @@ impl Moments {
 #[cfg(test)]
 mod tests {
     use super::*;
+    use std::process::Abort;
     use std::test::Fail;
+
+    // A place and the moment that it gets, and the least moment and the first one after that.
+    type Set = (usize, Option<u64>, Option<u64>, Option<(u64, usize)>);
+
+    // The tables are walked by functions that own nothing, so that the proofs of the tests stay small.
+    fn set_all(rt: &impl Abort, moments: &mut Moments, sets: &[Set]) {
+        for (place, moment, least, first) in sets {
+            assert!(rt; *place < moments.places);
+            moments.set(*place, *moment);
+            assert_eq!(rt;
+                (moments.get(*place), moments.least(), moments.first()),
+                (*moment, *least, *first),
+                "place {place}, moment {moment:?}"
+            );
+        }
+    }
+
+    // A place, a bound, and the first place from there on that is due by the bound.
+    type Due = (usize, u64, Option<usize>);
+
+    fn are_due(rt: &impl Abort, moments: &Moments, dues: &[Due]) {
+        for (from, bound, want) in dues {
+            assert!(rt; *from <= moments.places);
+            assert_eq!(rt;
+                moments.first_within(*from, *bound),
+                *want,
+                "from {from}, bound {bound}"
+            );
+        }
+    }
+
+    // How many places there are, the moment of the first of them, and the first moment of all.
+    fn sees(moments: &Moments) -> (usize, Option<u64>, Option<u64>, Option<(u64, usize)>) {
+        let at_first = if 0 < moments.places {
+            moments.get(0)
+        } else {
+            None
+        };
+        (moments.places, at_first, moments.least(), moments.first())
+    }
+
+    static SETS: [Set; 5] = [
+        (3, Some(7), Some(7), Some((7, 3))),
+        (4, Some(7), Some(7), Some((7, 3))),
+        (1, Some(9), Some(7), Some((7, 3))),
+        (3, Some(12), Some(7), Some((7, 4))),
+        (4, None, Some(9), Some((9, 1))),
+    ];
 
     #[test]
     fn the_least_moment_comes_first_and_then_the_least_place(rt: HostRuntime) -> Result<(), Fail> {
         let mut moments = Moments::new(rt.alloc(), 5)?;
-        assert!(rt; moments.places == 5);
-        assert_eq!(rt; moments.least(), None);
-        assert_eq!(rt; moments.first(), None);
-        moments.set(3, Some(7));
-        moments.set(4, Some(7));
-        moments.set(1, Some(9));
-        assert_eq!(rt; moments.get(4), Some(7));
-        assert_eq!(rt; moments.get(0), None);
-        assert_eq!(rt; moments.least(), Some(7));
-        assert_eq!(rt; moments.first(), Some((7, 3)));
-        moments.set(3, Some(12));
-        assert_eq!(rt; moments.first(), Some((7, 4)));
-        moments.set(4, None);
-        assert_eq!(rt; moments.first(), Some((9, 1)));
+        let before = sees(&moments);
+        set_all(&rt, &mut moments, &SETS);
+        assert_eq!(rt;
+            (before, sees(&moments)),
+            ((5, None, None, None), (5, None, Some(9), Some((9, 1))))
+        );
         Ok(())
     }
+
+    static DUE_SETS: [Set; 3] = [
+        (1, Some(4), Some(4), Some((4, 1))),
+        (2, Some(0), Some(0), Some((0, 2))),
+        (5, Some(4), Some(0), Some((0, 2))),
+    ];
+
+    static DUES: [Due; 8] = [
+        (0, 3, Some(2)),
+        (0, 4, Some(1)),
+        (1, 4, Some(1)),
+        (2, 4, Some(2)),
+        (3, 4, Some(5)),
+        (3, 3, None),
+        (5, u64::MAX, Some(5)),
+        (6, u64::MAX, None),
+    ];
 
     #[test]
     fn the_first_place_that_is_due_at_or_after_another(rt: HostRuntime) -> Result<(), Fail> {
         let mut moments = Moments::new(rt.alloc(), 6)?;
-        assert!(rt; moments.places == 6);
-        moments.set(1, Some(4));
-        moments.set(2, Some(0));
-        moments.set(5, Some(4));
-        for (from, bound, want) in [
-            (0, 3, Some(2)),
-            (0, 4, Some(1)),
-            (1, 4, Some(1)),
-            (2, 4, Some(2)),
-            (3, 4, Some(5)),
-            (3, 3, None),
-            (5, u64::MAX, Some(5)),
-            (6, u64::MAX, None),
-        ] {
-            assert!(rt; from <= 6);
-            assert_eq!(rt;
-                moments.first_within(from, bound),
-                want,
-                "from {from}, bound {bound}"
-            );
-        }
+        set_all(&rt, &mut moments, &DUE_SETS);
+        are_due(&rt, &moments, &DUES);
+        assert_eq!(rt; moments.places, 6);
         Ok(())
     }
 
     #[test]
     fn the_greatest_moment_and_0(rt: HostRuntime) -> Result<(), Fail> {
         let mut moments = Moments::new(rt.alloc(), 100)?;
-        assert!(rt; moments.places == 100);
-        moments.set(70, Some(u64::MAX));
-        assert_eq!(rt; moments.get(70), Some(u64::MAX));
-        assert_eq!(rt; moments.first_within(0, u64::MAX - 1), None);
-        assert_eq!(rt; moments.first_within(70, u64::MAX), Some(70));
-        assert_eq!(rt; moments.first(), Some((u64::MAX, 70)));
-        moments.set(80, Some(0));
-        moments.set(80, Some(0));
-        assert_eq!(rt; moments.first_within(0, u64::MAX), Some(70));
-        assert_eq!(rt; moments.first_within(71, 0), Some(80));
-        assert_eq!(rt; moments.first(), Some((0, 80)));
-        moments.set(80, None);
-        moments.set(70, Some(0));
-        assert_eq!(rt; moments.first(), Some((0, 70)));
-        assert_eq!(rt; moments.first_within(71, u64::MAX), None);
+        set_all(
+            &rt,
+            &mut moments,
+            &[(70, Some(u64::MAX), Some(u64::MAX), Some((u64::MAX, 70)))],
+        );
+        are_due(
+            &rt,
+            &moments,
+            &[(0, u64::MAX - 1, None), (70, u64::MAX, Some(70))],
+        );
+        set_all(
+            &rt,
+            &mut moments,
+            &[(80, Some(0), Some(0), Some((0, 80))); 2],
+        );
+        are_due(&rt, &moments, &[(0, u64::MAX, Some(70)), (71, 0, Some(80))]);
+        set_all(
+            &rt,
+            &mut moments,
+            &[
+                (80, None, Some(u64::MAX), Some((u64::MAX, 70))),
+                (70, Some(0), Some(0), Some((0, 70))),
+            ],
+        );
+        are_due(&rt, &moments, &[(71, u64::MAX, None)]);
+        assert_eq!(rt; moments.places, 100);
         Ok(())
+    }
+
+    // The same of no place at all.
+    fn sees_none(rt: &impl Abort, moments: &Moments) {
+        assert_eq!(rt; sees(moments), (0, None, None, None));
+        are_due(rt, moments, &[(0, u64::MAX, None)]);
     }
 
     #[test]
     fn no_place_and_one_place(rt: HostRuntime) -> Result<(), Fail> {
-        let none = Moments::new(rt.alloc(), 0)?;
-        assert!(rt; none.places == 0);
-        assert_eq!(rt; none.first(), None);
-        assert_eq!(rt; none.first_within(0, u64::MAX), None);
+        sees_none(&rt, &Moments::new(rt.alloc(), 0)?);
         let mut one = Moments::new(rt.alloc(), 1)?;
-        assert!(rt; one.places == 1);
-        one.set(0, Some(0));
-        assert_eq!(rt; one.first(), Some((0, 0)));
-        assert_eq!(rt; one.first_within(1, 0), None);
-        one.set(0, None);
-        assert_eq!(rt; one.first(), None);
+        set_all(&rt, &mut one, &[(0, Some(0), Some(0), Some((0, 0)))]);
+        are_due(&rt, &one, &[(1, 0, None)]);
+        set_all(&rt, &mut one, &[(0, None, None, None)]);
+        assert_eq!(rt; one.places, 1);
         Ok(())
     }
 }

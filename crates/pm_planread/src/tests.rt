@@ -2,16 +2,25 @@
 
 use super::*;
 use pm_base::{DevId, DomId};
-use pm_model::{Command, Helper, LinkRow, Plan};
+use pm_model::{Command, DeviceRow, DomainRow, Helper, LinkRow, Plan};
 use std::alloc::Global;
 use std::process::Abort;
 use std::test::Fail;
 
-// What is said of a text: `ok`, or the message of its fault.
-fn answer(alloc: Global, text: &[u8]) -> Result<Vec<u8>, Fail> {
+// The fault of a text, if it has one. It alone owns a plan, and the helpers that follow a text, so that
+// the proofs of the tests stay small.
+fn fault_of(alloc: Global, text: &[u8]) -> Option<PlanFault> {
     match read_plan(alloc, text) {
-        Ok(_plan) => Ok(Vec::from_slice(alloc, b"ok")?),
-        Err(fault) => Ok(Vec::from_slice(alloc, fault.message().as_slice())?),
+        Ok(_plan) => None,
+        Err(fault) => Some(fault),
+    }
+}
+
+// Whether this is said of a text: `ok`, or the message of its fault.
+fn is_said(fault: Option<PlanFault>, wanted: &str) -> bool {
+    match fault {
+        Some(fault) => fault.message().as_slice() == wanted.as_bytes(),
+        None => wanted == "ok",
     }
 }
 
@@ -24,15 +33,6 @@ fn plan(alloc: Global, text: &str) -> Result<Plan, Fail> {
 }
 
 const DEVICES: &str = "[[device]]\nname = \"a\"\n[[device]]\nname = \"b\"\n";
-
-// Each text is answered so.
-fn answered(rt: &(impl Abort + AllocGlobal), cases: &[(&str, &str)]) -> Result<(), Fail> {
-    for (text, wanted) in cases {
-        let said = answer(rt.alloc(), text.as_bytes())?;
-        assert_eq!(rt; said.as_slice(), wanted.as_bytes(), "{text:?}");
-    }
-    Ok(())
-}
 
 static REFUSALS: [(&str, &str); 39] = [
     ("[[device", "plan: not_toml top 0 0\n"),
@@ -144,11 +144,12 @@ static REFUSALS: [(&str, &str); 39] = [
 
 #[test]
 fn refusals_have_their_places(rt: HostRuntime) -> Result<(), Fail> {
-    answered(&rt, &REFUSALS)?;
-    assert_eq!(rt;
-        answer(rt.alloc(), b"\xff")?.as_slice(),
-        b"plan: not_toml top 0 0\n".as_slice()
-    );
+    for (text, wanted) in &REFUSALS {
+        let fault = fault_of(rt.alloc(), text.as_bytes());
+        assert!(rt; is_said(fault, wanted), "{text:?}: {fault:?}");
+    }
+    let fault = fault_of(rt.alloc(), b"\xff");
+    assert!(rt; is_said(fault, "plan: not_toml top 0 0\n"), "{fault:?}");
     Ok(())
 }
 
@@ -183,17 +184,19 @@ static LINKS: [(&str, &str); 7] = [
     ),
 ];
 
+// The fault of the devices with these links.
+fn links_fault(alloc: Global, links: &str) -> Result<Option<PlanFault>, Fail> {
+    let text = format!(in alloc;
+        "{DEVICES}[[device]]\nname = \"k\"\nno_callbacks = true\n{links}"
+    )?;
+    Ok(fault_of(alloc, text.as_bytes()))
+}
+
 #[test]
 fn links_are_looked_at_last(rt: HostRuntime) -> Result<(), Fail> {
     for (links, wanted) in &LINKS {
-        let text = format!(in rt.alloc();
-            "{DEVICES}[[device]]\nname = \"k\"\nno_callbacks = true\n{links}"
-        )?;
-        assert_eq!(rt;
-            answer(rt.alloc(), text.as_bytes())?.as_slice(),
-            wanted.as_bytes(),
-            "{links:?}"
-        );
+        let fault = links_fault(rt.alloc(), links)?;
+        assert!(rt; is_said(fault, wanted), "{links:?}: {fault:?}");
     }
     Ok(())
 }
@@ -207,33 +210,39 @@ fn tables(alloc: Global, section: &str, count: u32) -> Result<String, Fail> {
     Ok(text)
 }
 
-#[test]
-fn limits_are_kept(rt: HostRuntime) -> Result<(), Fail> {
-    let cases = [
-        ("domain", 128, "ok"),
-        ("domain", 129, "plan: too_many domain 128 0\n"),
-        ("device", 1024, "ok"),
-        ("device", 1026, "plan: too_many device 1024 0\n"),
-        ("caller", 16, "ok"),
-        ("caller", 17, "plan: too_many caller 16 0\n"),
-    ];
-    for (section, count, wanted) in cases {
-        let text = tables(rt.alloc(), section, count)?;
-        assert_eq!(rt;
-            answer(rt.alloc(), text.as_bytes())?.as_slice(),
-            wanted.as_bytes(),
-            "{section} {count}"
-        );
-    }
-    let mut codes = String::from_str(rt.alloc(), "[[device]]\nname = \"\"\nresume = [0")?;
+fn tables_fault(alloc: Global, section: &str, count: u32) -> Result<Option<PlanFault>, Fail> {
+    let text = tables(alloc, section, count)?;
+    Ok(fault_of(alloc, text.as_bytes()))
+}
+
+// The fault of a device with 65 codes.
+fn codes_fault(alloc: Global) -> Result<Option<PlanFault>, Fail> {
+    let mut codes = String::from_str(alloc, "[[device]]\nname = \"\"\nresume = [0")?;
     for _ in 0..64 {
         codes.push_str(",0")?;
     }
     codes.push_str("]\n")?;
-    assert_eq!(rt;
-        answer(rt.alloc(), codes.as_bytes())?.as_slice(),
-        b"plan: too_many device 0 64\n".as_slice()
-    );
+    Ok(fault_of(alloc, codes.as_bytes()))
+}
+
+// What is said of so many tables of a section.
+static COUNTS: [(&str, u32, &str); 6] = [
+    ("domain", 128, "ok"),
+    ("domain", 129, "plan: too_many domain 128 0\n"),
+    ("device", 1024, "ok"),
+    ("device", 1026, "plan: too_many device 1024 0\n"),
+    ("caller", 16, "ok"),
+    ("caller", 17, "plan: too_many caller 16 0\n"),
+];
+
+#[test]
+fn limits_are_kept(rt: HostRuntime) -> Result<(), Fail> {
+    for (section, count, wanted) in &COUNTS {
+        let fault = tables_fault(rt.alloc(), section, *count)?;
+        assert!(rt; is_said(fault, wanted), "{section} {count}: {fault:?}");
+    }
+    let fault = codes_fault(rt.alloc())?;
+    assert!(rt; is_said(fault, "plan: too_many device 0 64\n"), "{fault:?}");
     Ok(())
 }
 
@@ -245,15 +254,16 @@ static LENGTHS: [(usize, u8, &str); 4] = [
     (1_048_577, b'[', "plan: too_long top 0 0\n"),
 ];
 
+fn bytes_fault(alloc: Global, len: usize, byte: u8) -> Result<Option<PlanFault>, Fail> {
+    let text = vec![in alloc; byte; len]?;
+    Ok(fault_of(alloc, text.as_slice()))
+}
+
 #[test]
 fn length_is_looked_at_first(rt: HostRuntime) -> Result<(), Fail> {
     for (len, byte, wanted) in &LENGTHS {
-        let text = vec![in rt.alloc(); *byte; *len]?;
-        assert_eq!(rt;
-            answer(rt.alloc(), text.as_slice())?.as_slice(),
-            wanted.as_bytes(),
-            "{len}"
-        );
+        let fault = bytes_fault(rt.alloc(), *len, *byte)?;
+        assert!(rt; is_said(fault, wanted), "{len}: {fault:?}");
     }
     Ok(())
 }
@@ -276,34 +286,38 @@ fn faults_have_messages(rt: HostRuntime) {
     );
 }
 
-#[test]
-fn a_plan_is_what_its_text_says(rt: HostRuntime) -> Result<(), Fail> {
-    let text =
-        "lines = 7\ntrace = 2\n[[domain]]\nname = \"m\"\n[[domain]]\nname = \"n\"\nparent = \"m\"\nalways_on = true\n\
-        [[device]]\nname = \"a\"\ndomain = \"n\"\nbusy = true\nidle = []\n\
-        [[device]]\nname = \"b\"\nparent = \"a\"\nsuspend = [-16, 0]\nresume_ms = 1000000\n\
-        [[link]]\nconsumer = \"b\"\nsupplier = \"a\"\n\
-        [[caller]]\nname = \"c\"\nscript = [\" set_autosuspend_delay  b -5\", \"link_add b a\"]\n";
-    let plan = plan(rt.alloc(), text)?;
-    assert_eq!(rt; (plan.lines, plan.trace), (7, 2));
-    let domain = plan.domains.get(1).ok_or("a domain")?;
-    assert_eq!(rt; (domain.parent, domain.always_on), (Some(DomId(0)), true));
-    let a = plan.devices.get(0).ok_or("a device")?;
-    assert_eq!(rt; (a.parent, a.domain, a.busy), (None, Some(DomId(1)), true));
-    assert!(rt; a.idle.is_some());
-    let b = plan.devices.get(1).ok_or("a device")?;
-    assert_eq!(rt; (b.parent, b.domain, b.busy), (Some(DevId(0)), None, false));
-    assert!(rt; b.idle.is_none());
-    assert_eq!(rt; b.suspend.as_slice(), [-16, 0].as_slice());
-    assert_eq!(rt; (b.suspend_ms, b.resume_ms), (0, 1_000_000));
-    let link = LinkRow {
-        consumer: DevId(1),
-        supplier: DevId(0),
-        pm_runtime: true,
-        later: false,
-    };
-    assert_eq!(rt; plan.links.as_slice(), [link].as_slice());
-    let caller = plan.callers.get(0).ok_or("a caller")?;
+const WHOLE: &str =
+    "lines = 7\ntrace = 2\n[[domain]]\nname = \"m\"\n[[domain]]\nname = \"n\"\nparent = \"m\"\nalways_on = true\n\
+    [[device]]\nname = \"a\"\ndomain = \"n\"\nbusy = true\nidle = []\n\
+    [[device]]\nname = \"b\"\nparent = \"a\"\nsuspend = [-16, 0]\nresume_ms = 1000000\n\
+    [[link]]\nconsumer = \"b\"\nsupplier = \"a\"\n\
+    [[caller]]\nname = \"c\"\nscript = [\" set_autosuspend_delay  b -5\", \"link_add b a\"]\n";
+
+fn is_second_domain(rt: &impl Abort, row: &DomainRow) {
+    assert_eq!(rt; (row.parent, row.always_on), (Some(DomId(0)), true));
+}
+
+fn is_first_device(rt: &impl Abort, row: &DeviceRow) {
+    assert_eq!(rt;
+        (row.parent, row.domain, row.busy),
+        (None, Some(DomId(1)), true)
+    );
+    assert!(rt; row.idle.is_some());
+}
+
+fn is_second_device(rt: &impl Abort, row: &DeviceRow) {
+    assert_eq!(rt;
+        (row.parent, row.domain, row.busy),
+        (Some(DevId(0)), None, false)
+    );
+    assert_eq!(rt;
+        (row.idle.is_some(), row.suspend_ms, row.resume_ms),
+        (false, 0, 1_000_000)
+    );
+    assert_eq!(rt; row.suspend.as_slice(), [-16, 0].as_slice());
+}
+
+fn is_script(rt: &impl Abort, script: &[Command]) {
     let commands = [
         Command {
             helper: Helper::SetAutosuspendDelay,
@@ -316,8 +330,30 @@ fn a_plan_is_what_its_text_says(rt: HostRuntime) -> Result<(), Fail> {
             number: 0,
         },
     ];
-    assert_eq!(rt; caller.script.as_slice(), commands.as_slice());
+    assert_eq!(rt; script, commands.as_slice());
+}
+
+fn has_rows(rt: &impl Abort, plan: &Plan) -> Result<(), Fail> {
+    is_second_domain(rt, plan.domains.get(1).ok_or("a domain")?);
+    is_first_device(rt, plan.devices.get(0).ok_or("a device")?);
+    is_second_device(rt, plan.devices.get(1).ok_or("a device")?);
+    let link = LinkRow {
+        consumer: DevId(1),
+        supplier: DevId(0),
+        pm_runtime: true,
+        later: false,
+    };
+    assert_eq!(rt; plan.links.as_slice(), [link].as_slice());
+    let caller = plan.callers.get(0).ok_or("a caller")?;
+    is_script(rt, caller.script.as_slice());
     Ok(())
+}
+
+#[test]
+fn a_plan_is_what_its_text_says(rt: HostRuntime) -> Result<(), Fail> {
+    let plan = plan(rt.alloc(), WHOLE)?;
+    assert_eq!(rt; (plan.lines, plan.trace), (7, 2));
+    has_rows(&rt, &plan)
 }
 
 // Each start of a text is read or refused: how many are read, are no TOML, and are refused otherwise.
@@ -328,9 +364,9 @@ fn a_plan_that_is_cut_off(rt: HostRuntime) -> Result<(), Fail> {
     let mut counts = [0u32; 3];
     for end in 0..=text.len() {
         let (start, _) = text.split_at(end);
-        match read_plan(rt.alloc(), start) {
-            Ok(_plan) => counts[0] = counts[0].wrapping_add(1),
-            Err(
+        match fault_of(rt.alloc(), start) {
+            None => counts[0] = counts[0].wrapping_add(1),
+            Some(
                 PlanFault::Refused {
                     why: PlanWhy::NotToml,
                     ..
@@ -338,8 +374,8 @@ fn a_plan_that_is_cut_off(rt: HostRuntime) -> Result<(), Fail> {
             ) => {
                 counts[1] = counts[1].wrapping_add(1);
             }
-            Err(PlanFault::Refused { .. }) => counts[2] = counts[2].wrapping_add(1),
-            Err(PlanFault::NoMemory) => return Err("memory".into()),
+            Some(PlanFault::Refused { .. }) => counts[2] = counts[2].wrapping_add(1),
+            Some(PlanFault::NoMemory) => return Err("memory".into()),
         }
     }
     assert_eq!(rt; counts, [7, 86, 4]);
