@@ -1,4 +1,5 @@
 pub mod Lines
+pub mod Offers
 pub mod Newlines
 pub mod Taking
 pub mod Telling

@@ -14,7 +14,7 @@ use Rattle.pm_judge.specs.Judging.{JudgeStandsFor, Judged}
 use Rattle.pm_audit.specs.Auditing.{IsRead}
 
 -- a line of a plan is by an actor of it, at a time below 2^63
-is_actor : (plan : Plan) (actor : ActorId) → is_actor_of (length plan.devices) (length plan.callers) actor ≡ true → IsActor plan actor
+pub is_actor : (plan : Plan) (actor : ActorId) → is_actor_of (length plan.devices) (length plan.callers) actor ≡ true → IsActor plan actor
 is_actor plan (Caller c) is = ltb-true c (length plan.callers) is
 is_actor plan (Work d) is = ltb-true d (length plan.devices) is
 is_actor plan (Timer d) is = ltb-true d (length plan.devices) is

@@ -14,7 +14,7 @@ use Rattle.pm_texts.proofs.Behind.{cut_behind, format_kept, no_header}
 use Rattle.pm_texts.proofs.Bytes.{append_none}
 use Rattle.pm_texts.proofs.WhyBad.{reason_first}
 use Rattle.pm_judge.specs.Judging.{JudgeStandsFor}
-use Rattle.pm_audit.specs.Auditing.{AuditorStandsFor, IsGood, IsGoodSoFar, IsRest, IsTaken, IsToldBy, SaysOf, reason_of, rest_with}
+use Rattle.pm_audit.specs.Auditing.{AuditorStandsFor, HasRead, IsGood, IsGoodSoFar, IsRest, IsTaken, IsToldBy, SaysOf, reason_of, rest_with}
 use Rattle.pm_audit.specs.declared.auditor.Auditor.{Auditor}
 use Rattle.pm_audit.specs.declared.auditor.BadLine.{BadLine}
 use Rattle.pm_audit.specs.declared.reading.Format.{Format}
@@ -184,22 +184,20 @@ starts a none empty untold judged =
     })
 
 -- a piece is read line by line: so much of it is done
-pub record HasRead (piece left : List ℕ) (old new : Auditor) : Type 0 where
-  pub done : List ℕ
-  pub split : piece ≡ done ++ left
-  pub stands : (b : List ℕ) → AuditorStandsFor old b → AuditorStandsFor new (b ++ done)
-  pub plan : new.judge.plan ≡ old.judge.plan
-
 pub reads_none : (piece : List ℕ) (a : Auditor) → HasRead piece piece a a
 reads_none piece a = record { done = []; split = refl; stands = λ b says. subst (λ (x : List ℕ). AuditorStandsFor a x) (sym (append_none b)) says; plan = refl }
 
-pub reads_line : (piece left line left' : List ℕ) (old mid new : Auditor) → HasRead piece left old mid → left ≡ line ++ (10 ∷ left')
-    → ((b : List ℕ) → AuditorStandsFor mid b → AuditorStandsFor new (b ++ (line ++ newline))) → new.judge.plan ≡ mid.judge.plan → HasRead piece left' old new
-reads_line piece left line left' old mid new has is ends plan = record {
-  done = has.done ++ (line ++ newline);
-  split = has.split ∙ (ap (λ x. has.done ++ x) (is ∙ sym (append_assoc line newline left')) ∙ sym (append_assoc has.done (line ++ newline) left'));
-  stands = λ b says. subst (λ (x : List ℕ). AuditorStandsFor new x) (append_assoc b has.done (line ++ newline)) (ends (b ++ has.done) (has.stands b says));
-  plan = plan ∙ has.plan;
+-- a line, of this piece and a newline
+pub reads_line : (left line left' : List ℕ) (old new : Auditor) → left ≡ line ++ (10 ∷ left') → ((b : List ℕ) → AuditorStandsFor old b → AuditorStandsFor new (b ++ (line ++ newline)))
+    → new.judge.plan ≡ old.judge.plan → HasRead left left' old new
+reads_line left line left' old new is ends plan = record { done = line ++ newline; split = is ∙ sym (append_assoc line newline left'); stands = ends; plan = plan }
+
+pub reads_on : (piece left left' : List ℕ) (old mid new : Auditor) → HasRead piece left old mid → HasRead left left' mid new → HasRead piece left' old new
+reads_on piece left left' old mid new has more = record {
+  done = has.done ++ more.done;
+  split = has.split ∙ (ap (λ x. has.done ++ x) more.split ∙ sym (append_assoc has.done more.done left'));
+  stands = λ b says. subst (λ (x : List ℕ). AuditorStandsFor new x) (append_assoc b has.done more.done) (more.stands (b ++ has.done) (has.stands b says));
+  plan = more.plan ∙ has.plan;
 }
 
 pub reads_all : (piece left : List ℕ) (old mid new : Auditor) → HasRead piece left old mid → ((b : List ℕ) → AuditorStandsFor mid b → AuditorStandsFor new (b ++ left))

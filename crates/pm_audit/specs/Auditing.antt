@@ -97,3 +97,10 @@ SaysOf a (Some bad) bytes = (more : List ℕ) → IsWhy a.judge.plan (bytes ++ m
 -- or the first bad line of them is the one that it found, for that reason, whatever bytes follow.
 abbrev pub AuditorStandsFor : Auditor → List ℕ → Type 0
 AuditorStandsFor a bytes = SaysOf a a.bad bytes
+
+-- an auditor was fed a piece up to what is left of it
+pub record HasRead (piece left : List ℕ) (old new : Auditor) : Type 0 where
+  pub done : List ℕ
+  pub split : piece ≡ done ++ left
+  pub stands : (b : List ℕ) → AuditorStandsFor old b → AuditorStandsFor new (b ++ done)
+  pub plan : new.judge.plan ≡ old.judge.plan

@@ -1,2 +1,3 @@
 pub mod Auditing
 pub mod Loading
+pub mod Offers

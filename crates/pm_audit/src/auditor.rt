@@ -1,7 +1,7 @@
 //! The auditor.
 
-ghost use Rattle.std.specs.Prelude.{◌≡◌, ◌++◌, [], List, ℕ, IfErr, IfOk, None, true};
-ghost use Rattle.pm_audit.specs.Auditing.{AuditorStandsFor, verdict_of};
+ghost use Rattle.std.specs.Prelude.{◌≡◌, ◌<◌, ◌++◌, [], List, ℕ, IfErr, IfNone, IfOk, IfSome, None, length, true};
+ghost use Rattle.pm_audit.specs.Auditing.{AuditorStandsFor, HasRead, verdict_of};
 ghost use Rattle.pm_model.specs.NoWhy.{is_within_line};
 ghost use Rattle.pm_model.specs.Spelling.{newline};
 ghost use Rattle.pm_model.specs.Verdict.{IsVerdict};
@@ -108,6 +108,40 @@ impl Auditor {
         self.rest.push(piece);
     }
 
+    // The bytes go on with the first line of these and its newline, where no line before is bad or cut, and
+    // the line is found by its time and its actor. Gives what is behind.
+    fn take_offered<'a>(&mut self, bytes: &'a [u8]) -> Option<&'a [u8]>
+        ensures read { IfSome result (λ behind. HasRead bytes.now behind.now self.old self.new) }
+        ensures shorter { IfSome result (λ behind. length behind.now < length bytes.now) }
+        ensures left { IfNone result (self.new ≡ self.old) }
+    {
+        if self.bad.is_some() || !self.rest.is_empty() {
+            return None;
+        }
+        let is_format2 = match self.format {
+            Format::Untold => return None,
+            Format::One => false,
+            Format::Two => true,
+        };
+        self.judge.take_offered(is_format2, bytes)
+    }
+
+    // The bytes go on with the first line of these and its newline, if there is one. Gives what is behind.
+    fn take_first<'a>(&mut self, bytes: &'a [u8]) -> Option<&'a [u8]>
+        ensures read { IfSome result (λ behind. HasRead bytes.now behind.now self.old self.new) }
+        ensures shorter { IfSome result (λ behind. length behind.now < length bytes.now) }
+        ensures none { IfNone result (is_within_line bytes.now ≡ true) }
+        ensures left { IfNone result (self.new ≡ self.old) }
+    {
+        if let Some(behind) = self.take_offered(bytes) {
+            return Some(behind);
+        }
+        let at = bytes.find_byte(b'\n')?;
+        let (line, behind) = bytes.split_at(at);
+        self.end_line(line);
+        Some(behind.split_at(1).1)
+    }
+
     /// The bytes go on with this piece. It takes no memory.
     pub fn feed(&mut self, piece: &[u8])
         ensures stands { (b : List ℕ) → AuditorStandsFor self.old b → AuditorStandsFor self.new (b ++ piece.now) }
@@ -117,10 +151,8 @@ impl Auditor {
             return;
         }
         let mut left = piece;
-        'lines: while let Some(at) = left.find_byte(b'\n') {
-            let (line, behind) = left.split_at(at);
-            self.end_line(line);
-            left = behind.split_at(1).1;
+        'lines: while let Some(behind) = self.take_first(left) {
+            left = behind;
         }
         self.keep(left);
     }

@@ -5,6 +5,7 @@
 
 mod auditor;
 mod loading;
+mod offers;
 mod reader;
 mod reading;
 mod rest;

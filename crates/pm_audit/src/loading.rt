@@ -1,15 +1,18 @@
 //! Makes a book of a trace.
 
-ghost use Rattle.std.specs.Prelude.{◌≡◌, ◌+◌, ◌++◌, [], IfErr, IfNone, IfOk, IfSome, OnOk, false, length};
-ghost use Rattle.pm_audit.specs.Loading.{AreLoaded, HasTaken, IsLineFault, IsRefused};
+ghost use Rattle.std.specs.Prelude.{◌≡◌, ◌+◌, ◌<◌, ◌++◌, [], IfErr, IfNone, IfOk, IfSome, OnOk, false, length};
+ghost use Rattle.pm_audit.specs.Loading.{AreLoaded, HasTaken, IsFirstFault, IsLineFault, IsRefused};
+ghost use Rattle.pm_audit.specs.Offers.{HasTakenLine};
 ghost use Rattle.pm_model.specs.FirstBad.{StandsFor, is_format2};
 ghost use Rattle.pm_model.specs.Lawful.{IsLawful};
 ghost use Rattle.pm_model.specs.Spelling.{header};
+ghost use Rattle.pm_model.specs.Text.{names_of};
 
-use crate::reading::{HEADER, NoWhy, line_of};
+use crate::offers::PlanNames;
+use crate::reading::{HEADER, NoWhy};
 use bstr::ByteSlice;
+use pm_base::NoMemory;
 use pm_book::{Book, TakeFault};
-use pm_lineread::Finders;
 use pm_model::Plan;
 use std::alloc::Global;
 
@@ -37,11 +40,16 @@ fn bad_line(book: &Book, why: NoWhy) -> LoadFault
 }
 
 // Takes the line of the plan whose text this is, in format 2 where that is true, or says why it is bad.
-fn take(book: &mut Book, by: &Finders, is_format2: bool, text: &[u8]) -> Result<(), LoadFault>
+fn take(
+    book: &mut Book,
+    names: &PlanNames,
+    is_format2: bool,
+    text: &[u8],
+) -> Result<(), LoadFault>
     ensures ok { OnOk result (HasTaken is_format2 book.old.plan book.old.lines book.new text.now) }
     ensures err { IfErr result (λ fault. IsLineFault is_format2 book.old text.now fault) }
 {
-    let Some(line) = line_of(book.plan(), by, book.last_time(), is_format2, text) else {
+    let Some(line) = names.line_of(book.plan(), book.last_time(), is_format2, text) else {
         return Err(bad_line(book, NoWhy::Text));
     };
     match book.take_line(&line) {
@@ -53,6 +61,51 @@ fn take(book: &mut Book, by: &Finders, is_format2: bool, text: &[u8]) -> Result<
     }
 }
 
+// Takes the line that may come next with whose text, in format 2 where that is true, and newline the bytes
+// begin, where it is found by its time and its actor. Gives what is behind these.
+fn take_offered<'a>(
+    book: &mut Book,
+    names: &PlanNames,
+    is_format2: bool,
+    bytes: &'a [u8],
+) -> Result<Option<&'a [u8]>, NoMemory>
+    requires { names.now ≡ names_of book.old.plan }
+    ensures taken { IfOk result (λ found. IfSome found (λ behind. HasTakenLine is_format2 book.old book.new bytes.now behind.now)) }
+    ensures left { IfOk result (λ found. IfNone found (book.new ≡ book.old)) }
+{
+    let Some((offer, behind)) = names.offered(book, is_format2, bytes) else {
+        return Ok(None);
+    };
+    book.accept(&offer.line, offer.change, &offer.next)?;
+    Ok(Some(behind))
+}
+
+// Takes the first line of the bytes, in format 2 where that is true, or says why it is bad. Gives what is
+// behind its newline.
+fn take_first<'a>(
+    book: &mut Book,
+    names: &PlanNames,
+    is_format2: bool,
+    bytes: &'a [u8],
+) -> Result<&'a [u8], LoadFault>
+    requires { names.now ≡ names_of book.old.plan }
+    ensures ok { IfOk result (λ behind. HasTakenLine is_format2 book.old book.new bytes.now behind.now) }
+    ensures shorter { IfOk result (λ behind. length behind.now < length bytes.now) }
+    ensures err { IfErr result (λ fault. IsFirstFault is_format2 book.old bytes.now fault) }
+{
+    match take_offered(book, names, is_format2, bytes) {
+        Ok(Some(behind)) => return Ok(behind),
+        Ok(None) => {}
+        Err(_) => return Err(LoadFault::NoMemory),
+    }
+    let Some(at) = bytes.find_byte(b'\n') else {
+        return Err(bad_line(book, NoWhy::Cut));
+    };
+    let (text, behind) = bytes.split_at(at);
+    take(book, names, is_format2, text)?;
+    Ok(behind.split_at(1).1)
+}
+
 // The bytes behind the header, where there is one.
 fn behind_header(bytes: &[u8]) -> Option<&[u8]>
     ensures some { IfSome result (λ left. bytes.now ≡ header ++ left.now) }
@@ -62,8 +115,9 @@ fn behind_header(bytes: &[u8]) -> Option<&[u8]>
 }
 
 // Takes the lines of a trace, which a book without lines then has, or says why it can't.
-fn take_all(book: &mut Book, by: &Finders, bytes: &[u8]) -> Result<(), LoadFault>
-    requires { book.old.lines ≡ [] }
+fn take_all(book: &mut Book, names: &PlanNames, bytes: &[u8]) -> Result<(), LoadFault>
+    requires none { book.old.lines ≡ [] }
+    requires names { names.now ≡ names_of book.old.plan }
     ensures ok { OnOk result (AreLoaded book.old.plan bytes.now book.new) }
     ensures err { IfErr result (λ fault. IsRefused book.old.plan bytes.now fault) }
 {
@@ -71,15 +125,10 @@ fn take_all(book: &mut Book, by: &Finders, bytes: &[u8]) -> Result<(), LoadFault
         Some(lines) => (true, lines),
         None => (false, bytes),
     };
-    'lines: while let Some(at) = left.find_byte(b'\n') {
-        let (text, behind) = left.split_at(at);
-        take(book, by, is_format2, text)?;
-        left = behind.split_at(1).1;
+    'lines: while !left.is_empty() {
+        left = take_first(book, names, is_format2, left)?;
     }
-    if left.is_empty() {
-        return Ok(());
-    }
-    Err(bad_line(book, NoWhy::Cut))
+    Ok(())
 }
 
 /// The book of a plan whose lines these bytes are the text of, in either format. Where they are the text
@@ -90,12 +139,12 @@ pub fn load_trace(alloc: Global, plan: Plan, bytes: &[u8]) -> Result<Book, LoadF
     ensures stands { IfOk result (λ book. StandsFor plan bytes.now book.lines) }
     ensures refused { IfErr result (λ fault. IsRefused plan bytes.now fault) }
 {
-    let Ok(finders) = Finders::new(alloc, &plan) else {
+    let Ok(names) = PlanNames::new(alloc, &plan) else {
         return Err(LoadFault::NoMemory);
     };
     let Ok(mut book) = Book::start(alloc, plan) else {
         return Err(LoadFault::NoMemory);
     };
-    take_all(&mut book, &finders, bytes)?;
+    take_all(&mut book, &names, bytes)?;
     Ok(book)
 }

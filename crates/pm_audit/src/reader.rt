@@ -1,30 +1,26 @@
 //! A judge that reads lines.
 
-ghost use Rattle.std.specs.Prelude.{◌≡◌, ◌<◌, ◌≤◌, ◌^◌, [], List, IfErr, IfNone, IfOk, IfSome, IsFalse, IsTrue, None};
+ghost use Rattle.std.specs.Prelude.{◌≡◌, [], List, IfErr, IfNone, IfOk, IfSome};
 ghost use Rattle.pm_audit.specs.Auditing.{IsRead};
+ghost use Rattle.pm_audit.specs.Offers.{HasTakenFirst};
 ghost use Rattle.pm_judge.specs.Judging.{JudgeStandsFor};
-ghost use Rattle.pm_judge.specs.Sometime.{Writes};
 ghost use Rattle.pm_model.specs.declared.event.Line.{Line as ALine};
 ghost use Rattle.pm_model.specs.Lawful.{IsLawful, is_finished};
-ghost use Rattle.pm_model.specs.LineOf.{is_line_of};
-ghost use Rattle.pm_model.specs.Text.{IsTextBehind, names_of};
 ghost use Rattle.pm_model.specs.World.{world};
 
-use crate::reading::{NoWhy, line_of};
+use crate::offers::PlanNames;
+use crate::reading::NoWhy;
 use pm_base::NoMemory;
-use pm_judge::{Bad, Judge, Offer};
-use pm_lineread::{Finders, line_start};
-use pm_linetext::{LineText, NamesAtHand};
-use pm_model::{Line, Plan};
+use pm_judge::{Bad, Judge};
+use pm_model::Plan;
 use std::alloc::Global;
 use std::marker::Model;
 
-/// A judge with what finds the names of its plan and what spells them. Contracts see the judge.
+/// A judge with the names of its plan. Contracts see the judge.
 #[derive(Drop)]
 pub struct Reader {
     judge: Judge,
-    finders: Finders,
-    names: NamesAtHand,
+    names: PlanNames,
 }
 
 impl Model for Reader {
@@ -39,15 +35,6 @@ impl Model for Reader {
     ghost invariant = { λ r. r.names ≡ names_of r.judge.plan };
 }
 
-/// What finds and what spells the names of a plan. Fails where memory runs out.
-fn names_of(alloc: Global, plan: &Plan) -> Result<(Finders, NamesAtHand), NoMemory>
-    ensures { IfOk result (λ pair. pair.1 ≡ names_of plan.now) }
-{
-    let finders = Finders::new(alloc, plan)?;
-    let names = NamesAtHand::new(alloc, plan)?;
-    Ok((finders, names))
-}
-
 impl Reader {
     /// A judge of a plan, which stands for no lines. All memory is taken here; where it runs out, the plan is
     /// handed back.
@@ -56,16 +43,12 @@ impl Reader {
         ensures stands { IfOk result (λ reader. JudgeStandsFor reader []) }
         ensures err { IfErr result (λ back. back.0 ≡ plan) }
     {
-        let (finders, names) = match names_of(alloc, &plan) {
-            Ok(pair) => pair,
+        let names = match PlanNames::new(alloc, &plan) {
+            Ok(names) => names,
             Err(error) => return Err((plan, error)),
         };
         match Judge::start(alloc, plan) {
-            Ok(judge) => Ok(Reader {
-                judge,
-                finders,
-                names,
-            }),
+            Ok(judge) => Ok(Reader { judge, names }),
             Err(back) => Err(back),
         }
     }
@@ -84,65 +67,27 @@ impl Reader {
         self.judge.finished()
     }
 
-    /// Takes the line whose text this is, in format 2 where that is true, or says why it is bad. Mostly the
-    /// text is that of the one line that its actor may write next, and then nothing else is read of it.
+    /// Takes the line that may come next with whose text, in format 2 where that is true, and newline the
+    /// bytes begin, where it is found by its time and its actor. Gives what is behind these.
+    pub fn take_offered<'a>(&mut self, is_format2: bool, bytes: &'a [u8]) -> Option<&'a [u8]>
+        ensures taken { IfSome result (λ behind. HasTakenFirst is_format2 self.old self.new bytes.now behind.now) }
+        ensures left { IfNone result (self.new ≡ self.old) }
+    {
+        let (offer, behind) = self.names.offered(&self.judge, is_format2, bytes)?;
+        self.judge.accept(&offer.line, offer.change, &offer.next);
+        Some(behind)
+    }
+
+    /// Takes the line whose text this is, in format 2 where that is true, or says why it is bad.
     pub fn read(&mut self, is_format2: bool, text: &[u8]) -> Option<NoWhy>
         ensures read { (h : List ALine) → IsLawful self.old.plan h → JudgeStandsFor self.old h → IsRead is_format2 self.old.plan h text.now self.new result }
         ensures plan { self.new.plan ≡ self.old.plan }
     {
-        if self.take_offered(is_format2, text) {
-            return None;
-        }
-        self.read_any(is_format2, text)
-    }
-
-    // Takes the line that may come next whose text this is, where one is offered that has it.
-    fn take_offered(&mut self, is_format2: bool, text: &[u8]) -> bool
-        ensures read { IsTrue result → (h : List ALine) → IsLawful self.old.plan h → JudgeStandsFor self.old h → IsRead is_format2 self.old.plan h text.now self.new None }
-        ensures left { IsFalse result → self.new ≡ self.old }
-        ensures plan { self.new.plan ≡ self.old.plan }
-    {
-        let Some(offer) = self.offered(is_format2, text) else {
-            return false;
-        };
-        self.judge.accept(&offer.line, offer.change, &offer.next);
-        true
-    }
-
-    // The line that may come next and has this text, where its front names the line's time and actor.
-    fn offered(&self, is_format2: bool, text: &[u8]) -> Option<Offer>
-        ensures text { IfSome result (λ offer. IsTextBehind is_format2 self.now.plan self.now.last offer.line text.now) }
-        ensures room { IfSome result (λ _. self.now.lines < self.now.plan.lines) }
-        ensures writes { IfSome result (λ offer. Writes self.now.plan self.now.world self.now.last offer.line offer.change offer.next) }
-    {
-        let base = if is_format2 { self.judge.last_time() } else { 0 };
-        let (time, actor) = line_start(self.judge.plan(), &self.finders, base, text)?;
-        let offer = self.judge.offer(actor, time)?;
-        if self.is_spelled(time - base, &offer.line, text) {
-            Some(offer)
-        } else {
-            None
-        }
-    }
-
-    // Whether the text is that of this line with that time in place of its own.
-    fn is_spelled(&self, time: u64, line: &Line, text: &[u8]) -> bool
-        requires of_plan { is_line_of self.now.plan line.now ≡ true }
-        requires not_later { time ≤ line.now.time }
-        ensures { IsTrue result → line_text (names_of self.now.plan) (record line.now { time = time }) ≡ text.now }
-    {
-        let mut spelled = LineText::new();
-        self.names.spell(time, line, &mut spelled);
-        spelled.as_slice() == text
-    }
-
-    // Takes the line whose text this is, or says why it is bad.
-    fn read_any(&mut self, is_format2: bool, text: &[u8]) -> Option<NoWhy>
-        ensures read { (h : List ALine) → IsLawful self.old.plan h → JudgeStandsFor self.old h → IsRead is_format2 self.old.plan h text.now self.new result }
-        ensures plan { self.new.plan ≡ self.old.plan }
-    {
         let judge = &mut self.judge;
-        let Some(line) = line_of(judge.plan(), &self.finders, judge.last_time(), is_format2, text) else {
+        let Some(line) = self
+            .names
+            .line_of(judge.plan(), judge.last_time(), is_format2, text)
+        else {
             return Some(NoWhy::Text);
         };
         match judge.judge(&line) {

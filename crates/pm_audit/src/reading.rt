@@ -1,15 +1,12 @@
 //! Reads whole lines of a trace.
 
-ghost use Rattle.std.specs.Prelude.{◌≡◌, ◌++◌, ◌<◌, ◌^◌, List, ℕ, IfNone, IfSome, Some, [], true};
+ghost use Rattle.std.specs.Prelude.{◌≡◌, ◌++◌, List, ℕ, Some, [], true};
 ghost use Rattle.pm_audit.specs.Auditing.{IsGood, IsRest, IsTaken};
 ghost use Rattle.pm_model.specs.declared.event.Line.{Line as ALine};
 ghost use Rattle.pm_model.specs.NoWhy.{is_within_line};
-ghost use Rattle.pm_model.specs.Text.{IsTextBehind};
 
 use crate::reader::Reader;
 use crate::rest::Rest;
-use pm_lineread::{Finders, read_line_by, read_line2_by};
-use pm_model::{Line, Plan};
 
 /// The line with which a trace of format 2 begins.
 pub const HEADER: &[u8] = b"pm_trace 2";
@@ -36,24 +33,6 @@ pub enum Format {
     Untold,
     One,
     Two,
-}
-
-// The line of the plan whose text this is behind a line of that time, in format 2 where that is true.
-pub(crate) fn line_of(
-    plan: &Plan,
-    by: &Finders,
-    last: u64,
-    is_format2: bool,
-    text: &[u8],
-) -> Option<Line>
-    requires { last < 2 ^ 63 }
-    ensures some { IfSome result (λ line. IsTextBehind is_format2 plan.now last line text.now) }
-    ensures none { IfNone result ((line : ALine) → ¬ IsTextBehind is_format2 plan.now last line text.now) }
-{
-    if is_format2 {
-        return read_line2_by(plan, Some(by), last, text).ok();
-    }
-    read_line_by(plan, Some(by), text).ok()
 }
 
 // Takes one more whole line, without its newline, or says why it is bad.

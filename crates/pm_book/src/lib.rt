@@ -5,6 +5,7 @@ mod book;
 mod growing;
 mod laws;
 mod lines;
+mod offering;
 mod steps;
 mod taking;
 mod writing;

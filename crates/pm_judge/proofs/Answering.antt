@@ -1,5 +1,5 @@
 -- What a judge answers of a line, and for which lists it stands then.
-use Rattle.std.proofs.Common.{ℕ, ◌≡◌, ◌<◌, ◌+◌, ◌^◌, true, List, ◌∷◌, length, Some, Ok, Err, refl, sym, subst, arith}
+use Rattle.std.proofs.Common.{ℕ, ◌≡◌, ◌<◌, ◌+◌, ◌^◌, true, List, ◌∷◌, length, Option, Some, None, IfSome, Ok, Err, refl, sym, subst, arith}
 use Rattle.std.specs.Option.{option_map_or}
 use Rattle.pm_base.specs.declared.ActorId.{ActorId}
 use Rattle.pm_model.specs.declared.event.Line.{Line}
@@ -7,13 +7,15 @@ use Rattle.pm_model.specs.declared.plan.Plan.{Plan}
 use Rattle.pm_model.specs.declared.stage.Change.{Change}
 use Rattle.pm_model.specs.declared.stage.Stage.{Stage}
 use Rattle.pm_model.specs.declared.stage.Then.{Then}
-use Rattle.pm_model.specs.Lawful.{IsLawful, last_time}
+use Rattle.pm_model.specs.Lawful.{IsLawful, Permits, last_time}
+use Rattle.pm_model.specs.LineOf.{is_line_of}
 use Rattle.pm_model.specs.NoWhy.{at_time}
 use Rattle.pm_model.specs.World.{World, due, move, row, stage_at, world}
 use Rattle.pm_state.specs.Standing.{Standing, StandsWell, after_write, can_go_on}
 use Rattle.pm_times.proofs.Deciding.{event_move, move_event}
 use Rattle.pm_judge.specs.declared.judge.Bad.{Bad}
 use Rattle.pm_judge.specs.declared.judge.Bad.TheVariants as bad
+use Rattle.pm_judge.specs.declared.offering.Offer.{Offer}
 use Rattle.pm_judge.specs.Judging.{IsAnswer, JudgeStandsFor, Judged, StandsForSome}
 use Rattle.pm_judge.specs.Sometime.{Comes, MayCome, Writes}
 use Rattle.pm_judge.proofs.Moves.{may_come, permits, stays_of, world_after}
@@ -28,6 +30,14 @@ may_write new old line c next same may = subst (λ (j : Judged). Writes j.plan j
 -- the stage at which an actor stands may go on
 pub stands_at : (plan : Plan) (w : World) (actor : ActorId) (s : Stage) → StandsWell plan w actor → Some s ≡ stage_at plan w actor → can_go_on plan w.views s ≡ true
 stands_at plan w actor s well is = subst (λ o. option_map_or (can_go_on plan w.views) o true ≡ true) (sym is) well
+
+-- a line that is offered is one of the plan
+pub offer_of_plan : (plan : Plan) (w : World) (last t : ℕ) (h : List Line) (o : Option Offer) → w ≡ world plan h → last ≡ last_time h → t < 2 ^ 63
+    → ((line : Line) → Permits plan h line → line.time < 2 ^ 63 → is_line_of plan line ≡ true) → IfSome o (λ x. Writes plan w last x.line x.change x.next) → IfSome o (λ x. x.line.time ≡ t)
+    → IfSome o (λ x. is_line_of plan x.line ≡ true)
+offer_of_plan plan w last t h None same at early of_plan may is = tt
+offer_of_plan plan w last t h (Some x) same at early of_plan may is =
+    of_plan x.line (permits plan h w last x.line x.change x.next same at may) (subst (λ n. n < 2 ^ 63) (sym is) early)
 
 -- a line that is taken: the list with it is the one for which the judge stands then
 pub stands_on : (plan : Plan) (w : World) (last lines : ℕ) (h : List Line) (line : Line) (c : Change) (next : Then) → JudgeStandsFor (judged plan w last lines) h → Writes plan w last line c next

@@ -12,7 +12,7 @@ ghost use Rattle.pm_state.specs.Standing.{IsActor};
 
 use crate::deciding::decide;
 use crate::laws::{all_stand_well, each_line_fits, each_line_is_taken};
-use crate::standing::row_at;
+use crate::offering::{Offer, offered};
 use pm_base::{ActorId, NoMemory};
 use pm_bounds::lines_are_of_plan;
 use pm_laws::sizes;
@@ -30,17 +30,6 @@ pub enum Bad {
     Step,
     /// It may at another time.
     Time,
-}
-
-/// A line that may come next.
-#[derive(Clone, Copy)]
-pub struct Offer {
-    /// The line.
-    pub line: Line,
-    /// What its row changes beside the line's event.
-    pub change: Change,
-    /// What takes the place of the stage at which its actor stands.
-    pub next: Then,
 }
 
 /// The counters, places, last time and number of lines after some lawful list of lines of a plan, without
@@ -142,10 +131,7 @@ impl Judge {
         }
         all_stand_well();
         lines_are_of_plan();
-        let stage = self.state.stage_at(&self.plan, actor)?;
-        let (event, change, next) = row_at(&self.plan, &self.state, stage, self.last, time)?;
-        let line = Line { time, actor, event };
-        Some(Offer { line, change, next })
+        offered(&self.plan, &self.state, self.last, actor, time)
     }
 
     /// Takes a line by an actor of the plan, at a time below 2^63 milliseconds of the run, that may come next:

@@ -4,11 +4,13 @@
 mod deciding;
 mod judge;
 mod laws;
+mod offering;
 mod sometime;
 mod standing;
 #[cfg(test)]
 mod tests;
 
 pub use deciding::{Permitted, decide};
-pub use judge::{Bad, Judge, Offer};
+pub use judge::{Bad, Judge};
 pub use laws::{all_stand_well, each_line_fits, each_line_is_taken};
+pub use offering::{Offer, offered};

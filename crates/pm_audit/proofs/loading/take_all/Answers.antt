@@ -1,6 +1,8 @@
 -- Line by line.
 use Rattle.std.proofs.Common.{◌≡◌, ◌∙◌, ◌++◌, ◌∷◌, ℕ, Bool, Bor, List, true, ap, drop, refl, subst, sym}
+use Rattle.pm_model.specs.declared.plan.Plan.{Plan}
 use Rattle.pm_model.specs.NoWhy.{is_within_line}
+use Rattle.pm_model.specs.Text.{names_of}
 use Rattle.pm_audit.specs.Loading.{IsRefused}
 use Rattle.pm_audit.specs.declared.loading.LoadFault.{LoadFault}
 use Rattle.pm_audit.proofs.Loads.{HasLoaded, left_over, loads_bad, loads_cut, loads_header, loads_line, loads_none, refused_as}
@@ -15,9 +17,12 @@ lines-init c =
     let book = c.args.book.now in
     let Loaded : Bool × Bor (List ℕ) → Type 0 = λ (x : Bool × Bor (List ℕ)). HasLoaded plan bytes x.0 x.1.now book in
     elim c.match-behind_header.branch [
-      | in-Some w ↦ subst Loaded (sym w.is_format2-is) (loads_header plan bytes w.in-Some.lines.now book refl c.requires w.in-Some.ensures.some)
-      | in-None w ↦ subst Loaded (sym w.is_format2-is) (loads_none plan bytes book refl c.requires w.in-None.ensures.none)
+      | in-Some w ↦ subst Loaded (sym w.is_format2-is) (loads_header plan bytes w.in-Some.lines.now book refl c.requires.none w.in-Some.ensures.some)
+      | in-None w ↦ subst Loaded (sym w.is_format2-is) (loads_none plan bytes book refl c.requires.none w.in-None.ensures.none)
     ]
+
+pub take-requires : goal.take-requires
+take-requires c = subst (λ (p : Plan). c.args.names.now ≡ names_of p) (sym c.lines.invariant.plan_is) c.requires.names
 
 pub returns-in_err-take-clause-err : goal.returns-in_err-take-clause-err
 returns-in_err-take-clause-err c =

@@ -1,0 +1,45 @@
+-- A line that may come next and is read by its text (this project's own). Lists have the newest line first.
+use Rattle.std.specs.Prelude.{ℕ, ◌≡◌, ◌<◌, ◌^◌, ◌++◌, ◌∷◌, Bool, true, List, None, length}
+use Rattle.pm_model.specs.declared.event.Line.{Line}
+use Rattle.pm_model.specs.Lawful.{IsLawful, last_time}
+use Rattle.pm_model.specs.NoWhy.{is_within_line}
+use Rattle.pm_model.specs.Text.{IsTextBehind}
+use Rattle.pm_state.specs.Standing.{IsActor}
+use Rattle.pm_judge.specs.declared.offering.Offer.{Offer}
+use Rattle.pm_judge.specs.Judging.{JudgeStandsFor, Judged}
+use Rattle.pm_judge.specs.Sometime.{Writes}
+use Rattle.pm_book.specs.Pages.{Pages, world_of}
+use Rattle.pm_audit.specs.Auditing.{IsRead}
+use Rattle.pm_audit.specs.Loading.{HasTaken}
+
+-- what a judge keeps of a book
+abbrev pub judged_of : Pages → Judged
+judged_of p = record { plan = p.plan; world = world_of p; last = last_time p.lines; lines = length p.lines }
+
+-- the bytes begin with a line, of this piece and a newline, and go on with these
+pub record BeginsWith (bytes piece behind : List ℕ) : Type 0 where
+  pub split : bytes ≡ piece ++ (10 ∷ behind)
+  pub within : is_within_line piece ≡ true
+
+-- the bytes begin with the text of this line, in format 2 where that is true, which may come next
+pub record IsOffered (f : Bool) (j : Judged) (offer : Offer) (bytes behind : List ℕ) : Type 0 where
+  pub piece : List ℕ
+  pub begins : BeginsWith bytes piece behind
+  pub spelled : IsTextBehind f j.plan j.last offer.line piece
+  pub in_range : IsActor j.plan offer.line.actor
+  pub in_time : offer.line.time < 2 ^ 63
+  pub room : j.lines < j.plan.lines
+  pub writes : Writes j.plan j.world j.last offer.line offer.change offer.next
+
+-- the line with which the bytes begin was taken
+pub record HasTakenFirst (f : Bool) (old new : Judged) (bytes behind : List ℕ) : Type 0 where
+  pub piece : List ℕ
+  pub begins : BeginsWith bytes piece behind
+  pub read : (h : List Line) → IsLawful old.plan h → JudgeStandsFor old h → IsRead f old.plan h piece new None
+  pub plan : new.plan ≡ old.plan
+
+-- a book took the line with which the bytes begin
+pub record HasTakenLine (f : Bool) (old new : Pages) (bytes behind : List ℕ) : Type 0 where
+  pub piece : List ℕ
+  pub begins : BeginsWith bytes piece behind
+  pub taken : HasTaken f old.plan old.lines new piece

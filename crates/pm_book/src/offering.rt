@@ -1,0 +1,66 @@
+//! The line that an actor may write next, and how a book takes it.
+
+ghost use Rattle.std.specs.Prelude.{◌≡◌, ◌<◌, ◌^◌, Ok, IfNone, IfSome, IsOk, OnErr, OnOk, length, true};
+ghost use Rattle.pm_judge.specs.Judging.{IsAnswer};
+ghost use Rattle.pm_judge.specs.Sometime.{MayCome, Writes};
+ghost use Rattle.pm_model.specs.declared.event.Event.{Event};
+ghost use Rattle.pm_model.specs.Lawful.{last_time};
+ghost use Rattle.pm_model.specs.LineOf.{is_line_of};
+ghost use Rattle.pm_state.specs.Standing.{IsActor};
+ghost use Rattle.pm_book.specs.Pages.{Longer, world_of};
+
+use crate::book::Book;
+use crate::laws::all_stand_well;
+use pm_base::{ActorId, NoMemory};
+use pm_bounds::lines_are_of_plan;
+use pm_judge::{Offer, offered};
+use pm_model::{Change, Line, Then};
+
+impl Book {
+    /// The line that an actor of the plan may write next at a time below 2^63 milliseconds of the run: there
+    /// is one at most. `None` comes exactly where it may write none then, or the list has all the lines that
+    /// the plan allows. It takes no memory.
+    pub fn offer(&self, actor: ActorId, time: u64) -> Option<Offer>
+        requires in_range { IsActor self.now.plan actor }
+        requires in_time { time < 2 ^ 63 }
+        ensures actor { IfSome result (λ offer. offer.line.actor ≡ actor) }
+        ensures time { IfSome result (λ offer. offer.line.time ≡ time) }
+        ensures of_plan { IfSome result (λ offer. is_line_of self.now.plan offer.line ≡ true) }
+        ensures room { IfSome result (λ _. length self.now.lines < self.now.plan.lines) }
+        ensures writes { IfSome result (λ offer. Writes self.now.plan (world_of self.now) (last_time self.now.lines) offer.line offer.change offer.next) }
+        ensures none { IfNone result (length self.now.lines < self.now.plan.lines → (event : Event) → ¬ MayCome self.now.plan (world_of self.now) (last_time self.now.lines) (record { time = time; actor = actor; event = event })) }
+    {
+        if self.is_full() {
+            return None;
+        }
+        all_stand_well();
+        lines_are_of_plan();
+        offered(
+            &self.plan,
+            &self.state,
+            self.lines.last_time(),
+            actor,
+            time,
+        )
+    }
+
+    /// Takes a line by an actor of the plan, at a time below 2^63 milliseconds of the run, that may come next:
+    /// its row changes this beside the line's event, and this takes the place of its actor's stage. It takes
+    /// memory for lines alone, and none where one more can be written without. After `NoMemory` nothing is
+    /// changed.
+    pub fn accept(&mut self, line: &Line, change: Change, next: &Then) -> Result<(), NoMemory>
+        requires in_range { IsActor self.old.plan line.now.actor }
+        requires in_time { line.now.time < 2 ^ 63 }
+        requires room { length self.old.lines < self.old.plan.lines }
+        requires writes { Writes self.old.plan (world_of self.old) (last_time self.old.lines) line.now change next.now }
+        ensures answer { IsAnswer self.old.plan self.old.lines line.now (Ok tt) }
+        ensures ok { OnOk result (Longer self.old self.new line.now) }
+        ensures room { 0 < self.old.spare → IsOk result }
+        ensures err { OnErr result (self.new ≡ self.old) }
+    {
+        let Some(stage) = self.state.stage_at(&self.plan, line.actor) else {
+            unreachable!();
+        };
+        self.write(&stage, line, change, next)
+    }
+}
