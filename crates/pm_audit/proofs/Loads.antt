@@ -14,7 +14,8 @@ use Rattle.pm_texts.proofs.Formats.{IsTextIn, format_is, stands_for, text_by_for
 use Rattle.pm_texts.proofs.WhyBad.{reason_first}
 use Rattle.pm_book.specs.Pages.{Pages}
 use Rattle.pm_audit.specs.Auditing.{IsBad, reason_of}
-use Rattle.pm_audit.specs.Loading.{AreLoaded, HasTaken, IsLineFault, IsRefused}
+use Rattle.pm_audit.specs.Loading.{AreLoaded, HasTaken, IsFirstFault, IsLineFault, IsRefused, bad, cut, memory}
+use Rattle.pm_audit.specs.Offers.{HasTakenLine}
 use Rattle.pm_audit.specs.declared.loading.LoadFault.{LoadFault}
 use Rattle.pm_audit.specs.declared.loading.LoadFault.TheVariants as fault
 use Rattle.pm_audit.specs.declared.reading.NoWhy.TheVariants as why
@@ -100,6 +101,16 @@ pub loads_all : (plan : Plan) (bytes : List ℕ) (f : Bool) (left : List ℕ) (p
 loads_all plan bytes f left p has none =
     let same : bytes ≡ has.whole = has.split ∙ (ap (λ x. has.whole ++ x) none ∙ append_none has.whole) in
     record { plan_is = has.plan_is; lawful = has.lawful; stands = subst (λ (x : List ℕ). StandsFor plan x p.lines) (sym same) has.stands }
+
+-- with the line with which the bytes left begin
+pub loads_first : (plan : Plan) (bytes : List ℕ) (f : Bool) (left left' : List ℕ) (old new : Pages) → HasLoaded plan bytes f left old → HasTakenLine f old new left left' → HasLoaded plan bytes f left' new
+loads_first plan bytes f left left' old new has first = loads_line plan bytes f left first.piece left' old new has first.begins.split first.taken
+
+-- with none of it
+pub loads_fault : (plan : Plan) (bytes : List ℕ) (f : Bool) (left : List ℕ) (p : Pages) (x : LoadFault) → HasLoaded plan bytes f left p → left ≢ [] → IsFirstFault f p left x → IsRefused plan bytes x
+loads_fault plan bytes f left p x has some (bad piece behind is within x wrong) = loads_bad plan bytes f left piece behind p x has is within wrong
+loads_fault plan bytes f left p x has some (cut within) = loads_cut plan bytes f left p has within some
+loads_fault plan bytes f left p x has some memory = tt
 
 -- what is answered of a fault
 pub refused_as : {A : Type 0} (plan : Plan) (bytes : List ℕ) (r : Result A LoadFault) (x : LoadFault) → IsErrAnd r (λ y. y ≡ x) → IsRefused plan bytes x → IfErr r (λ y. IsRefused plan bytes y)

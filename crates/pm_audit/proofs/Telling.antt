@@ -1,5 +1,5 @@
 -- What an auditor says of bytes, as they go on and at their end.
-use Rattle.std.proofs.Common.{ℕ, suc, ◌≡◌, ◌≢◌, ◌+◌, Bool, true, false, List, [], ◌∷◌, ◌++◌, Option, Some, None, is_some, length, inl, refl, sym, subst, ap, ◌∙◌, arith}
+use Rattle.std.proofs.Common.{ℕ, suc, ◌≡◌, ◌≢◌, ◌+◌, ◌<◌, Bool, true, false, List, [], ◌∷◌, ◌++◌, Option, Some, None, IfSome, is_some, length, length-append, inl, refl, sym, subst, ap, ◌∙◌, arith}
 use Rattle.std.proofs.lemmas.List.{append_assoc}
 use Rattle.pm_model.specs.declared.event.Line.{Line}
 use Rattle.pm_model.specs.declared.plan.Plan.{Plan}
@@ -13,14 +13,15 @@ use Rattle.pm_model.specs.World.{world}
 use Rattle.pm_texts.proofs.Behind.{cut_behind, format_kept, no_header}
 use Rattle.pm_texts.proofs.Bytes.{append_none}
 use Rattle.pm_texts.proofs.WhyBad.{reason_first}
-use Rattle.pm_judge.specs.Judging.{JudgeStandsFor}
-use Rattle.pm_audit.specs.Auditing.{AuditorStandsFor, HasRead, IsGood, IsGoodSoFar, IsRest, IsTaken, IsToldBy, SaysOf, reason_of, rest_with}
+use Rattle.pm_judge.specs.Judging.{JudgeStandsFor, Judged}
+use Rattle.pm_audit.specs.Auditing.{AuditorStandsFor, HasRead, IsGood, IsGoodSoFar, IsRead, IsRest, IsTaken, IsToldBy, SaysOf, reason_of, rest_with, told_of}
+use Rattle.pm_audit.specs.Offers.{HasTakenFirst}
 use Rattle.pm_audit.specs.declared.auditor.Auditor.{Auditor}
 use Rattle.pm_audit.specs.declared.auditor.BadLine.{BadLine}
 use Rattle.pm_audit.specs.declared.reading.Format.{Format}
 use Rattle.pm_audit.specs.declared.reading.Format.TheVariants as format
 use Rattle.pm_audit.specs.declared.reading.NoWhy.{NoWhy}
-use Rattle.pm_audit.proofs.Taking.{rest_on, within_on}
+use Rattle.pm_audit.proofs.Taking.{rest_on, take_one, take_two, within_on}
 
 -- while no line is bad, and once one is
 good_of : (a : Auditor) (b : List ℕ) → is_some a.bad ≡ false → AuditorStandsFor a b → IsGoodSoFar a b
@@ -187,10 +188,50 @@ starts a none empty untold judged =
 pub reads_none : (piece : List ℕ) (a : Auditor) → HasRead piece piece a a
 reads_none piece a = record { done = []; split = refl; stands = λ b says. subst (λ (x : List ℕ). AuditorStandsFor a x) (sym (append_none b)) says; plan = refl }
 
+pub shorter : (left line left' : List ℕ) → left ≡ line ++ (10 ∷ left') → length left' < length left
+shorter left line left' is = let all = ap length is ∙ length-append line (10 ∷ left') in omega (arith, all)
+
 -- a line, of this piece and a newline
 pub reads_line : (left line left' : List ℕ) (old new : Auditor) → left ≡ line ++ (10 ∷ left') → ((b : List ℕ) → AuditorStandsFor old b → AuditorStandsFor new (b ++ (line ++ newline)))
     → new.judge.plan ≡ old.judge.plan → HasRead left left' old new
 reads_line left line left' old new is ends plan = record { done = line ++ newline; split = is ∙ sym (append_assoc line newline left'); stands = ends; plan = plan }
+
+-- the first line of the bytes is the one that may come next: no rest is before it, and the format is told
+told_takes : (a : Auditor) (judge : Judged) (f : Bool) (piece : List ℕ) → a.rest ≡ Some [] → Some f ≡ told_of a.format → is_within_line piece ≡ true
+    → ((h : List Line) → IsLawful a.judge.plan h → JudgeStandsFor a.judge h → IsRead f a.judge.plan h piece judge None) → Takes a (record a { judge = judge }) piece None
+told_takes a judge f piece empty told within read = λ whole begun h kept inside good.
+    let none : begun ≡ [] = subst (λ (o : Option (List ℕ)). IsRest o begun) empty kept in
+    subst (λ (l : List ℕ). IsTaken a.judge.plan whole h (l ++ piece) a.format judge None) (sym none) (go whole h a.format refl told good)
+  where
+    go : (whole : List ℕ) (h : List Line) (fm : Format) → a.format ≡ fm → Some f ≡ told_of fm → IsGood a.judge.plan a.judge a.format whole h → IsTaken a.judge.plan whole h piece a.format judge None
+    go whole h format.Untold is as good = cc as
+    go whole h format.One is as good =
+        let one : f ≡ false = cc as in
+        let its = subst (λ (x : Bool). IsRead x a.judge.plan h piece judge None) one (read h good.lawful good.judged) in
+        subst (λ (x : Format). IsTaken a.judge.plan whole h piece x judge None) (sym is)
+        (take_one a.judge.plan whole piece h a.judge judge None (subst (λ (x : Format). IsGood a.judge.plan a.judge x whole h) is good) within its)
+    go whole h format.Two is as good =
+        let two : f ≡ true = cc as in
+        let its = subst (λ (x : Bool). IsRead x a.judge.plan h piece judge None) two (read h good.lawful good.judged) in
+        subst (λ (x : Format). IsTaken a.judge.plan whole h piece x judge None) (sym is)
+        (take_two a.judge.plan whole piece h a.judge judge None (subst (λ (x : Format). IsGood a.judge.plan a.judge x whole h) is good) within its)
+
+reads_offered : (a : Auditor) (judge : Judged) (f : Bool) (bytes behind : List ℕ) → is_some a.bad ≡ false → a.rest ≡ Some [] → Some f ≡ told_of a.format → HasTakenFirst f a.judge judge bytes behind
+    → HasRead bytes behind a (record a { judge = judge })
+reads_offered a judge f bytes behind none empty told first =
+    let new = record a { judge = judge } in
+    let takes = told_takes a judge f first.piece empty told first.begins.within first.read in
+    reads_line bytes first.piece behind a new first.begins.split (λ b says. line_good a new b first.piece none takes empty first.plan refl says) first.plan
+
+pub reads_if_offered : {A : Type 0} (a : Auditor) (judge : Judged) (f : Bool) (bytes : List ℕ) (of : A → List ℕ) (r : Option A) → is_some a.bad ≡ false → a.rest ≡ Some [] → Some f ≡ told_of a.format
+    → IfSome r (λ x. HasTakenFirst f a.judge judge bytes (of x)) → IfSome r (λ x. HasRead bytes (of x) a (record a { judge = judge }))
+reads_if_offered {A} a judge f bytes of None none empty told first = tt
+reads_if_offered {A} a judge f bytes of (Some x) none empty told first = reads_offered a judge f bytes (of x) none empty told first
+
+-- what is left is shorter
+pub shorter_if_offered : {A : Type 0} (old new : Judged) (f : Bool) (bytes : List ℕ) (of : A → List ℕ) (r : Option A) → IfSome r (λ x. HasTakenFirst f old new bytes (of x)) → IfSome r (λ x. length (of x) < length bytes)
+shorter_if_offered {A} old new f bytes of None first = tt
+shorter_if_offered {A} old new f bytes of (Some x) first = shorter bytes first.piece (of x) first.begins.split
 
 pub reads_on : (piece left left' : List ℕ) (old mid new : Auditor) → HasRead piece left old mid → HasRead left left' mid new → HasRead piece left' old new
 reads_on piece left left' old mid new has more = record {

@@ -50,6 +50,12 @@ IsToldBy format.Untold whole = whole ≡ []
 IsToldBy format.One whole = (whole ≢ []) × (is_format2 whole ≡ false)
 IsToldBy format.Two whole = (whole ≢ []) × (is_format2 whole ≡ true)
 
+-- whether it is format 2, where a line has told it
+abbrev pub told_of : Format → Option Bool
+told_of format.Untold = None
+told_of format.One = Some false
+told_of format.Two = Some true
+
 -- why a piece behind a lawful list is bad, in format 2 where that is true
 abbrev pub IsBad : Bool → Plan → List Line → List ℕ → NoWhy → Type 0
 IsBad f plan h piece why.Cut = ⊥

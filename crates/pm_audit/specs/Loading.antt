@@ -1,5 +1,5 @@
 -- What a book that is loaded from a trace says of its bytes (this project's own). Lists have the newest line first.
-use Rattle.std.specs.Prelude.{ℕ, suc, ◌≡◌, ◌++◌, Bool, true, List, ◌∷◌, length}
+use Rattle.std.specs.Prelude.{ℕ, suc, ◌≡◌, ◌+◌, ◌++◌, Bool, true, List, ◌∷◌, length}
 use Rattle.pm_model.specs.declared.event.Line.{Line}
 use Rattle.pm_model.specs.declared.plan.Plan.{Plan}
 use Rattle.pm_model.specs.FirstBad.{StandsFor}
@@ -39,5 +39,5 @@ pub record AreLoaded (plan : Plan) (bytes : List ℕ) (p : Pages) : Type 0 where
 -- why it took no line of these bytes: the first is bad, or lacks its newline, or memory ran out
 pub data IsFirstFault (f : Bool) (p : Pages) (bytes : List ℕ) : LoadFault → Type 0 where
   bad : (piece behind : List ℕ) → bytes ≡ piece ++ (10 ∷ behind) → is_within_line piece ≡ true → (x : LoadFault) → IsLineFault f p piece x → IsFirstFault f p bytes x
-  cut : is_within_line bytes ≡ true → IsFirstFault f p bytes (fault.No (suc (length p.lines)) why.Cut)
+  cut : is_within_line bytes ≡ true → IsFirstFault f p bytes (fault.No (length p.lines + 1) why.Cut)
   memory : IsFirstFault f p bytes fault.NoMemory

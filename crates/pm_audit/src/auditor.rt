@@ -7,7 +7,7 @@ ghost use Rattle.pm_model.specs.Spelling.{newline};
 ghost use Rattle.pm_model.specs.Verdict.{IsVerdict};
 
 use crate::reader::Reader;
-use crate::reading::{Format, NoWhy, end_line};
+use crate::reading::{Format, NoWhy, end_line, told};
 use crate::rest::Rest;
 use bstr::ByteSlice;
 use pm_base::NoMemory;
@@ -118,11 +118,7 @@ impl Auditor {
         if self.bad.is_some() || !self.rest.is_empty() {
             return None;
         }
-        let is_format2 = match self.format {
-            Format::Untold => return None,
-            Format::One => false,
-            Format::Two => true,
-        };
+        let is_format2 = told(self.format)?;
         self.judge.take_offered(is_format2, bytes)
     }
 

@@ -1,7 +1,7 @@
 //! Reads whole lines of a trace.
 
 ghost use Rattle.std.specs.Prelude.{◌≡◌, ◌++◌, List, ℕ, Some, [], true};
-ghost use Rattle.pm_audit.specs.Auditing.{IsGood, IsRest, IsTaken};
+ghost use Rattle.pm_audit.specs.Auditing.{IsGood, IsRest, IsTaken, told_of};
 ghost use Rattle.pm_model.specs.declared.event.Line.{Line as ALine};
 ghost use Rattle.pm_model.specs.NoWhy.{is_within_line};
 
@@ -33,6 +33,17 @@ pub enum Format {
     Untold,
     One,
     Two,
+}
+
+// Whether it is format 2, where a line has told it.
+pub(crate) fn told(format: Format) -> Option<bool>
+    ensures { result ≡ told_of format }
+{
+    match format {
+        Format::Untold => None,
+        Format::One => Some(false),
+        Format::Two => Some(true),
+    }
 }
 
 // Takes one more whole line, without its newline, or says why it is bad.
