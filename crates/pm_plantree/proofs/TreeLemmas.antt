@@ -1,5 +1,5 @@
 -- The tree of a plan in the words of its values.
-use Rattle.std.proofs.Common.{◌≡◌, ℕ, Bool, ◌&&◌, Option, Some, None, Ordering, Less, Equal, Greater, is_eq, is_some, List, [], ◌∷◌, length, map, String, Global, string_bytes, nat_eq, nat_cmp, if◌then◌else◌, refl, ap, ◌∙◌, arith}
+use Rattle.std.proofs.Common.{◌≡◌, ℕ, Bool, ◌&&◌, Option, Some, None, Ordering, Less, Equal, Greater, is_eq, is_some, List, [], ◌∷◌, ◌+◌, ◌<◌, drop, get_or, length, map, String, Global, string_bytes, nat_eq, nat_cmp, if◌then◌else◌, refl, ap, sym, ◌∙◌, arith}
 use Rattle.std.proofs.lemmas.Bool.Decides.{nat_tests}
 use Rattle.std.proofs.lemmas.Grind.{common_steps}
 use Rattle.std.specs.Cmp.Lexicographic.{slice_cmp}
@@ -7,7 +7,7 @@ use Rattle.std.specs.Ordering.{match_ordering}
 use Rattle.std.proofs.lemmas.Map.Text.{is_eq-slice_cmp}
 use Rattle.std.specs.Str.{bytes_eq}
 use Rattle.std.proofs.lemmas.Bool.{false_from_ne_true}
-use Rattle.std.proofs.lemmas.List.{length-map}
+use Rattle.std.proofs.lemmas.List.{drop_more, length-map}
 use Rattle.std.proofs.lemmas.Str.{IsUtf8-from_is_utf8, is_utf8-from_IsUtf8}
 use Rattle.std.specs.List.{list_all}
 use Rattle.std.specs.Str.{IsUtf8, is_utf8}
@@ -15,7 +15,9 @@ use Rattle.toml.specs.Data.{Data, Members, member, get_member, as_integer, as_st
 use Rattle.toml.specs.Parse.{parse_document}
 use Rattle.toml.specs.declared.value.Value.{Value}
 use Rattle.toml.specs.View.{items_view, members_view, view}
-use Rattle.pm_plantree.specs.Tree.{document, items_list, member_keys, member_list}
+use Rattle.std.specs.Map.Iter.{deref_pair}
+use denote.Ref.{Bor}
+use Rattle.pm_plantree.specs.Tree.{document, entries_view, items_list, member_keys, member_list}
 
 pub items_list_view : (values : List Value) → items_list (items_view values) ≡ map view values
 items_list_view [] = refl
@@ -73,3 +75,16 @@ member_first key name d rest = first_of (slice_cmp nat_cmp key name) (Some d) (g
 pub member_at : (key : List ℕ) (entry : String Global × Value) (rest : List (String Global × Value))
     → get_member key (members_view (entry ∷ rest)) ≡ (if bytes_eq key (string_bytes entry.0) then Some (view entry.1) else get_member key (members_view rest))
 member_at key entry rest = member_first key (string_bytes entry.0) (view entry.1) (members_view rest)
+
+-- the same in a list of entries
+entry_at : (key : List ℕ) (entry : Bor (String Global) × Bor Value) (rest : List (Bor (String Global) × Bor Value))
+    → get_member key (entries_view (entry ∷ rest)) ≡ (if bytes_eq key (string_bytes entry.0.now) then Some (view entry.1.now) else get_member key (entries_view rest))
+entry_at key entry rest = member_at key (deref_pair entry) (map deref_pair rest)
+
+-- the same from an entry of the list on
+pub entry_in : (key : List ℕ) (entries : List (Bor (String Global) × Bor Value)) (i : ℕ) (entry : Bor (String Global) × Bor Value) → i < length entries → entry ≡ get_or entries i entry
+    → get_member key (entries_view (drop i entries)) ≡ (if bytes_eq key (string_bytes entry.0.now) then Some (view entry.1.now) else get_member key (entries_view (drop (i + 1) entries)))
+entry_in key entries i entry within at =
+    let rest = drop (i + 1) entries in
+    let cut : drop i entries ≡ entry ∷ rest = drop_more entries i entry within ∙ ap (λ first. first ∷ rest) (sym at) in
+    ap (λ left. get_member key (entries_view left)) cut ∙ entry_at key entry rest

@@ -3,9 +3,10 @@
 ghost use Rattle.std.specs.Prelude.{◌≡◌, [], map, option_map, unwrap_or, IfOk};
 ghost use Rattle.toml.specs.Data.{Members};
 ghost use Rattle.toml.specs.View.{table_view, view};
+ghost use Rattle.pm_plantree.specs.Tree.{entries_view};
 ghost use Rattle.pm_plantree.specs.Raw.{key_place, number_at, numbers_at, numbers_in, raw_caller, raw_device, raw_domain, raw_link, raw_plan, rows_in, switch_at, text_at, texts_in};
 
-use crate::tree::{items_at, list_at, member};
+use crate::tree::{Entry, entries_of, items_in, list_in, value_in};
 use pm_base::DEFAULT_LINES;
 use pm_model::{Items, Name, Named};
 use std::alloc::{AllocError, Global};
@@ -99,8 +100,8 @@ trait Row: Drop {
     /// The row of a table.
     ghost row_of: { Members → Self };
 
-    fn row(alloc: Global, table: &Table) -> Result<Self, AllocError>
-        ensures { IfOk result (λ row. row ≡ row_of (table_view table.now)) };
+    fn row(alloc: Global, entries: &[Entry]) -> Result<Self, AllocError>
+        ensures { IfOk result (λ row. row ≡ row_of (entries_view entries.now)) };
 }
 
 /// What the tree says. It fails where memory runs out.
@@ -108,14 +109,16 @@ trait Row: Drop {
 pub fn raw_plan(alloc: Global, tree: &Table) -> Result<RawPlan, AllocError>
     ensures { IfOk result (λ plan. plan ≡ raw_plan (table_view tree.now)) }
 {
-    let domains = Items::new(rows_in(alloc, list_at(tree, "domain"))?);
-    let devices = Items::new(rows_in(alloc, list_at(tree, "device"))?);
-    let links = Items::new(rows_in(alloc, list_at(tree, "link"))?);
-    let callers = Items::new(rows_in(alloc, list_at(tree, "caller"))?);
+    let entries = entries_of(alloc, tree)?;
+    let entries = entries.as_slice();
+    let domains = Items::new(rows_in(alloc, list_in(entries, "domain"))?);
+    let devices = Items::new(rows_in(alloc, list_in(entries, "device"))?);
+    let links = Items::new(rows_in(alloc, list_in(entries, "link"))?);
+    let callers = Items::new(rows_in(alloc, list_in(entries, "caller"))?);
     Ok(RawPlan {
-        lines: number_at(tree, "lines").unwrap_or(i64::from(DEFAULT_LINES)),
+        lines: number_at(entries, "lines").unwrap_or(i64::from(DEFAULT_LINES)),
         lines_at: key_place(tree, "lines"),
-        trace: number_at(tree, "trace").unwrap_or(1),
+        trace: number_at(entries, "trace").unwrap_or(1),
         trace_at: key_place(tree, "trace"),
         domains,
         devices,
@@ -131,7 +134,7 @@ fn rows_in<T: Row>(alloc: Global, values: &[Value]) -> Result<Vec<T>, AllocError
     let mut rows = Vec::new(alloc);
     for value in values {
         if let Some(table) = value.as_table() {
-            rows.push(T::row(alloc, table)?)?;
+            rows.push(T::row(alloc, entries_of(alloc, table)?.as_slice())?)?;
         }
     }
     Ok(rows)
@@ -141,11 +144,11 @@ impl Row for RawDomain {
     ghost row_of = { raw_domain };
 
     #[tactic(auto, unfolding(crate::specs::Raw::raw_domain))]
-    fn row(alloc: Global, table: &Table) -> Result<RawDomain, AllocError> {
+    fn row(alloc: Global, entries: &[Entry]) -> Result<RawDomain, AllocError> {
         Ok(RawDomain {
-            name: text_or_empty(alloc, table, "name")?,
-            parent: text_at(alloc, table, "parent")?,
-            always_on: switch_at(table, "always_on").unwrap_or(false),
+            name: text_or_empty(alloc, entries, "name")?,
+            parent: text_at(alloc, entries, "parent")?,
+            always_on: switch_at(entries, "always_on").unwrap_or(false),
         })
     }
 }
@@ -154,20 +157,20 @@ impl Row for RawDevice {
     ghost row_of = { raw_device };
 
     #[tactic(auto, unfolding(crate::specs::Raw::raw_device))]
-    fn row(alloc: Global, table: &Table) -> Result<RawDevice, AllocError> {
+    fn row(alloc: Global, entries: &[Entry]) -> Result<RawDevice, AllocError> {
         Ok(RawDevice {
-            name: text_or_empty(alloc, table, "name")?,
-            parent: text_at(alloc, table, "parent")?,
-            domain: text_at(alloc, table, "domain")?,
-            ignore_children: switch_at(table, "ignore_children").unwrap_or(false),
-            no_callbacks: switch_at(table, "no_callbacks").unwrap_or(false),
-            busy: switch_at(table, "busy").unwrap_or(false),
-            idle: numbers_at(alloc, table, "idle")?,
-            suspend: Items::new(numbers_in(alloc, list_at(table, "suspend"))?),
-            resume: Items::new(numbers_in(alloc, list_at(table, "resume"))?),
-            idle_ms: number_at(table, "idle_ms").unwrap_or(0),
-            suspend_ms: number_at(table, "suspend_ms").unwrap_or(0),
-            resume_ms: number_at(table, "resume_ms").unwrap_or(0),
+            name: text_or_empty(alloc, entries, "name")?,
+            parent: text_at(alloc, entries, "parent")?,
+            domain: text_at(alloc, entries, "domain")?,
+            ignore_children: switch_at(entries, "ignore_children").unwrap_or(false),
+            no_callbacks: switch_at(entries, "no_callbacks").unwrap_or(false),
+            busy: switch_at(entries, "busy").unwrap_or(false),
+            idle: numbers_at(alloc, entries, "idle")?,
+            suspend: Items::new(numbers_in(alloc, list_in(entries, "suspend"))?),
+            resume: Items::new(numbers_in(alloc, list_in(entries, "resume"))?),
+            idle_ms: number_at(entries, "idle_ms").unwrap_or(0),
+            suspend_ms: number_at(entries, "suspend_ms").unwrap_or(0),
+            resume_ms: number_at(entries, "resume_ms").unwrap_or(0),
         })
     }
 }
@@ -176,12 +179,12 @@ impl Row for RawLink {
     ghost row_of = { raw_link };
 
     #[tactic(auto, unfolding(crate::specs::Raw::raw_link))]
-    fn row(alloc: Global, table: &Table) -> Result<RawLink, AllocError> {
+    fn row(alloc: Global, entries: &[Entry]) -> Result<RawLink, AllocError> {
         Ok(RawLink {
-            consumer: text_or_empty(alloc, table, "consumer")?,
-            supplier: text_or_empty(alloc, table, "supplier")?,
-            pm_runtime: switch_at(table, "pm_runtime").unwrap_or(true),
-            later: switch_at(table, "later").unwrap_or(false),
+            consumer: text_or_empty(alloc, entries, "consumer")?,
+            supplier: text_or_empty(alloc, entries, "supplier")?,
+            pm_runtime: switch_at(entries, "pm_runtime").unwrap_or(true),
+            later: switch_at(entries, "later").unwrap_or(false),
         })
     }
 }
@@ -190,10 +193,10 @@ impl Row for RawCaller {
     ghost row_of = { raw_caller };
 
     #[tactic(auto, unfolding(crate::specs::Raw::raw_caller))]
-    fn row(alloc: Global, table: &Table) -> Result<RawCaller, AllocError> {
+    fn row(alloc: Global, entries: &[Entry]) -> Result<RawCaller, AllocError> {
         Ok(RawCaller {
-            name: text_or_empty(alloc, table, "name")?,
-            script: Items::new(texts_in(alloc, list_at(table, "script"))?),
+            name: text_or_empty(alloc, entries, "name")?,
+            script: Items::new(texts_in(alloc, list_in(entries, "script"))?),
         })
     }
 }
@@ -206,59 +209,59 @@ fn copied(alloc: Global, text: &str) -> Result<Name, AllocError>
 }
 
 /// The string under a key.
-fn text_at(alloc: Global, table: &Table, key: &str) -> Result<Option<Name>, AllocError>
-    ensures { IfOk result (λ text. text ≡ text_at key.now (table_view table.now)) }
+fn text_at(alloc: Global, entries: &[Entry], key: &str) -> Result<Option<Name>, AllocError>
+    ensures { IfOk result (λ text. text ≡ text_at key.now (entries_view entries.now)) }
 {
-    match string_at(table, key) {
+    match string_at(entries, key) {
         Some(text) => Ok(Some(copied(alloc, text)?)),
         None => Ok(None),
     }
 }
 
-fn string_at<'a>(table: &'a Table, key: &str) -> Option<&'a str>
-    ensures { option_map (λ text. text.now) result ≡ text_at key.now (table_view table.now) }
+fn string_at<'a>(entries: &[Entry<'a>], key: &str) -> Option<&'a str>
+    ensures { option_map (λ text. text.now) result ≡ text_at key.now (entries_view entries.now) }
 {
-    match member(table, key) {
+    match value_in(entries, key) {
         Some(value) => value.as_str(),
         None => None,
     }
 }
 
 /// The string under a key, and no bytes where none stands there.
-fn text_or_empty(alloc: Global, table: &Table, key: &str) -> Result<Name, AllocError>
-    ensures { IfOk result (λ text. text ≡ unwrap_or (text_at key.now (table_view table.now)) []) }
+fn text_or_empty(alloc: Global, entries: &[Entry], key: &str) -> Result<Name, AllocError>
+    ensures { IfOk result (λ text. text ≡ unwrap_or (text_at key.now (entries_view entries.now)) []) }
 {
-    match string_at(table, key) {
+    match string_at(entries, key) {
         Some(text) => copied(alloc, text),
         None => Ok(Items::new(Vec::new(alloc))),
     }
 }
 
 /// The integer under a key.
-fn number_at(table: &Table, key: &str) -> Option<i64>
-    ensures { result ≡ number_at key.now (table_view table.now) }
+fn number_at(entries: &[Entry], key: &str) -> Option<i64>
+    ensures { result ≡ number_at key.now (entries_view entries.now) }
 {
-    match member(table, key) {
+    match value_in(entries, key) {
         Some(value) => value.as_integer(),
         None => None,
     }
 }
 
 /// The boolean under a key.
-fn switch_at(table: &Table, key: &str) -> Option<bool>
-    ensures { result ≡ switch_at key.now (table_view table.now) }
+fn switch_at(entries: &[Entry], key: &str) -> Option<bool>
+    ensures { result ≡ switch_at key.now (entries_view entries.now) }
 {
-    match member(table, key) {
+    match value_in(entries, key) {
         Some(value) => value.as_bool(),
         None => None,
     }
 }
 
 /// The integers of the array under a key, where an array stands there.
-fn numbers_at(alloc: Global, table: &Table, key: &str) -> Result<Option<Codes64>, AllocError>
-    ensures { IfOk result (λ numbers. numbers ≡ numbers_at key.now (table_view table.now)) }
+fn numbers_at(alloc: Global, entries: &[Entry], key: &str) -> Result<Option<Codes64>, AllocError>
+    ensures { IfOk result (λ numbers. numbers ≡ numbers_at key.now (entries_view entries.now)) }
 {
-    match items_at(table, key) {
+    match items_in(entries, key) {
         Some(values) => Ok(Some(Items::new(numbers_in(alloc, values)?))),
         None => Ok(None),
     }

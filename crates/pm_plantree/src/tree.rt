@@ -3,12 +3,15 @@
 ghost use Rattle.std.specs.Prelude.{◌≡◌, map, option_map, option_and_then, IfOk};
 ghost use Rattle.toml.specs.Data.{as_array, get_member};
 ghost use Rattle.toml.specs.View.{table_view, view};
-ghost use Rattle.pm_plantree.specs.Tree.{document, items_list, list_at};
+ghost use Rattle.pm_plantree.specs.Tree.{document, entries_view, items_list, list_at};
 
 use crate::keys::is_word;
 use pm_base::NoMemory;
-use std::alloc::Global;
+use std::alloc::{AllocError, Global};
 use toml::{Table, Value};
+
+/// A key of a table and its value.
+pub type Entry<'a> = (&'a String, &'a Value);
 
 /// The tree of the bytes; `None` where they aren't UTF-8 or no TOML.
 #[tactic(auto, unfolding(crate::specs::Tree::document))]
@@ -39,15 +42,54 @@ pub fn member<'a>(table: &'a Table, key: &str) -> Option<&'a Value>
     None
 }
 
-/// The elements of the array under a key, where one stands there.
-#[tactic(auto, using(crate::proofs::TreeLemmas::items_list_view))]
-pub fn items_at<'a>(table: &'a Table, key: &str) -> Option<&'a [Value]>
-    ensures { option_map (λ values. map view values.now) result
-        ≡ option_map items_list (option_and_then as_array (get_member key.now (table_view table.now))) }
+/// The keys and values of a table in a list, in which it costs less to look again and again.
+pub fn entries_of<'a>(alloc: Global, table: &'a Table) -> Result<Vec<Entry<'a>>, AllocError>
+    ensures { IfOk result (λ list. entries_view list.items ≡ table_view table.now) }
 {
-    match member(table, key) {
-        Some(value) => Some(value.as_array()?.as_slice()),
-        None => None,
+    let mut entries = Vec::with_capacity(alloc, table.len())?;
+    for (key, value) in table.iter() {
+        entries.push((key, value))?;
+    }
+    Ok(entries)
+}
+
+/// The value under a key in such a list.
+pub fn value_in<'a>(entries: &[Entry<'a>], key: &str) -> Option<&'a Value>
+    ensures { option_map (λ value. view value.now) result
+        ≡ get_member key.now (entries_view entries.now) }
+{
+    for entry in entries {
+        if is_word(key, entry.0.as_str()) {
+            return Some(entry.1);
+        }
+    }
+    None
+}
+
+/// The elements of an array.
+#[tactic(auto, using(crate::proofs::TreeLemmas::items_list_view))]
+fn items_of<'a>(value: Option<&'a Value>) -> Option<&'a [Value]>
+    ensures { option_map (λ values. map view values.now) result
+        ≡ option_map items_list (option_and_then as_array (option_map (λ value. view value.now) value.entry)) }
+{
+    Some(value?.as_array()?.as_slice())
+}
+
+/// The elements of the array under a key in a list, where one stands there.
+pub fn items_in<'a>(entries: &[Entry<'a>], key: &str) -> Option<&'a [Value]>
+    ensures { option_map (λ values. map view values.now) result
+        ≡ option_map items_list (option_and_then as_array (get_member key.now (entries_view entries.now))) }
+{
+    items_of(value_in(entries, key))
+}
+
+/// The elements of the array under a key in a list, and none where no array stands there.
+pub fn list_in<'a>(entries: &[Entry<'a>], key: &str) -> &'a [Value]
+    ensures { map view result.now ≡ list_at key.now (entries_view entries.now) }
+{
+    match items_in(entries, key) {
+        Some(values) => values,
+        None => &[],
     }
 }
 
@@ -55,7 +97,7 @@ pub fn items_at<'a>(table: &'a Table, key: &str) -> Option<&'a [Value]>
 pub fn list_at<'a>(table: &'a Table, key: &str) -> &'a [Value]
     ensures { map view result.now ≡ list_at key.now (table_view table.now) }
 {
-    match items_at(table, key) {
+    match items_of(member(table, key)) {
         Some(values) => values,
         None => &[],
     }
