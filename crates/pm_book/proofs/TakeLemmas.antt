@@ -1,23 +1,20 @@
 -- What a judge says of a line, said by a book.
-use Rattle.std.proofs.Common.{ℕ, ◌≡◌, ◌<◌, ◌^◌, false, Option, Some, IfNone, IfSome, Result, Ok, Err, length, refl, subst, sym}
+use Rattle.std.proofs.Common.{ℕ, ◌≡◌, ◌<◌, false, Option, IfNone, IfSome, Result, Ok, Err, length, refl, subst, sym}
 use Rattle.std.specs.Result.{IsErrAnd}
 use Rattle.std.proofs.lemmas.Result.{err_from_is_err_and}
 use Rattle.pm_base.specs.declared.ActorId.{ActorId}
 use Rattle.pm_model.specs.declared.event.Event.{Event}
 use Rattle.pm_model.specs.declared.event.Line.{Line}
 use Rattle.pm_model.specs.declared.plan.Plan.{Plan}
-use Rattle.pm_model.specs.declared.stage.Change.{Change}
-use Rattle.pm_model.specs.declared.stage.Stage.{Stage}
-use Rattle.pm_model.specs.declared.stage.Then.{Then}
 use Rattle.pm_model.specs.History.{History}
 use Rattle.pm_model.specs.Lawful.{last_time}
-use Rattle.pm_model.specs.World.{World, move, stage_at, world}
+use Rattle.pm_model.specs.World.{World, world}
 use Rattle.pm_judge.specs.declared.judge.Bad.{Bad}
 use Rattle.pm_judge.specs.declared.judge.Bad.TheVariants as bad
 use Rattle.pm_judge.specs.declared.offering.Offer.{Offer}
 use Rattle.pm_judge.specs.Judging.{IsAnswer}
 use Rattle.pm_judge.specs.Sometime.{MayCome, Writes}
-use Rattle.pm_book.specs.Pages.{MayWrite, Pages, is_full, world_of}
+use Rattle.pm_book.specs.Pages.{Pages, is_full}
 use Rattle.pm_book.specs.Takes.{fault_of, judged_as}
 use Rattle.pm_book.specs.declared.taking.TakeFault.{TakeFault}
 use Rattle.pm_book.specs.declared.taking.TakeFault.TheVariants as fault
@@ -56,13 +53,3 @@ pub none_offered : (plan : Plan) (w : World) (last t : ℕ) (actor : ActorId) (h
 none_offered plan w last t actor h o same at none =
     subst (λ (x : World). IfNone o ((event : Event) → MayCome plan x (last_time h) (record { time = t; actor = actor; event = event }) → ⊥)) same
     (subst (λ n. IfNone o ((event : Event) → MayCome plan w n (record { time = t; actor = actor; event = event }) → ⊥)) at none)
-
--- it may be written at the stage where its actor stands
-pub may_write : (p : Pages) (line : Line) (c : Change) (next : Then) (s : Stage) → Writes p.plan (world_of p) (last_time p.lines) line c next → line.time < 2 ^ 63 → length p.lines < p.plan.lines
-    → stage_at p.plan (world_of p) line.actor ≡ Some s → MayWrite p.plan p.lines s line c next
-may_write p line c next s may early room stands =
-    let here : may.stage ≡ s = cc (may.stands, stands) in
-    record {
-      may = record { stands = stands; later = may.in_time; in_time = early; room = room };
-      gives = subst (λ x. move p.plan (world_of p).views x line.time ≡ _) here may.gives;
-    }

@@ -1,5 +1,5 @@
 -- What a judge answers of a line, and for which lists it stands then.
-use Rattle.std.proofs.Common.{ℕ, ◌≡◌, ◌<◌, ◌+◌, ◌^◌, true, List, ◌∷◌, length, Option, Some, None, IfSome, Ok, Err, refl, sym, subst, arith}
+use Rattle.std.proofs.Common.{ℕ, ◌≡◌, ◌<◌, ◌+◌, ◌^◌, true, List, ◌∷◌, length, Option, Some, None, IfNone, IfSome, Ok, Err, refl, sym, subst, arith}
 use Rattle.std.specs.Option.{option_map_or}
 use Rattle.pm_base.specs.declared.ActorId.{ActorId}
 use Rattle.pm_model.specs.declared.event.Line.{Line}
@@ -38,6 +38,11 @@ pub offer_of_plan : (plan : Plan) (w : World) (last t : ℕ) (h : List Line) (o 
 offer_of_plan plan w last t h None same at early of_plan may is = tt
 offer_of_plan plan w last t h (Some x) same at early of_plan may is =
     of_plan x.line (permits plan h w last x.line x.change x.next same at may) (subst (λ n. n < 2 ^ 63) (sym is) early)
+
+-- none is offered, whether there is room or not
+pub none_anyway : (A B : Type 0) (o : Option Offer) → IfNone o A → IfNone o (B → A)
+none_anyway A B None none = λ b. none
+none_anyway A B (Some x) none = tt
 
 -- a line that is taken: the list with it is the one for which the judge stands then
 pub stands_on : (plan : Plan) (w : World) (last lines : ℕ) (h : List Line) (line : Line) (c : Change) (next : Then) → JudgeStandsFor (judged plan w last lines) h → Writes plan w last line c next
