@@ -1,5 +1,5 @@
 pub mod Lines
-pub mod Offers
+pub mod Spelled
 pub mod Newlines
 pub mod Taking
 pub mod Telling

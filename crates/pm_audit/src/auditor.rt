@@ -89,12 +89,7 @@ impl Auditor {
             return;
         }
         let line = u64::from(self.judge.lines()) + 1;
-        if let Some(why) = end_line(
-            &mut self.judge,
-            &mut self.format,
-            &mut self.rest,
-            piece,
-        ) {
+        if let Some(why) = end_line(&mut self.judge, &mut self.format, &mut self.rest, piece) {
             self.bad = Some(BadLine { line, why });
         }
     }

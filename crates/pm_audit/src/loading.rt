@@ -40,12 +40,7 @@ fn bad_line(book: &Book, why: NoWhy) -> LoadFault
 }
 
 // Takes the line of the plan whose text this is, in format 2 where that is true, or says why it is bad.
-fn take(
-    book: &mut Book,
-    names: &PlanNames,
-    is_format2: bool,
-    text: &[u8],
-) -> Result<(), LoadFault>
+fn take(book: &mut Book, names: &PlanNames, is_format2: bool, text: &[u8]) -> Result<(), LoadFault>
     ensures ok { OnOk result (HasTaken is_format2 book.old.plan book.old.lines book.new text.now) }
     ensures err { IfErr result (λ fault. IsLineFault is_format2 book.old text.now fault) }
 {

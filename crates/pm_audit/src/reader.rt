@@ -73,7 +73,9 @@ impl Reader {
         ensures taken { IfSome result (λ behind. HasTakenFirst is_format2 self.old self.new bytes.now behind.now) }
         ensures left { IfNone result (self.new ≡ self.old) }
     {
-        let (offer, behind) = self.names.offered(&self.judge, is_format2, bytes)?;
+        let Some((offer, behind)) = self.names.offered(&self.judge, is_format2, bytes) else {
+            return None;
+        };
         self.judge.accept(&offer.line, offer.change, &offer.next);
         Some(behind)
     }

@@ -24,13 +24,7 @@ pub struct Offer {
 /// The line that an actor of the plan that stands well may write next at a time below 2^63 milliseconds of the
 /// run, where the last line was written at this one: there is one at most. `None` comes exactly where it may
 /// write none then. It takes no memory.
-pub fn offered(
-    plan: &Plan,
-    state: &State,
-    last: u64,
-    actor: ActorId,
-    time: u64,
-) -> Option<Offer>
+pub fn offered(plan: &Plan, state: &State, last: u64, actor: ActorId, time: u64) -> Option<Offer>
     requires is_of { IsOf plan.now state.now }
     requires stands { StandsWell plan.now state.now.world actor }
     requires in_range { IsActor plan.now actor }

@@ -5,7 +5,7 @@ use Rattle.pm_audit.proofs.reader.Reader.take_offered.Goals as goal
 pub returns-clause-taken : goal.returns-clause-taken
 returns-clause-taken c =
     let j = c.args.self.now in
-    let it = c.in_ok-offer in
+    let it = c.in-Some in
     let found = it.ensures in
     record {
       piece = found.piece;
