@@ -1,5 +1,5 @@
 -- A book that is loaded from a trace, line by line.
-use Rattle.std.proofs.Common.{ℕ, suc, ◌≡◌, ◌≢◌, ◌+◌, Bool, true, false, List, [], ◌∷◌, ◌++◌, Result, IfErr, length, nat_eq, inl, inr, refl, sym, subst, ap, ◌∙◌, arith}
+use Rattle.std.proofs.Common.{ℕ, suc, ◌≡◌, ◌≢◌, ◌+◌, Bool, true, false, List, [], ◌∷◌, ◌++◌, Option, Some, None, IfNone, Result, IfErr, length, nat_eq, inl, inr, refl, sym, subst, ap, ◌∙◌, arith}
 use Rattle.std.proofs.lemmas.List.{append_assoc}
 use Rattle.std.proofs.lemmas.Result.{err_from_is_err_and}
 use Rattle.std.specs.Result.{IsErrAnd}
@@ -14,7 +14,8 @@ use Rattle.pm_texts.proofs.Formats.{IsTextIn, format_is, stands_for, text_by_for
 use Rattle.pm_texts.proofs.WhyBad.{reason_first}
 use Rattle.pm_book.specs.Pages.{Pages}
 use Rattle.pm_audit.specs.Auditing.{IsBad, reason_of}
-use Rattle.pm_audit.specs.Loading.{AreLoaded, HasTaken, IsFirstFault, IsLineFault, IsRefused, bad, cut, memory}
+use Rattle.pm_audit.specs.Loading.{AreLoaded, HasTaken, IsFirstFault, IsLineFault, IsRefused}
+use Rattle.pm_audit.specs.Loading as loading
 use Rattle.pm_audit.specs.Offers.{HasTakenLine}
 use Rattle.pm_audit.specs.declared.loading.LoadFault.{LoadFault}
 use Rattle.pm_audit.specs.declared.loading.LoadFault.TheVariants as fault
@@ -108,9 +109,19 @@ loads_first plan bytes f left left' old new has first = loads_line plan bytes f 
 
 -- with none of it
 pub loads_fault : (plan : Plan) (bytes : List ℕ) (f : Bool) (left : List ℕ) (p : Pages) (x : LoadFault) → HasLoaded plan bytes f left p → left ≢ [] → IsFirstFault f p left x → IsRefused plan bytes x
-loads_fault plan bytes f left p x has some (bad piece behind is within x wrong) = loads_bad plan bytes f left piece behind p x has is within wrong
-loads_fault plan bytes f left p x has some (cut within) = loads_cut plan bytes f left p has within some
-loads_fault plan bytes f left p x has some memory = tt
+loads_fault plan bytes f left p x has some (loading.bad piece behind is within y wrong) = loads_bad plan bytes f left piece behind p x has is within wrong
+loads_fault plan bytes f left p x has some (loading.cut within) = loads_cut plan bytes f left p has within some
+loads_fault plan bytes f left p x has some loading.memory = tt
+
+-- nothing was taken where none was found
+pub left_as : {A : Type 0} (P : Type 0) (o : Option A) → o ≡ None → IfNone o P → P
+left_as {A} P None is left = left
+left_as {A} P (Some x) is left = cc is
+
+pub fault_as : {A : Type 0} (f : Bool) (p : Pages) (bytes : List ℕ) (r : Result A LoadFault) (x : LoadFault) → IsErrAnd r (λ y. y ≡ x) → IsFirstFault f p bytes x → IfErr r (λ y. IsFirstFault f p bytes y)
+fault_as {A} f p bytes r x is first =
+    let e = err_from_is_err_and r is in
+    subst (λ (q : Result A LoadFault). IfErr q (λ y. IsFirstFault f p bytes y)) (sym e.1) (subst (λ (y : LoadFault). IsFirstFault f p bytes y) (sym e.2) first)
 
 -- what is answered of a fault
 pub refused_as : {A : Type 0} (plan : Plan) (bytes : List ℕ) (r : Result A LoadFault) (x : LoadFault) → IsErrAnd r (λ y. y ≡ x) → IsRefused plan bytes x → IfErr r (λ y. IsRefused plan bytes y)

@@ -1,13 +1,21 @@
--- The text of a line that is offered.
-use Rattle.std.proofs.Common.{ℕ, ◌≡◌, ◌≤◌, ◌-◌, Bool, true, false, List, subst, sym, ◌∙◌, ap, if◌then◌else◌, arith}
+-- A line that is offered, and its text.
+use Rattle.std.proofs.Common.{ℕ, ◌≡◌, ◌≢◌, ◌<◌, ◌≤◌, ◌-◌, Bool, Bor, true, false, List, [], ◌∷◌, ◌++◌, Option, Some, None, IfSome, subst, sym, ◌∙◌, ap, if◌then◌else◌, arith}
+use Rattle.std.specs.Option.{MatchOption}
 use Rattle.pm_model.specs.declared.event.Line.{Line}
 use Rattle.pm_model.specs.declared.plan.Plan.{Plan}
 use Rattle.pm_model.specs.LineOf.{is_line_of}
-use Rattle.pm_model.specs.Spelling.{line_text}
+use Rattle.pm_model.specs.NoWhy.{is_within_line}
+use Rattle.pm_model.specs.Spelling.{Names, line_text}
 use Rattle.pm_model.specs.Text.{IsTextBehind, names_of}
+use Rattle.pm_texts.proofs.Formats.{in_line, spelled_is}
+use Rattle.pm_judge.specs.declared.offering.Offer.{Offer}
+use Rattle.pm_judge.specs.Judging.{Judged}
+use Rattle.pm_judge.specs.Sometime.{Writes}
+use Rattle.pm_audit.specs.Offers.{IsOffered}
+use Rattle.pm_audit.proofs.Lines.{can_judge}
 
 -- the text with the time since a base, which is 0 in format 1
-pub text_behind : (f : Bool) (plan : Plan) (last base t : ℕ) (line : Line) (piece : List ℕ) → base ≡ (if f then last else 0) → is_line_of plan line ≡ true → base ≤ t → line.time ≡ t
+text_behind : (f : Bool) (plan : Plan) (last base t : ℕ) (line : Line) (piece : List ℕ) → base ≡ (if f then last else 0) → is_line_of plan line ≡ true → base ≤ t → line.time ≡ t
     → line_text (names_of plan) (record line { time = t - base }) ≡ piece → IsTextBehind f plan last line piece
 text_behind true plan last base t line piece at is later same spelled =
     let time : t - base ≡ line.time - last = omega (arith, at, same) in
@@ -15,3 +23,33 @@ text_behind true plan last base t line piece at is later same spelled =
 text_behind false plan last base t line piece at is later same spelled =
     let time : t - base ≡ line.time = omega (arith, at, same) in
     (is, subst (λ n. line_text (names_of plan) (record line { time = n }) ≡ piece) time spelled)
+
+pub is_offered : (f : Bool) (j : Judged) (offer : Offer) (bytes behind : List ℕ) (names : Names) (base t : ℕ) → names ≡ names_of j.plan → base ≡ (if f then j.last else 0) → base ≤ t
+    → is_line_of j.plan offer.line ≡ true → offer.line.time ≡ t → j.lines < j.plan.lines → Writes j.plan j.world j.last offer.line offer.change offer.next
+    → bytes ≡ line_text names (record offer.line { time = t - base }) ++ (10 ∷ behind) → IsOffered f j offer bytes behind
+is_offered f j offer bytes behind names base t same at later is time room writes split =
+    let piece = line_text names (record offer.line { time = t - base }) in
+    let spelled = text_behind f j.plan j.last base t offer.line piece at is later time (ap (λ (n : Names). line_text n (record offer.line { time = t - base })) (sym same)) in
+    let can = can_judge f j.plan j.last offer.line piece spelled in
+    let within = subst (λ (p : List ℕ). is_within_line p ≡ true) (sym (spelled_is f j.plan j.last offer.line piece spelled)) (in_line f j.plan j.last offer.line) in
+    record { piece = piece; begins = record { split = split; within = within }; spelled = spelled; in_range = can.0; in_time = can.1; room = room; writes = writes }
+
+-- what is behind a text and a newline
+pub behind_text : (r : Option (Bor (List ℕ))) (bytes text rest : List ℕ) → bytes ≡ text ++ rest → IfSome r (λ x. rest ≡ (10 ∷ []) ++ x.now) → IfSome r (λ x. bytes ≡ text ++ (10 ∷ x.now))
+behind_text None bytes text rest is left = tt
+behind_text (Some x) bytes text rest is left = is ∙ ap (λ (l : List ℕ). text ++ l) left
+
+-- a prefix that was found
+pub found_first : (s p : List ℕ) (r : Option (Bor (List ℕ))) (x : Bor (List ℕ)) → r ≡ Some x → MatchOption r ((rest : List ℕ) → s ≢ p ++ rest) (λ y. s ≡ p ++ y.now) → s ≡ p ++ x.now
+found_first s p r x is found = subst (λ (o : Option (Bor (List ℕ))). MatchOption o ((rest : List ℕ) → s ≢ p ++ rest) (λ y. s ≡ p ++ y.now)) is found
+
+pub if_found : (s p : List ℕ) (r : Option (Bor (List ℕ))) → MatchOption r ((rest : List ℕ) → s ≢ p ++ rest) (λ y. s ≡ p ++ y.now) → IfSome r (λ y. s ≡ p ++ y.now)
+if_found s p None found = tt
+if_found s p (Some x) found = found
+
+-- the base of a time
+pub base_two : (f : Bool) (last base written : ℕ) → f ≡ true → base ≡ written → written ≡ last → base ≡ (if f then last else 0)
+base_two f last base written is here at = (here ∙ at) ∙ sym (ap (λ (b : Bool). if b then last else 0) is)
+
+pub base_one : (f : Bool) (last base : ℕ) → f ≡ false → base ≡ 0 → base ≡ (if f then last else 0)
+base_one f last base is here = here ∙ sym (ap (λ (b : Bool). if b then last else 0) is)

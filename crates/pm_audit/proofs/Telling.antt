@@ -204,14 +204,14 @@ told_takes a judge f piece empty told within read = λ whole begun h kept inside
     subst (λ (l : List ℕ). IsTaken a.judge.plan whole h (l ++ piece) a.format judge None) (sym none) (go whole h a.format refl told good)
   where
     go : (whole : List ℕ) (h : List Line) (fm : Format) → a.format ≡ fm → Some f ≡ told_of fm → IsGood a.judge.plan a.judge a.format whole h → IsTaken a.judge.plan whole h piece a.format judge None
-    go whole h format.Untold is as good = cc as
-    go whole h format.One is as good =
-        let one : f ≡ false = cc as in
+    go whole h format.Untold is says good = cc says
+    go whole h format.One is says good =
+        let one : f ≡ false = cc says in
         let its = subst (λ (x : Bool). IsRead x a.judge.plan h piece judge None) one (read h good.lawful good.judged) in
         subst (λ (x : Format). IsTaken a.judge.plan whole h piece x judge None) (sym is)
         (take_one a.judge.plan whole piece h a.judge judge None (subst (λ (x : Format). IsGood a.judge.plan a.judge x whole h) is good) within its)
-    go whole h format.Two is as good =
-        let two : f ≡ true = cc as in
+    go whole h format.Two is says good =
+        let two : f ≡ true = cc says in
         let its = subst (λ (x : Bool). IsRead x a.judge.plan h piece judge None) two (read h good.lawful good.judged) in
         subst (λ (x : Format). IsTaken a.judge.plan whole h piece x judge None) (sym is)
         (take_two a.judge.plan whole piece h a.judge judge None (subst (λ (x : Format). IsGood a.judge.plan a.judge x whole h) is good) within its)

@@ -127,7 +127,9 @@ impl Auditor {
         if let Some(behind) = self.take_offered(bytes) {
             return Some(behind);
         }
-        let at = bytes.find_byte(b'\n')?;
+        let Some(at) = bytes.find_byte(b'\n') else {
+            return None;
+        };
         let (line, behind) = bytes.split_at(at);
         self.end_line(line);
         Some(behind.split_at(1).1)

@@ -85,18 +85,22 @@ impl Reader {
         ensures read { (h : List ALine) → IsLawful self.old.plan h → JudgeStandsFor self.old h → IsRead is_format2 self.old.plan h text.now self.new result }
         ensures plan { self.new.plan ≡ self.old.plan }
     {
-        let judge = &mut self.judge;
-        let Some(line) = self
-            .names
-            .line_of(judge.plan(), judge.last_time(), is_format2, text)
-        else {
-            return Some(NoWhy::Text);
-        };
-        match judge.judge(&line) {
-            Ok(()) => None,
-            Err(Bad::Limit) => Some(NoWhy::Limit),
-            Err(Bad::Step) => Some(NoWhy::Step),
-            Err(Bad::Time) => Some(NoWhy::Time),
-        }
+        read(&mut self.judge, &self.names, is_format2, text)
+    }
+}
+
+// Takes the line whose text this is, in format 2 where that is true, or says why it is bad.
+fn read(judge: &mut Judge, names: &PlanNames, is_format2: bool, text: &[u8]) -> Option<NoWhy>
+    ensures read { (h : List ALine) → IsLawful judge.old.plan h → JudgeStandsFor judge.old h → IsRead is_format2 judge.old.plan h text.now judge.new result }
+    ensures plan { judge.new.plan ≡ judge.old.plan }
+{
+    let Some(line) = names.line_of(judge.plan(), judge.last_time(), is_format2, text) else {
+        return Some(NoWhy::Text);
+    };
+    match judge.judge(&line) {
+        Ok(()) => None,
+        Err(Bad::Limit) => Some(NoWhy::Limit),
+        Err(Bad::Step) => Some(NoWhy::Step),
+        Err(Bad::Time) => Some(NoWhy::Time),
     }
 }

@@ -1,5 +1,7 @@
 -- Line by line.
-use Rattle.std.proofs.Common.{◌∙◌, sym, subst}
+use Rattle.std.proofs.Common.{◌∙◌, ◌++◌, ℕ, List, sym, subst}
+use Rattle.pm_audit.specs.Auditing.{AuditorStandsFor}
+use Rattle.pm_audit.specs.declared.auditor.Auditor.{Auditor}
 use Rattle.pm_audit.proofs.Telling.{reads_all, reads_none, reads_on, says_on}
 use Rattle.pm_audit.proofs.auditor.Auditor.feed.Goals as goal
 
@@ -14,4 +16,7 @@ lines-preserved c =
     reads_on c.args.piece.now c.lines.left.now c.in-Some.behind.now c.args.self.now c.lines.self c.take_first.new.self c.lines.invariant c.in-Some.ensures.read
 
 pub returns-clause-stands : goal.returns-clause-stands
-returns-clause-stands c = reads_all c.args.piece.now c.lines.left.now c.args.self.now c.lines.self c.keep.new.self c.lines.invariant c.keep.ensures.stands
+returns-clause-stands c =
+    let left = c.lines.left.now in
+    let keeps = subst (λ (a : Auditor). (b : List ℕ) → AuditorStandsFor a b → AuditorStandsFor c.keep.new.self (b ++ left)) c.in_default.ensures.left c.keep.ensures.stands in
+    reads_all c.args.piece.now left c.args.self.now c.lines.self c.keep.new.self c.lines.invariant keeps

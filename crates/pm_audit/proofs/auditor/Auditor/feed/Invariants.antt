@@ -1,5 +1,5 @@
 use Rattle.std.proofs.Common.{length}
-use Rattle.pm_audit.proofs.Telling.{HasRead}
+use Rattle.pm_audit.specs.Auditing.{HasRead}
 use Rattle.pm_audit.proofs.auditor.Auditor.feed.Given as goal
 
 abbrev pub invariant-lines : goal.invariant-lines

@@ -1,9 +1,11 @@
--- By what the judge answers.
-use Rattle.pm_audit.proofs.Lines.{read_ok, spelled_as}
+-- By the judge that the reader keeps.
+use Rattle.std.proofs.Common.{List, subst}
+use Rattle.pm_model.specs.declared.event.Line.{Line}
+use Rattle.pm_model.specs.Lawful.{IsLawful}
+use Rattle.pm_judge.specs.Judging.{JudgeStandsFor, Judged}
+use Rattle.pm_audit.specs.Auditing.{IsRead}
 use Rattle.pm_audit.proofs.reader.Reader.read.Goals as goal
 
-pub returns-in-Ok-clause-read : goal.returns-in-Ok-clause-read
-returns-in-Ok-clause-read c = λ h lawful stands.
-    let j = c.args.self.now in
-    let spelled = spelled_as c.args.is_format2 c.plan.result.now j.plan c.last_time.result j.last c.in-Some.line c.args.text.now c.plan.ensures c.last_time.ensures.time c.in-Some.ensures.some in
-    read_ok c.args.is_format2 j c.judge.new.self h c.in-Some.line c.args.text.now stands spelled (c.in-Ok.ensures.answer h lawful stands) (c.in-Ok.ensures.taken h lawful stands)
+pub returns-clause-read : goal.returns-clause-read
+returns-clause-read c =
+    subst (λ (j : Judged). (h : List Line) → IsLawful j.plan h → JudgeStandsFor j h → IsRead c.args.is_format2 j.plan h c.args.text.now c.read.new.judge c.read.result) c.self.view_is c.read.ensures.read
