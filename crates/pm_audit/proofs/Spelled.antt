@@ -47,9 +47,6 @@ pub if_found : (s p : List ℕ) (r : Option (Bor (List ℕ))) → MatchOption r 
 if_found s p None found = tt
 if_found s p (Some x) found = found
 
--- the base of a time
-pub base_two : (f : Bool) (last base written : ℕ) → f ≡ true → base ≡ written → written ≡ last → base ≡ (if f then last else 0)
-base_two f last base written is here at = (here ∙ at) ∙ sym (ap (λ (b : Bool). if b then last else 0) is)
-
-pub base_one : (f : Bool) (last base : ℕ) → f ≡ false → base ≡ 0 → base ≡ (if f then last else 0)
-base_one f last base is here = here ∙ sym (ap (λ (b : Bool). if b then last else 0) is)
+-- what holds of a value that is there
+pub at_some : {A : Type 0} (P : A → Type 0) (o : Option A) (x : A) → o ≡ Some x → IfSome o P → P x
+at_some {A} P o x is holds = subst (λ (q : Option A). IfSome q P) is holds

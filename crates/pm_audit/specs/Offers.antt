@@ -1,20 +1,16 @@
 -- A line that may come next and is read by its text (this project's own). Lists have the newest line first.
-use Rattle.std.specs.Prelude.{ℕ, ◌≡◌, ◌<◌, ◌^◌, ◌++◌, ◌∷◌, Bool, true, List, None, length}
+use Rattle.std.specs.Prelude.{ℕ, ◌≡◌, ◌<◌, ◌^◌, ◌++◌, ◌∷◌, Bool, true, List, None}
 use Rattle.pm_model.specs.declared.event.Line.{Line}
-use Rattle.pm_model.specs.Lawful.{IsLawful, last_time}
+use Rattle.pm_model.specs.Lawful.{IsLawful}
 use Rattle.pm_model.specs.NoWhy.{is_within_line}
 use Rattle.pm_model.specs.Text.{IsTextBehind}
 use Rattle.pm_state.specs.Standing.{IsActor}
 use Rattle.pm_judge.specs.declared.offering.Offer.{Offer}
 use Rattle.pm_judge.specs.Judging.{JudgeStandsFor, Judged}
 use Rattle.pm_judge.specs.Sometime.{Writes}
-use Rattle.pm_book.specs.Pages.{Pages, world_of}
+use Rattle.pm_book.specs.Pages.{Pages}
 use Rattle.pm_audit.specs.Auditing.{IsRead}
 use Rattle.pm_audit.specs.Loading.{HasTaken}
-
--- what a judge keeps of a book
-abbrev pub judged_of : Pages → Judged
-judged_of p = record { plan = p.plan; world = world_of p; last = last_time p.lines; lines = length p.lines }
 
 -- the bytes begin with a line, of this piece and a newline, and go on with these
 pub record BeginsWith (bytes piece behind : List ℕ) : Type 0 where

@@ -68,7 +68,15 @@ fn take_offered<'a>(
     ensures taken { IfOk result (λ found. IfSome found (λ behind. HasTakenLine is_format2 book.old book.new bytes.now behind.now)) }
     ensures left { IfOk result (λ found. IfNone found (book.new ≡ book.old)) }
 {
-    let Some((offer, behind)) = names.offered(book, is_format2, bytes) else {
+    let Some(front) = names.front(book.plan(), book.last_time(), is_format2, bytes) else {
+        return Ok(None);
+    };
+    let offered = book.offer(front.actor, front.time);
+    // Borrowed where it stands, since an offer is large.
+    let Some(offer) = &offered else {
+        return Ok(None);
+    };
+    let Some(behind) = names.behind(front.time - front.base, &offer.line, bytes) else {
         return Ok(None);
     };
     book.accept(&offer.line, offer.change, &offer.next)?;
@@ -126,6 +134,17 @@ fn take_all(book: &mut Book, names: &PlanNames, bytes: &[u8]) -> Result<(), Load
     Ok(())
 }
 
+// The same book with the lines of a trace.
+fn loaded(mut book: Book, names: &PlanNames, bytes: &[u8]) -> Result<Book, LoadFault>
+    requires none { book.lines ≡ [] }
+    requires names { names.now ≡ names_of book.plan }
+    ensures ok { IfOk result (AreLoaded book.plan bytes.now) }
+    ensures err { IfErr result (IsRefused book.plan bytes.now) }
+{
+    take_all(&mut book, names, bytes)?;
+    Ok(book)
+}
+
 /// The book of a plan whose lines these bytes are the text of, in either format. Where they are the text
 /// of no lawful list, it says which line is the first bad one and why, as an auditor does.
 pub fn load_trace(alloc: Global, plan: Plan, bytes: &[u8]) -> Result<Book, LoadFault>
@@ -137,9 +156,8 @@ pub fn load_trace(alloc: Global, plan: Plan, bytes: &[u8]) -> Result<Book, LoadF
     let Ok(names) = PlanNames::new(alloc, &plan) else {
         return Err(LoadFault::NoMemory);
     };
-    let Ok(mut book) = Book::start(alloc, plan) else {
-        return Err(LoadFault::NoMemory);
-    };
-    take_all(&mut book, &names, bytes)?;
-    Ok(book)
+    match Book::start(alloc, plan) {
+        Ok(book) => loaded(book, &names, bytes),
+        Err(_) => Err(LoadFault::NoMemory),
+    }
 }

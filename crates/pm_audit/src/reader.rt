@@ -6,6 +6,7 @@ ghost use Rattle.pm_audit.specs.Offers.{HasTakenFirst};
 ghost use Rattle.pm_judge.specs.Judging.{JudgeStandsFor};
 ghost use Rattle.pm_model.specs.declared.event.Line.{Line as ALine};
 ghost use Rattle.pm_model.specs.Lawful.{IsLawful, is_finished};
+ghost use Rattle.pm_model.specs.Text.{names_of};
 ghost use Rattle.pm_model.specs.World.{world};
 
 use crate::offers::PlanNames;
@@ -73,11 +74,7 @@ impl Reader {
         ensures taken { IfSome result (λ behind. HasTakenFirst is_format2 self.old self.new bytes.now behind.now) }
         ensures left { IfNone result (self.new ≡ self.old) }
     {
-        let Some((offer, behind)) = self.names.offered(&self.judge, is_format2, bytes) else {
-            return None;
-        };
-        self.judge.accept(&offer.line, offer.change, &offer.next);
-        Some(behind)
+        take_offered(&mut self.judge, &self.names, is_format2, bytes)
     }
 
     /// Takes the line whose text this is, in format 2 where that is true, or says why it is bad.
@@ -87,6 +84,29 @@ impl Reader {
     {
         read(&mut self.judge, &self.names, is_format2, text)
     }
+}
+
+// Takes the line that may come next with whose text, in format 2 where that is true, and newline the bytes
+// begin, where it is found by its time and its actor. Gives what is behind these.
+fn take_offered<'a>(
+    judge: &mut Judge,
+    names: &PlanNames,
+    is_format2: bool,
+    bytes: &'a [u8],
+) -> Option<&'a [u8]>
+    requires { names.now ≡ names_of judge.old.plan }
+    ensures taken { IfSome result (λ behind. HasTakenFirst is_format2 judge.old judge.new bytes.now behind.now) }
+    ensures left { IfNone result (judge.new ≡ judge.old) }
+{
+    let front = names.front(judge.plan(), judge.last_time(), is_format2, bytes)?;
+    let offered = judge.offer(front.actor, front.time);
+    // Borrowed where it stands, since an offer is large.
+    let Some(offer) = &offered else {
+        return None;
+    };
+    let behind = names.behind(front.time - front.base, &offer.line, bytes)?;
+    judge.accept(&offer.line, offer.change, &offer.next);
+    Some(behind)
 }
 
 // Takes the line whose text this is, in format 2 where that is true, or says why it is bad.
