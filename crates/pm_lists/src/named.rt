@@ -52,6 +52,22 @@ impl<T: Named> NamedList<T> {
         Ok(NamedList { rows, order })
     }
 
+    /// The list of these rows, which have the names of another list's rows, in the same order: so it has the same
+    /// order of names, and sorts nothing. Fails where memory runs out.
+    pub fn named_as<U: Named>(
+        alloc: Global,
+        rows: Vec<T>,
+        others: &NamedList<U>,
+    ) -> Result<NamedList<T>, AllocError>
+    where
+        T: Drop,
+        requires { map T.name_of rows.items ≡ map U.name_of others.now }
+        ensures { IfOk result (λ list. list ≡ rows.items) }
+    {
+        let order = Vec::from_slice(alloc, &others.order)?;
+        Ok(NamedList { rows, order })
+    }
+
     /// The rows, in order.
     pub fn as_slice(&self) -> &[T]
         ensures { result.now ≡ self.now }
