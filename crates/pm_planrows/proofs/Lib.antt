@@ -1,3 +1,4 @@
 pub mod FaultLemmas
 pub mod PositionLemmas
 pub mod NameLemmas
+pub mod RowNames

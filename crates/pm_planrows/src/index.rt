@@ -72,6 +72,13 @@ impl Index {
         })
     }
 
+    /// The names as a list that has them in the order of their bytes too.
+    pub fn labels(&self) -> &NamedList<Label>
+        ensures { result.now ≡ self.now }
+    {
+        &self.labels
+    }
+
     /// The names, in order.
     pub fn as_slice(&self) -> &[Label]
         ensures { result.now ≡ self.now }

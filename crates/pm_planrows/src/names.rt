@@ -66,7 +66,7 @@ fn labels<T: Named>(alloc: Global, rows: &[T]) -> Result<Vec<Label>, NoMemory>
     ensures names { IfOk result (λ v. names_in v.items ≡ map T.name_of rows.now) }
     ensures len { IfOk result (λ v. vec_len v ≡ length rows.now) }
 {
-    let mut labels = Vec::new(alloc);
+    let mut labels = Vec::with_capacity(alloc, rows.len())?;
     for row in rows {
         let name = copied(alloc, row.name())?;
         labels.push(Label { name })?;
@@ -86,7 +86,7 @@ fn link_labels(alloc: Global, rows: &[RawLink]) -> Result<Vec<Label>, NoMemory>
     ensures names { IfOk result (λ v. names_in v.items ≡ map (λ row. pair_name row.consumer row.supplier) rows.now) }
     ensures len { IfOk result (λ v. vec_len v ≡ length rows.now) }
 {
-    let mut labels = Vec::new(alloc);
+    let mut labels = Vec::with_capacity(alloc, rows.len())?;
     for row in rows {
         let name = pair_name(alloc, row.consumer.as_slice(), row.supplier.as_slice())?;
         labels.push(Label { name })?;

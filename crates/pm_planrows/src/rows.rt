@@ -24,7 +24,7 @@ pub fn domain_rows(alloc: Global, raw: &RawPlan, names: &Names) -> Result<Domain
     ensures { IfOk result (λ rows. rows ≡ domain_rows raw.now) }
 {
     let rows = domains_in(alloc, raw.domains.as_slice(), &names.domains)?;
-    Ok(NamedList::new(alloc, rows)?)
+    Ok(NamedList::named_as(alloc, rows, names.domains.labels())?)
 }
 
 fn domains_in(
@@ -35,7 +35,7 @@ fn domains_in(
     requires { length domains.now ≤ MAX_DEVICES }
     ensures { IfOk result (λ v. v.items ≡ map (domain_row (names_in domains.now)) rows.now) }
 {
-    let mut made = Vec::new(alloc);
+    let mut made = Vec::with_capacity(alloc, rows.len())?;
     for row in rows {
         made.push(domain_row(alloc, row, domains)?)?;
     }
@@ -62,7 +62,7 @@ pub fn device_rows(alloc: Global, raw: &RawPlan, names: &Names) -> Result<Device
 {
     let rows = raw.devices.as_slice();
     let rows = devices_in(alloc, rows, &names.domains, &names.devices)?;
-    Ok(NamedList::new(alloc, rows)?)
+    Ok(NamedList::named_as(alloc, rows, names.devices.labels())?)
 }
 
 fn devices_in(
@@ -75,7 +75,7 @@ fn devices_in(
     requires devices { length devices.now ≤ MAX_DEVICES }
     ensures { IfOk result (λ v. v.items ≡ map (device_row (names_in domains.now) (names_in devices.now)) rows.now) }
 {
-    let mut made = Vec::new(alloc);
+    let mut made = Vec::with_capacity(alloc, rows.len())?;
     for row in rows {
         made.push(device_row(alloc, row, domains, devices)?)?;
     }
@@ -122,7 +122,7 @@ fn links_in(alloc: Global, rows: &[RawLink], devices: &Index) -> Result<Vec<Link
     requires { length devices.now ≤ MAX_DEVICES }
     ensures { IfOk result (λ v. v.items ≡ map (link_row (names_in devices.now)) rows.now) }
 {
-    let mut made = Vec::new(alloc);
+    let mut made = Vec::with_capacity(alloc, rows.len())?;
     for row in rows {
         made.push(link_row(row, devices))?;
     }

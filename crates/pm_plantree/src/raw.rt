@@ -131,7 +131,7 @@ pub fn raw_plan(alloc: Global, tree: &Table) -> Result<RawPlan, AllocError>
 fn rows_in<T: Row>(alloc: Global, values: &[Value]) -> Result<Vec<T>, AllocError>
     ensures { IfOk result (λ rows. rows.items ≡ rows_in T.row_of (map view values.now)) }
 {
-    let mut rows = Vec::new(alloc);
+    let mut rows = Vec::with_capacity(alloc, values.len())?;
     for value in values {
         if let Some(table) = value.as_table() {
             rows.push(T::row(alloc, entries_of(alloc, table)?.as_slice())?)?;
@@ -271,7 +271,7 @@ fn numbers_at(alloc: Global, entries: &[Entry], key: &str) -> Result<Option<Code
 fn numbers_in(alloc: Global, values: &[Value]) -> Result<Vec<i64>, AllocError>
     ensures { IfOk result (λ numbers. numbers.items ≡ numbers_in (map view values.now)) }
 {
-    let mut numbers = Vec::new(alloc);
+    let mut numbers = Vec::with_capacity(alloc, values.len())?;
     for value in values {
         if let Some(number) = value.as_integer() {
             numbers.push(number)?;
@@ -284,7 +284,7 @@ fn numbers_in(alloc: Global, values: &[Value]) -> Result<Vec<i64>, AllocError>
 fn texts_in(alloc: Global, values: &[Value]) -> Result<Vec<Name>, AllocError>
     ensures { IfOk result (λ texts. texts.items ≡ texts_in (map view values.now)) }
 {
-    let mut texts = Vec::new(alloc);
+    let mut texts = Vec::with_capacity(alloc, values.len())?;
     for value in values {
         if let Some(text) = value.as_str() {
             texts.push(copied(alloc, text)?)?;
