@@ -119,9 +119,8 @@ fn starts(plan: &Plan, parts: &Parts, command: Command, time: u64) -> Move
     }
 }
 
-/// The only move at a stage of a control function: its line, with what takes the stage's place; or the
-/// device for which it waits. `time` is in milliseconds of the run. It takes no memory.
-pub fn next(plan: &Plan, parts: &Parts, stage: ControlStage, time: u64) -> Move
+// The only move at a stage of a control function.
+fn move_at(plan: &Plan, parts: &Parts, stage: ControlStage, time: u64) -> Move
     requires made_for { IsFor plan.now parts.now.shape }
     requires well_formed { is_well_formed plan.now parts.now.views (the_stage.Control stage) ≡ true }
     requires in_time { time < 2 ^ 63 }
@@ -150,4 +149,16 @@ pub fn next(plan: &Plan, parts: &Parts, stage: ControlStage, time: u64) -> Move
             active::suppliers_idle(plan, parts, dev, last)
         }
     }
+}
+
+/// Writes to `out` the only move at a stage of a control function: its line, with what takes the
+/// stage's place; or the device for which it waits. `time` is in milliseconds of the run. A move is
+/// large, so it is written where its caller keeps it. It takes no memory.
+pub fn next(plan: &Plan, parts: &Parts, stage: ControlStage, time: u64, out: &mut Move)
+    requires made_for { IsFor plan.now parts.now.shape }
+    requires well_formed { is_well_formed plan.now parts.now.views (the_stage.Control stage) ≡ true }
+    requires in_time { time < 2 ^ 63 }
+    ensures { out.new ≡ timed (due plan.now parts.now.views (the_stage.Control stage)) time (control_row plan.now parts.now.views stage time) }
+{
+    *out = move_at(plan, parts, stage, time);
 }

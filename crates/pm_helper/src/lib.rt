@@ -106,77 +106,90 @@ fn takes(dev: DevId, then: Then) -> Move
 }
 
 // A get that may not resume.
-fn gets_if(parts: &Parts, command: Command, holds: bool) -> Move
+fn gets_if(parts: &Parts, command: Command, holds: bool, out: &mut Move)
     requires { command.dev.0 < length parts.now.shape.parents }
-    ensures { result ≡ move_of (gets_if parts.now.views command holds) }
+    ensures { out.new ≡ move_of (gets_if parts.now.views command holds) }
 {
     let Command { helper, dev, .. } = command;
     if parts.is_disabled(dev) {
-        helper_returns(helper, dev, EINVAL, Change::Same)
+        *out = helper_returns(helper, dev, EINVAL, Change::Same);
     } else if parts.is_active(dev) && holds {
-        takes(dev, then_returns(helper, dev, 1))
+        *out = takes(dev, then_returns(helper, dev, 1));
     } else {
-        helper_returns(helper, dev, 0, Change::Same)
+        *out = helper_returns(helper, dev, 0, Change::Same);
     }
 }
 
 // A put finds a count that a caller took.
-fn callers_put(parts: &Parts, command: Command, then: Then) -> Move
+fn callers_put(parts: &Parts, command: Command, then: Then, out: &mut Move)
     requires { command.dev.0 < length parts.now.shape.parents }
-    ensures { result ≡ move_of (callers_put parts.now.views command then) }
+    ensures { out.new ≡ move_of (callers_put parts.now.views command then) }
 {
     let Command { helper, dev, .. } = command;
     if parts.device(dev).share == 0 {
-        return helper_returns(helper, dev, EINVAL, Change::Same);
+        *out = helper_returns(helper, dev, EINVAL, Change::Same);
+        return;
     }
-    Move::Write(
+    *out = Move::Write(
         Event::Put {
             dev,
             why: Why::Caller,
         },
         Change::Same,
         then,
-    )
+    );
 }
 
 // The line after the call line.
 #[tactic(auto, unfolding(pm_model::specs::HelperTable::helper_starts))]
-fn starts(parts: &Parts, command: Command) -> Move
+fn starts(parts: &Parts, command: Command, out: &mut Move)
     requires { command.dev.0 < length parts.now.shape.parents }
-    ensures { result ≡ move_of (helper_starts parts.now.views command) }
+    ensures { out.new ≡ move_of (helper_starts parts.now.views command) }
 {
     let Command { helper, dev, .. } = command;
     let flags = flags_of(helper);
     let its_code = Await::Return { helper, dev };
     match helper {
-        Helper::GetSync | Helper::Get => takes(dev, calls(to_resume(dev, flags), its_code)),
-        Helper::GetNoresume => takes(dev, then_returns(helper, dev, 0)),
-        Helper::GetIfInUse => gets_if(parts, command, parts.is_in_use(dev)),
-        Helper::GetIfActive => gets_if(parts, command, true),
+        Helper::GetSync | Helper::Get => {
+            *out = takes(dev, calls(to_resume(dev, flags), its_code));
+        }
+        Helper::GetNoresume => {
+            *out = takes(dev, then_returns(helper, dev, 0));
+        }
+        Helper::GetIfInUse => {
+            gets_if(parts, command, parts.is_in_use(dev), out);
+        }
+        Helper::GetIfActive => {
+            gets_if(parts, command, true, out);
+        }
         Helper::Put | Helper::PutSync => {
             let after_put = Stage::Idle(IdleStage::AfterPut { dev, flags });
-            callers_put(parts, command, calls(after_put, its_code))
+            callers_put(parts, command, calls(after_put, its_code), out);
         }
         Helper::PutAutosuspend | Helper::PutSyncSuspend | Helper::PutSyncAutosuspend => {
             let suspends = Stage::Helper(HelperStage::PutSuspends { command });
-            callers_put(parts, command, goes(suspends))
+            callers_put(parts, command, goes(suspends), out);
         }
-        Helper::PutNoidle => callers_put(parts, command, then_returns(helper, dev, 0)),
-        _ => helper_returns(helper, dev, 0, Change::Same),
+        Helper::PutNoidle => {
+            callers_put(parts, command, then_returns(helper, dev, 0), out);
+        }
+        _ => {
+            *out = helper_returns(helper, dev, 0, Change::Same);
+        }
     }
 }
 
 // A put that goes on to suspend where nothing else counts.
 #[tactic(auto, unfolding(pm_model::specs::HelperTable::put_suspends))]
-fn put_suspends(plan: &Plan, parts: &Parts, command: Command) -> Move
+fn put_suspends(plan: &Plan, parts: &Parts, command: Command, out: &mut Move)
     requires made_for { IsFor plan.now parts.now.shape }
     requires in_range { command.dev.0 < length plan.now.devices }
-    ensures { result ≡ move_of (put_suspends plan.now parts.now.views command) }
+    ensures { out.new ≡ move_of (put_suspends plan.now parts.now.views command) }
 {
     let Command { helper, dev, .. } = command;
     let flags = flags_of(helper);
     if parts.is_in_use(dev) {
-        return Move::Write(
+        *out = Move::Write(
             Event::Usage {
                 dev,
                 fields: parts.fields(dev, flags),
@@ -184,8 +197,9 @@ fn put_suspends(plan: &Plan, parts: &Parts, command: Command) -> Move
             Change::Same,
             then_returns(helper, dev, 0),
         );
+        return;
     }
-    parts.calls_suspend(dev, flags, Await::Return { helper, dev })
+    *out = parts.calls_suspend(dev, flags, Await::Return { helper, dev });
 }
 
 // What a work item carries out.
@@ -236,52 +250,65 @@ fn fires(parts: &Parts, dev: DevId) -> Move
 }
 
 // A timer, once its deadline has passed.
-fn timer(parts: &Parts, dev: DevId, time: u64) -> Move
+fn timer(parts: &Parts, dev: DevId, time: u64, out: &mut Move)
     requires { dev.0 < length parts.now.shape.parents }
-    ensures { result ≡ timed (option_map_or (λ armed. armed.deadline) (timer parts.now.views dev) 0) time (timer_fires parts.now.views dev) }
+    ensures { out.new ≡ timed (option_map_or (λ armed. armed.deadline) (timer parts.now.views dev) 0) time (timer_fires parts.now.views dev) }
 {
     let due = match parts.timer(dev) {
         Some(armed) => armed.deadline,
         None => 0,
     };
     if time < due {
-        Move::Late(due)
+        *out = Move::Late(due);
     } else {
-        fires(parts, dev)
+        *out = fires(parts, dev);
     }
 }
 
 // A delay, once it has passed.
-fn delay(ms: i64, since: u64, time: u64) -> Move
+fn delay(ms: i64, since: u64, time: u64, out: &mut Move)
     requires positive { pos 0 ≤ℤ ms }
     requires reckons { since + nat_abs ms < 2 ^ 64 }
-    ensures { result ≡ timed (since + nat_abs ms) time (helper_returns helper.Delay (record { 0 = 0 }) (pos 0) change.Same) }
+    ensures { out.new ≡ timed (since + nat_abs ms) time (helper_returns helper.Delay (record { 0 = 0 }) (pos 0) change.Same) }
 {
     let due = since + ms.unsigned_abs();
     if time < due {
-        Move::Late(due)
+        *out = Move::Late(due);
     } else {
-        helper_returns(Helper::Delay, DevId(0), 0, Change::Same)
+        *out = helper_returns(Helper::Delay, DevId(0), 0, Change::Same);
     }
 }
 
-/// The only move at a stage of a helper, of a work item or of a timer: its line, with what takes the
-/// stage's place; or the moment at which its line is due, where that is later than `time` (milliseconds
-/// of the run). It takes no memory.
-pub fn next(plan: &Plan, parts: &Parts, stage: HelperStage, time: u64) -> Move
+/// Writes to `out` the only move at a stage of a helper, of a work item or of a timer: its line, with
+/// what takes the stage's place; or the moment at which its line is due, where that is later than
+/// `time` (milliseconds of the run). A move is large, so it is written where its caller keeps it. It
+/// takes no memory.
+pub fn next(plan: &Plan, parts: &Parts, stage: HelperStage, time: u64, out: &mut Move)
     requires made_for { IsFor plan.now parts.now.shape }
     requires well_formed { is_well_formed plan.now parts.now.views (the_stage.Helper stage) ≡ true }
-    ensures { result ≡ timed (due plan.now parts.now.views (the_stage.Helper stage)) time (helper_row plan.now parts.now.views stage time) }
+    ensures { out.new ≡ timed (due plan.now parts.now.views (the_stage.Helper stage)) time (helper_row plan.now parts.now.views stage time) }
 {
     match stage {
         HelperStage::Call { command } => {
-            Move::Write(Event::Call { command }, Change::Same, begins(command, time))
+            *out = Move::Write(Event::Call { command }, Change::Same, begins(command, time));
         }
-        HelperStage::Work { dev } => works(parts, dev),
-        HelperStage::Timer { dev } => timer(parts, dev, time),
-        HelperStage::Start { command } => starts(parts, command),
-        HelperStage::PutSuspends { command } => put_suspends(plan, parts, command),
-        HelperStage::Delay { ms, since } => delay(ms, since, time),
-        HelperStage::Ret { helper, dev, code } => helper_returns(helper, dev, code, Change::Same),
+        HelperStage::Work { dev } => {
+            *out = works(parts, dev);
+        }
+        HelperStage::Timer { dev } => {
+            timer(parts, dev, time, out);
+        }
+        HelperStage::Start { command } => {
+            starts(parts, command, out);
+        }
+        HelperStage::PutSuspends { command } => {
+            put_suspends(plan, parts, command, out);
+        }
+        HelperStage::Delay { ms, since } => {
+            delay(ms, since, time, out);
+        }
+        HelperStage::Ret { helper, dev, code } => {
+            *out = helper_returns(helper, dev, code, Change::Same);
+        }
     }
 }

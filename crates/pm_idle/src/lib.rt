@@ -32,26 +32,30 @@ fn then_suspends(dev: DevId, flags: u8) -> Then
 
 // I1
 #[tactic(auto, unfolding(pm_model::specs::IdleTable::idle_verdict))]
-fn verdict(plan: &Plan, parts: &Parts, dev: DevId, flags: u8, time: u64) -> Move
+fn verdict(plan: &Plan, parts: &Parts, dev: DevId, flags: u8, time: u64, out: &mut Move)
     requires made_for { IsFor plan.now parts.now.shape }
     requires in_range { dev.0 < length plan.now.devices }
-    ensures { result ≡ move_of (idle_verdict plan.now parts.now.views dev flags time) }
+    ensures { out.new ≡ move_of (idle_verdict plan.now parts.now.views dev flags time) }
 {
     let refusal = parts.refusal(plan, dev);
     if refusal < 0 {
-        return call_returns(Cb::Idle, dev, refusal, Change::Same);
+        *out = call_returns(Cb::Idle, dev, refusal, Change::Same);
+        return;
     }
     if !parts.is_active(dev) {
-        return call_returns(Cb::Idle, dev, EAGAIN, Change::Same);
+        *out = call_returns(Cb::Idle, dev, EAGAIN, Change::Same);
+        return;
     }
     if is_above_idle(parts.pending(dev).request) {
-        return call_returns(Cb::Idle, dev, EAGAIN, Change::Same);
+        *out = call_returns(Cb::Idle, dev, EAGAIN, Change::Same);
+        return;
     }
     if parts.device(dev).idle_running {
-        return call_returns(Cb::Idle, dev, EINPROGRESS, Change::Same);
+        *out = call_returns(Cb::Idle, dev, EINPROGRESS, Change::Same);
+        return;
     }
     if !has_idle(plan, dev) {
-        return Move::Write(
+        *out = Move::Write(
             Event::Return {
                 func: Cb::Idle,
                 dev,
@@ -60,9 +64,10 @@ fn verdict(plan: &Plan, parts: &Parts, dev: DevId, flags: u8, time: u64) -> Move
             Change::CancelRequest { dev },
             then_suspends(dev, flags),
         );
+        return;
     }
     if has(flags, ASYNC) {
-        return Move::Write(
+        *out = Move::Write(
             Event::Work {
                 dev,
                 act: WorkAct::Queue(Req::Idle),
@@ -70,8 +75,9 @@ fn verdict(plan: &Plan, parts: &Parts, dev: DevId, flags: u8, time: u64) -> Move
             Change::Same,
             goes(Stage::Idle(IdleStage::Queued { dev, flags })),
         );
+        return;
     }
-    Move::Write(
+    *out = Move::Write(
         Event::Begin { dev, cb: Cb::Idle },
         Change::CancelRequest { dev },
         goes(Stage::Idle(IdleStage::Running {
@@ -79,7 +85,7 @@ fn verdict(plan: &Plan, parts: &Parts, dev: DevId, flags: u8, time: u64) -> Move
             flags,
             since: time,
         })),
-    )
+    );
 }
 
 // I2
@@ -103,18 +109,18 @@ fn ends(plan: &Plan, parts: &Parts, dev: DevId, flags: u8, time: u64) -> Move
 }
 
 // I2, once its callback's time has passed.
-fn running(plan: &Plan, parts: &Parts, dev: DevId, flags: u8, since: u64, time: u64) -> Move
+fn running(plan: &Plan, parts: &Parts, dev: DevId, flags: u8, since: u64, time: u64, out: &mut Move)
     requires made_for { IsFor plan.now parts.now.shape }
     requires in_range { dev.0 < length plan.now.devices }
     requires begun { 0 < begun parts.now.views cb.Idle dev }
     requires reckons { since + ms_of plan.now cb.Idle dev < 2 ^ 64 }
-    ensures { result ≡ timed (since + ms_of plan.now cb.Idle dev) time (idle_ends plan.now parts.now.views dev flags time) }
+    ensures { out.new ≡ timed (since + ms_of plan.now cb.Idle dev) time (idle_ends plan.now parts.now.views dev flags time) }
 {
     let due = since + u64::from(ms_of(plan, Cb::Idle, dev));
     if time < due {
-        Move::Late(due)
+        *out = Move::Late(due);
     } else {
-        ends(plan, parts, dev, flags, time)
+        *out = ends(plan, parts, dev, flags, time);
     }
 }
 
@@ -140,13 +146,13 @@ fn done(dev: DevId, flags: u8, code: i32) -> Move
 
 // T
 #[tactic(auto, unfolding(pm_model::specs::IdleTable::after_put))]
-fn after_put(plan: &Plan, parts: &Parts, dev: DevId, flags: u8) -> Move
+fn after_put(plan: &Plan, parts: &Parts, dev: DevId, flags: u8, out: &mut Move)
     requires made_for { IsFor plan.now parts.now.shape }
     requires in_range { dev.0 < length plan.now.devices }
-    ensures { result ≡ move_of (after_put plan.now parts.now.views dev flags) }
+    ensures { out.new ≡ move_of (after_put plan.now parts.now.views dev flags) }
 {
     if parts.is_in_use(dev) {
-        return Move::Write(
+        *out = Move::Write(
             Event::Usage {
                 dev,
                 fields: parts.fields(dev, flags),
@@ -154,24 +160,38 @@ fn after_put(plan: &Plan, parts: &Parts, dev: DevId, flags: u8) -> Move
             Change::Same,
             back(0),
         );
+        return;
     }
-    parts.idles(dev, flags)
+    *out = parts.idles(dev, flags);
 }
 
-/// The only move at a stage of idle, or at the stage after a put: its line, with what takes the
-/// stage's place; or the moment at which its line is due, where that is later than `time`
-/// (milliseconds of the run). It takes no memory.
-pub fn next(plan: &Plan, parts: &Parts, stage: IdleStage, time: u64) -> Move
+/// Writes to `out` the only move at a stage of idle, or at the stage after a put: its line, with what
+/// takes the stage's place; or the moment at which its line is due, where that is later than `time`
+/// (milliseconds of the run). A move is large, so it is written where its caller keeps it. It takes no
+/// memory.
+pub fn next(plan: &Plan, parts: &Parts, stage: IdleStage, time: u64, out: &mut Move)
     requires made_for { IsFor plan.now parts.now.shape }
     requires well_formed { is_well_formed plan.now parts.now.views (the_stage.Idle stage) ≡ true }
-    ensures { result ≡ timed (due plan.now parts.now.views (the_stage.Idle stage)) time (idle_row plan.now parts.now.views stage time) }
+    ensures { out.new ≡ timed (due plan.now parts.now.views (the_stage.Idle stage)) time (idle_row plan.now parts.now.views stage time) }
 {
     match stage {
-        IdleStage::Enter { dev, flags } => parts.idles(dev, flags),
-        IdleStage::Verdict { dev, flags } => verdict(plan, parts, dev, flags, time),
-        IdleStage::Running { dev, flags, since } => running(plan, parts, dev, flags, since, time),
-        IdleStage::Done { dev, flags, code } => done(dev, flags, code),
-        IdleStage::Queued { dev, .. } => call_returns(Cb::Idle, dev, 0, Change::Same),
-        IdleStage::AfterPut { dev, flags } => after_put(plan, parts, dev, flags),
+        IdleStage::Enter { dev, flags } => {
+            *out = parts.idles(dev, flags);
+        }
+        IdleStage::Verdict { dev, flags } => {
+            verdict(plan, parts, dev, flags, time, out);
+        }
+        IdleStage::Running { dev, flags, since } => {
+            running(plan, parts, dev, flags, since, time, out);
+        }
+        IdleStage::Done { dev, flags, code } => {
+            *out = done(dev, flags, code);
+        }
+        IdleStage::Queued { dev, .. } => {
+            *out = call_returns(Cb::Idle, dev, 0, Change::Same);
+        }
+        IdleStage::AfterPut { dev, flags } => {
+            after_put(plan, parts, dev, flags, out);
+        }
     }
 }

@@ -110,29 +110,33 @@ fn deferred_code(flags: u8) -> i32
 
 // R1
 #[tactic(auto, unfolding(pm_model::specs::ResumeTable::resume_verdict))]
-fn verdict(plan: &Plan, parts: &Parts, call: ResumeCall, tried: bool) -> Move
+fn verdict(plan: &Plan, parts: &Parts, call: ResumeCall, tried: bool, out: &mut Move)
     requires made_for { IsFor plan.now parts.now.shape }
     requires in_range { call.dev.0 < length plan.now.devices }
-    ensures { result ≡ move_of (resume_verdict plan.now parts.now.views call tried) }
+    ensures { out.new ≡ move_of (resume_verdict plan.now parts.now.views call tried) }
 {
     let dev = call.dev;
     let flags = call.flags;
     let cancel = Change::ResumeCancel { dev };
     if parts.has_error(dev) {
-        return resume_returns(plan, call, EINVAL, Change::Same);
+        *out = resume_returns(plan, call, EINVAL, Change::Same);
+        return;
     }
     if parts.was_active(dev) {
-        return resume_returns(plan, call, 1, Change::Same);
+        *out = resume_returns(plan, call, 1, Change::Same);
+        return;
     }
     if parts.is_disabled(dev) {
-        return resume_returns(plan, call, EACCES, Change::Same);
+        *out = resume_returns(plan, call, EACCES, Change::Same);
+        return;
     }
     if parts.is_active(dev) {
-        return resume_returns(plan, call, 1, cancel);
+        *out = resume_returns(plan, call, 1, cancel);
+        return;
     }
     if defers(parts, dev, flags) {
         let code = deferred_code(flags);
-        return Move::Write(
+        *out = Move::Write(
             Event::Work {
                 dev,
                 act: WorkAct::Defer,
@@ -140,19 +144,22 @@ fn verdict(plan: &Plan, parts: &Parts, call: ResumeCall, tried: bool) -> Move
             cancel,
             resume_goes(ResumeStage::Done { call, code }),
         );
+        return;
     }
     if is_under_way(parts, dev, flags) {
-        return resume_returns(plan, call, EINPROGRESS, cancel);
+        *out = resume_returns(plan, call, EINPROGRESS, cancel);
+        return;
     }
     if parts.is_moving(dev) {
-        return Move::Write(
+        *out = Move::Write(
             Event::Wait { dev },
             cancel,
             resume_goes(ResumeStage::Waiting { call, tried }),
         );
+        return;
     }
     if has(flags, ASYNC) {
-        return Move::Write(
+        *out = Move::Write(
             Event::Work {
                 dev,
                 act: WorkAct::Queue(Req::Resume),
@@ -160,11 +167,12 @@ fn verdict(plan: &Plan, parts: &Parts, call: ResumeCall, tried: bool) -> Move
             cancel,
             resume_goes(ResumeStage::Done { call, code: 0 }),
         );
+        return;
     }
     let parent = parent_of(plan, dev);
     if takes_parent(plan, call) {
         let call = ResumeCall { held: true, ..call };
-        return Move::Write(
+        *out = Move::Write(
             Event::Get {
                 dev: parent,
                 why: Why::Child(dev),
@@ -172,15 +180,18 @@ fn verdict(plan: &Plan, parts: &Parts, call: ResumeCall, tried: bool) -> Move
             cancel,
             resume_goes(ResumeStage::Verdict { call, tried }),
         );
+        return;
     }
     if calls_parent(plan, parts, dev, tried) {
-        return parts.calls_resume(parent, 0, Purpose::Child, Await::ResumeParent { call });
+        *out = parts.calls_resume(parent, 0, Purpose::Child, Await::ResumeParent { call });
+        return;
     }
     if parts.awaits_parent(plan, dev) {
-        return resume_returns(plan, call, EBUSY, cancel);
+        *out = resume_returns(plan, call, EBUSY, cancel);
+        return;
     }
     if no_callbacks(plan, dev) {
-        return Move::Write(
+        *out = Move::Write(
             Event::State {
                 dev,
                 word: Word::Active,
@@ -188,27 +199,28 @@ fn verdict(plan: &Plan, parts: &Parts, call: ResumeCall, tried: bool) -> Move
             cancel,
             resume_goes(ResumeStage::Idle { call }),
         );
+        return;
     }
-    Move::Write(
+    *out = Move::Write(
         Event::State {
             dev,
             word: Word::Resuming,
         },
         cancel,
         resume_goes(ResumeStage::Links { call }),
-    )
+    );
 }
 
 // R1 after its wait line.
-fn waiting(plan: &Plan, parts: &Parts, call: ResumeCall, tried: bool) -> Move
+fn waiting(plan: &Plan, parts: &Parts, call: ResumeCall, tried: bool, out: &mut Move)
     requires made_for { IsFor plan.now parts.now.shape }
     requires in_range { call.dev.0 < length plan.now.devices }
-    ensures { result ≡ move_of (first_of ((is_moving parts.now.views call.dev, waits call.dev) ∷ []) (resume_verdict plan.now parts.now.views call tried)) }
+    ensures { out.new ≡ move_of (first_of ((is_moving parts.now.views call.dev, waits call.dev) ∷ []) (resume_verdict plan.now parts.now.views call tried)) }
 {
     if parts.is_moving(call.dev) {
-        Move::Wait(call.dev)
+        *out = Move::Wait(call.dev);
     } else {
-        verdict(plan, parts, call, tried)
+        verdict(plan, parts, call, tried, out);
     }
 }
 
@@ -228,27 +240,29 @@ fn begins(call: ResumeCall, time: u64) -> Move
 
 // R2
 #[tactic(auto, unfolding(pm_model::specs::ResumeTable::resume_links))]
-fn links(plan: &Plan, parts: &Parts, call: ResumeCall, time: u64) -> Move
+fn links(plan: &Plan, parts: &Parts, call: ResumeCall, time: u64, out: &mut Move)
     requires made_for { IsFor plan.now parts.now.shape }
     requires in_range { call.dev.0 < length plan.now.devices }
-    ensures { result ≡ move_of (resume_links plan.now parts.now.views call time) }
+    ensures { out.new ≡ move_of (resume_links plan.now parts.now.views call time) }
 {
     let dev = call.dev;
     match parts.first_free(plan, dev) {
-        Some((link, supplier)) => Move::Write(
-            Event::Get {
-                dev: supplier,
-                why: Why::Link(dev),
-            },
-            Change::Same,
-            calls(
-                supplier_call(link, supplier),
-                Await::ResumeSupplier { call, link },
-            ),
-        ),
+        Some((link, supplier)) => {
+            *out = Move::Write(
+                Event::Get {
+                    dev: supplier,
+                    why: Why::Link(dev),
+                },
+                Change::Same,
+                calls(
+                    supplier_call(link, supplier),
+                    Await::ResumeSupplier { call, link },
+                ),
+            );
+        }
         None => {
             if has_domain(plan, dev) {
-                Move::Write(
+                *out = Move::Write(
                     Event::Domain {
                         dev,
                         up: true,
@@ -256,9 +270,9 @@ fn links(plan: &Plan, parts: &Parts, call: ResumeCall, time: u64) -> Move
                     },
                     Change::Same,
                     resume_goes(ResumeStage::Callback { call }),
-                )
+                );
             } else {
-                begins(call, time)
+                *out = begins(call, time);
             }
         }
     }
@@ -266,48 +280,52 @@ fn links(plan: &Plan, parts: &Parts, call: ResumeCall, time: u64) -> Move
 
 // R9
 #[tactic(auto, unfolding(pm_model::specs::ResumeTable::resume_unwinds))]
-fn unwinds(plan: &Plan, parts: &Parts, call: ResumeCall, code: i32) -> Move
+fn unwinds(plan: &Plan, parts: &Parts, call: ResumeCall, code: i32, out: &mut Move)
     requires made_for { IsFor plan.now parts.now.shape }
     requires in_range { call.dev.0 < length plan.now.devices }
-    ensures { result ≡ move_of (resume_unwinds plan.now parts.now.views call code) }
+    ensures { out.new ≡ move_of (resume_unwinds plan.now parts.now.views call code) }
 {
     let dev = call.dev;
     match parts.first_held(plan, dev) {
-        Some((_, supplier)) => Move::Write(
-            Event::Put {
-                dev: supplier,
-                why: Why::Link(dev),
-            },
-            Change::Same,
-            calls(
-                Stage::Idle(IdleStage::AfterPut {
+        Some((_, supplier)) => {
+            *out = Move::Write(
+                Event::Put {
                     dev: supplier,
-                    flags: 5,
-                }),
-                Await::ResumeUnwind { call, code },
-            ),
-        ),
-        None => Move::Write(
-            Event::State {
-                dev,
-                word: Word::Suspended,
-            },
-            Change::Same,
-            resume_goes(ResumeStage::Done { call, code }),
-        ),
+                    why: Why::Link(dev),
+                },
+                Change::Same,
+                calls(
+                    Stage::Idle(IdleStage::AfterPut {
+                        dev: supplier,
+                        flags: 5,
+                    }),
+                    Await::ResumeUnwind { call, code },
+                ),
+            );
+        }
+        None => {
+            *out = Move::Write(
+                Event::State {
+                    dev,
+                    word: Word::Suspended,
+                },
+                Change::Same,
+                resume_goes(ResumeStage::Done { call, code }),
+            );
+        }
     }
 }
 
 // R8
 #[tactic(auto, unfolding(pm_model::specs::ResumeTable::resume_domain))]
-fn domain(plan: &Plan, parts: &Parts, call: ResumeCall, code: i32) -> Move
+fn domain(plan: &Plan, parts: &Parts, call: ResumeCall, code: i32, out: &mut Move)
     requires made_for { IsFor plan.now parts.now.shape }
     requires in_range { call.dev.0 < length plan.now.devices }
-    ensures { result ≡ move_of (resume_domain plan.now parts.now.views call code) }
+    ensures { out.new ≡ move_of (resume_domain plan.now parts.now.views call code) }
 {
     let dev = call.dev;
     if has_domain(plan, dev) {
-        return Move::Write(
+        *out = Move::Write(
             Event::Domain {
                 dev,
                 up: false,
@@ -316,30 +334,31 @@ fn domain(plan: &Plan, parts: &Parts, call: ResumeCall, code: i32) -> Move
             Change::Same,
             resume_goes(ResumeStage::Unwind { call, code }),
         );
+        return;
     }
-    unwinds(plan, parts, call, code)
+    unwinds(plan, parts, call, code, out);
 }
 
 // R3
-fn supplied(plan: &Plan, parts: &Parts, call: ResumeCall, code: i32, time: u64) -> Move
+fn supplied(plan: &Plan, parts: &Parts, call: ResumeCall, code: i32, time: u64, out: &mut Move)
     requires made_for { IsFor plan.now parts.now.shape }
     requires in_range { call.dev.0 < length plan.now.devices }
-    ensures { result ≡ move_of (resume_row plan.now parts.now.views (resume.Supplied call code) time) }
+    ensures { out.new ≡ move_of (resume_row plan.now parts.now.views (resume.Supplied call code) time) }
 {
     if is_supplied(code) {
-        links(plan, parts, call, time)
+        links(plan, parts, call, time, out);
     } else {
-        unwinds(plan, parts, call, code)
+        unwinds(plan, parts, call, code, out);
     }
 }
 
 // R4b
 #[tactic(auto, unfolding(pm_model::specs::ResumeTable::resume_ends))]
-fn ends(plan: &Plan, parts: &Parts, call: ResumeCall) -> Move
+fn ends(plan: &Plan, parts: &Parts, call: ResumeCall, out: &mut Move)
     requires made_for { IsFor plan.now parts.now.shape }
     requires in_range { call.dev.0 < length plan.now.devices }
     requires begun { 0 < begun parts.now.views cb.Resume call.dev }
-    ensures { result ≡ move_of (resume_ends plan.now parts.now.views call) }
+    ensures { out.new ≡ move_of (resume_ends plan.now parts.now.views call) }
 {
     let dev = call.dev;
     let code = parts.callback_code(plan, Cb::Resume, dev);
@@ -349,33 +368,33 @@ fn ends(plan: &Plan, parts: &Parts, call: ResumeCall) -> Move
         code,
     };
     if code == 0 {
-        Move::Write(
+        *out = Move::Write(
             ended,
             Change::Same,
             resume_goes(ResumeStage::Resumed { call }),
-        )
+        );
     } else {
-        Move::Write(
+        *out = Move::Write(
             ended,
             Change::Cancel { dev },
             resume_goes(ResumeStage::Domain { call, code }),
-        )
+        );
     }
 }
 
 // R4b, once its callback's time has passed.
-fn running(plan: &Plan, parts: &Parts, call: ResumeCall, since: u64, time: u64) -> Move
+fn running(plan: &Plan, parts: &Parts, call: ResumeCall, since: u64, time: u64, out: &mut Move)
     requires made_for { IsFor plan.now parts.now.shape }
     requires in_range { call.dev.0 < length plan.now.devices }
     requires begun { 0 < begun parts.now.views cb.Resume call.dev }
     requires reckons { since + ms_of plan.now cb.Resume call.dev < 2 ^ 64 }
-    ensures { result ≡ timed (since + ms_of plan.now cb.Resume call.dev) time (resume_ends plan.now parts.now.views call) }
+    ensures { out.new ≡ timed (since + ms_of plan.now cb.Resume call.dev) time (resume_ends plan.now parts.now.views call) }
 {
     let due = since + u64::from(ms_of(plan, Cb::Resume, call.dev));
     if time < due {
-        Move::Late(due)
+        *out = Move::Late(due);
     } else {
-        ends(plan, parts, call)
+        ends(plan, parts, call, out);
     }
 }
 
@@ -415,29 +434,54 @@ fn resumed(call: ResumeCall) -> Move
     )
 }
 
-/// The only move at a stage of resume: its line, with what takes the stage's place; or the moment at
-/// which its line is due, where that is later than `time` (milliseconds of the run); or the device for
-/// which it waits. It takes no memory.
-pub fn next(plan: &Plan, parts: &Parts, stage: ResumeStage, time: u64) -> Move
+/// Writes to `out` the only move at a stage of resume: its line, with what takes the stage's place; or
+/// the moment at which its line is due, where that is later than `time` (milliseconds of the run); or
+/// the device for which it waits. A move is large, so it is written where its caller keeps it. It
+/// takes no memory.
+pub fn next(plan: &Plan, parts: &Parts, stage: ResumeStage, time: u64, out: &mut Move)
     requires made_for { IsFor plan.now parts.now.shape }
     requires well_formed { is_well_formed plan.now parts.now.views (the_stage.Resume stage) ≡ true }
-    ensures { result ≡ timed (due plan.now parts.now.views (the_stage.Resume stage)) time (resume_row plan.now parts.now.views stage time) }
+    ensures { out.new ≡ timed (due plan.now parts.now.views (the_stage.Resume stage)) time (resume_row plan.now parts.now.views stage time) }
 {
     match stage {
-        ResumeStage::Enter { call } => parts.resumes(call.dev, call.flags, call.purpose),
-        ResumeStage::Verdict { call, tried } => verdict(plan, parts, call, tried),
-        ResumeStage::Waiting { call, tried } => waiting(plan, parts, call, tried),
-        ResumeStage::Links { call } => links(plan, parts, call, time),
-        ResumeStage::Supplied { call, code } => supplied(plan, parts, call, code, time),
-        ResumeStage::Callback { call } => begins(call, time),
-        ResumeStage::Running { call, since } => running(plan, parts, call, since, time),
-        ResumeStage::Resumed { call } => resumed(call),
-        ResumeStage::Idle { call } => {
-            parts.calls_idle(call.dev, 1, Change::Same, Await::ResumeIdle { call })
+        ResumeStage::Enter { call } => {
+            *out = parts.resumes(call.dev, call.flags, call.purpose);
         }
-        ResumeStage::Done { call, code } => resume_returns(plan, call, code, Change::Same),
-        ResumeStage::Parent { call, code } => gives_parent(plan, call, code),
-        ResumeStage::Domain { call, code } => domain(plan, parts, call, code),
-        ResumeStage::Unwind { call, code } => unwinds(plan, parts, call, code),
+        ResumeStage::Verdict { call, tried } => {
+            verdict(plan, parts, call, tried, out);
+        }
+        ResumeStage::Waiting { call, tried } => {
+            waiting(plan, parts, call, tried, out);
+        }
+        ResumeStage::Links { call } => {
+            links(plan, parts, call, time, out);
+        }
+        ResumeStage::Supplied { call, code } => {
+            supplied(plan, parts, call, code, time, out);
+        }
+        ResumeStage::Callback { call } => {
+            *out = begins(call, time);
+        }
+        ResumeStage::Running { call, since } => {
+            running(plan, parts, call, since, time, out);
+        }
+        ResumeStage::Resumed { call } => {
+            *out = resumed(call);
+        }
+        ResumeStage::Idle { call } => {
+            *out = parts.calls_idle(call.dev, 1, Change::Same, Await::ResumeIdle { call });
+        }
+        ResumeStage::Done { call, code } => {
+            *out = resume_returns(plan, call, code, Change::Same);
+        }
+        ResumeStage::Parent { call, code } => {
+            *out = gives_parent(plan, call, code);
+        }
+        ResumeStage::Domain { call, code } => {
+            domain(plan, parts, call, code, out);
+        }
+        ResumeStage::Unwind { call, code } => {
+            unwinds(plan, parts, call, code, out);
+        }
     }
 }

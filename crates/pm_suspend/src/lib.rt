@@ -51,24 +51,26 @@ fn suspend_request(flags: u8) -> Req
 
 // S1
 #[tactic(auto, unfolding(pm_model::specs::SuspendTable::suspend_verdict))]
-fn verdict(plan: &Plan, parts: &Parts, dev: DevId, flags: u8, time: u64) -> Move
+fn verdict(plan: &Plan, parts: &Parts, dev: DevId, flags: u8, time: u64, out: &mut Move)
     requires made_for { IsFor plan.now parts.now.shape }
     requires in_range { dev.0 < length plan.now.devices }
-    ensures { result ≡ move_of (suspend_verdict plan.now parts.now.views dev flags time) }
+    ensures { out.new ≡ move_of (suspend_verdict plan.now parts.now.views dev flags time) }
 {
     let refusal = parts.refusal(plan, dev);
     if refusal != 0 {
-        return call_returns(Cb::Suspend, dev, refusal, Change::Same);
+        *out = call_returns(Cb::Suspend, dev, refusal, Change::Same);
+        return;
     }
     if parts.is_resuming(dev) && !has(flags, ASYNC) {
-        return call_returns(Cb::Suspend, dev, EAGAIN, Change::Same);
+        *out = call_returns(Cb::Suspend, dev, EAGAIN, Change::Same);
+        return;
     }
     if parts.is_early(dev, flags, time) {
         let act = TimerAct::Arm {
             at: parts.autosuspend_at(dev),
             autosuspends: true,
         };
-        return Move::Write(
+        *out = Move::Write(
             Event::Timer { dev, act },
             Change::CancelRequest { dev },
             suspend_goes(SuspendStage::Done {
@@ -77,19 +79,22 @@ fn verdict(plan: &Plan, parts: &Parts, dev: DevId, flags: u8, time: u64) -> Move
                 code: 0,
             }),
         );
+        return;
     }
     if parts.is_suspending(dev) && may_not_wait(flags) {
-        return call_returns(Cb::Suspend, dev, EINPROGRESS, Change::Cancel { dev });
+        *out = call_returns(Cb::Suspend, dev, EINPROGRESS, Change::Cancel { dev });
+        return;
     }
     if parts.is_suspending(dev) {
-        return Move::Write(
+        *out = Move::Write(
             Event::Wait { dev },
             Change::Cancel { dev },
             suspend_goes(SuspendStage::Waiting { dev, flags }),
         );
+        return;
     }
     if no_callbacks(plan, dev) {
-        return Move::Write(
+        *out = Move::Write(
             Event::State {
                 dev,
                 word: Word::Suspended,
@@ -97,9 +102,10 @@ fn verdict(plan: &Plan, parts: &Parts, dev: DevId, flags: u8, time: u64) -> Move
             Change::Cancel { dev },
             suspend_goes(SuspendStage::Parent { dev, flags }),
         );
+        return;
     }
     if has(flags, ASYNC) {
-        return Move::Write(
+        *out = Move::Write(
             Event::Work {
                 dev,
                 act: WorkAct::Queue(suspend_request(flags)),
@@ -111,8 +117,9 @@ fn verdict(plan: &Plan, parts: &Parts, dev: DevId, flags: u8, time: u64) -> Move
                 code: 0,
             }),
         );
+        return;
     }
-    Move::Write(
+    *out = Move::Write(
         Event::Begin {
             dev,
             cb: Cb::Suspend,
@@ -123,7 +130,7 @@ fn verdict(plan: &Plan, parts: &Parts, dev: DevId, flags: u8, time: u64) -> Move
             flags,
             since: time,
         }),
-    )
+    );
 }
 
 // When the device was last marked busy, once a callback of it has ended at this moment.
@@ -208,31 +215,33 @@ fn suspended(dev: DevId, word: Word, next: SuspendStage) -> Move
 
 // S4
 #[tactic(auto, unfolding(pm_model::specs::SuspendTable::suspend_links))]
-fn links(plan: &Plan, parts: &Parts, dev: DevId, flags: u8) -> Move
+fn links(plan: &Plan, parts: &Parts, dev: DevId, flags: u8, out: &mut Move)
     requires made_for { IsFor plan.now parts.now.shape }
     requires in_range { dev.0 < length plan.now.devices }
-    ensures { result ≡ move_of (suspend_links plan.now parts.now.views dev flags) }
+    ensures { out.new ≡ move_of (suspend_links plan.now parts.now.views dev flags) }
 {
     match parts.first_held(plan, dev) {
-        Some((_, supplier)) => Move::Write(
-            Event::Put {
-                dev: supplier,
-                why: Why::Link(dev),
-            },
-            Change::Same,
-            calls(
-                Stage::Idle(IdleStage::AfterPut {
+        Some((_, supplier)) => {
+            *out = Move::Write(
+                Event::Put {
                     dev: supplier,
-                    flags: 5,
-                }),
-                Await::SuspendLinks { dev, flags },
-            ),
-        ),
+                    why: Why::Link(dev),
+                },
+                Change::Same,
+                calls(
+                    Stage::Idle(IdleStage::AfterPut {
+                        dev: supplier,
+                        flags: 5,
+                    }),
+                    Await::SuspendLinks { dev, flags },
+                ),
+            );
+        }
         None => {
             if parts.pending(dev).deferred {
-                suspended(dev, Word::Deferred, SuspendStage::Deferred { dev, flags })
+                *out = suspended(dev, Word::Deferred, SuspendStage::Deferred { dev, flags });
             } else {
-                suspended(dev, Word::Suspended, SuspendStage::Parent { dev, flags })
+                *out = suspended(dev, Word::Suspended, SuspendStage::Parent { dev, flags });
             }
         }
     }
@@ -240,13 +249,13 @@ fn links(plan: &Plan, parts: &Parts, dev: DevId, flags: u8) -> Move
 
 // S3
 #[tactic(auto, unfolding(pm_model::specs::SuspendTable::suspend_domain))]
-fn domain(plan: &Plan, parts: &Parts, dev: DevId, flags: u8) -> Move
+fn domain(plan: &Plan, parts: &Parts, dev: DevId, flags: u8, out: &mut Move)
     requires made_for { IsFor plan.now parts.now.shape }
     requires in_range { dev.0 < length plan.now.devices }
-    ensures { result ≡ move_of (suspend_domain plan.now parts.now.views dev flags) }
+    ensures { out.new ≡ move_of (suspend_domain plan.now parts.now.views dev flags) }
 {
     if has_domain(plan, dev) {
-        return Move::Write(
+        *out = Move::Write(
             Event::Domain {
                 dev,
                 up: false,
@@ -255,85 +264,102 @@ fn domain(plan: &Plan, parts: &Parts, dev: DevId, flags: u8) -> Move
             Change::Same,
             suspend_goes(SuspendStage::Links { dev, flags }),
         );
+        return;
     }
-    links(plan, parts, dev, flags)
+    links(plan, parts, dev, flags, out);
 }
 
 // S6
 #[tactic(auto, unfolding(pm_model::specs::SuspendTable::suspend_parent))]
-fn parent(plan: &Plan, parts: &Parts, dev: DevId, flags: u8) -> Move
+fn parent(plan: &Plan, parts: &Parts, dev: DevId, flags: u8, out: &mut Move)
     requires made_for { IsFor plan.now parts.now.shape }
     requires in_range { dev.0 < length plan.now.devices }
-    ensures { result ≡ move_of (suspend_parent plan.now parts.now.views dev flags) }
+    ensures { out.new ≡ move_of (suspend_parent plan.now parts.now.views dev flags) }
 {
     if !parts.tells_parent(plan, dev) {
-        return call_returns(Cb::Suspend, dev, 0, Change::Same);
+        *out = call_returns(Cb::Suspend, dev, 0, Change::Same);
+        return;
     }
-    parts.calls_idle(
+    *out = parts.calls_idle(
         parent_of(plan, dev),
         1,
         Change::Same,
         Await::SuspendParent { dev, flags },
-    )
+    );
 }
 
 // S2, once its callback's time has passed.
-fn running(plan: &Plan, parts: &Parts, dev: DevId, flags: u8, since: u64, time: u64) -> Move
+fn running(plan: &Plan, parts: &Parts, dev: DevId, flags: u8, since: u64, time: u64, out: &mut Move)
     requires made_for { IsFor plan.now parts.now.shape }
     requires in_range { dev.0 < length plan.now.devices }
     requires begun { 0 < begun parts.now.views cb.Suspend dev }
     requires reckons { since + ms_of plan.now cb.Suspend dev < 2 ^ 64 }
     requires in_time { time < 2 ^ 63 }
-    ensures { result ≡ timed (since + ms_of plan.now cb.Suspend dev) time (suspend_ends plan.now parts.now.views dev flags time) }
+    ensures { out.new ≡ timed (since + ms_of plan.now cb.Suspend dev) time (suspend_ends plan.now parts.now.views dev flags time) }
 {
     let due = since + u64::from(ms_of(plan, Cb::Suspend, dev));
     if time < due {
-        Move::Late(due)
+        *out = Move::Late(due);
     } else {
-        ends(plan, parts, dev, flags, time)
+        *out = ends(plan, parts, dev, flags, time);
     }
 }
 
 // S1 after its wait line.
-fn waiting(plan: &Plan, parts: &Parts, dev: DevId, flags: u8, time: u64) -> Move
+fn waiting(plan: &Plan, parts: &Parts, dev: DevId, flags: u8, time: u64, out: &mut Move)
     requires made_for { IsFor plan.now parts.now.shape }
     requires in_range { dev.0 < length plan.now.devices }
-    ensures { result ≡ move_of (suspend_row plan.now parts.now.views (suspend.Waiting dev flags) time) }
+    ensures { out.new ≡ move_of (suspend_row plan.now parts.now.views (suspend.Waiting dev flags) time) }
 {
     if parts.is_moving(dev) {
-        Move::Wait(dev)
+        *out = Move::Wait(dev);
     } else {
-        verdict(plan, parts, dev, flags, time)
+        verdict(plan, parts, dev, flags, time, out);
     }
 }
 
-/// The only move at a stage of suspend: its line, with what takes the stage's place; or the moment at
-/// which its line is due, where that is later than `time` (milliseconds of the run); or the device for
-/// which it waits. It takes no memory.
-pub fn next(plan: &Plan, parts: &Parts, stage: SuspendStage, time: u64) -> Move
+/// Writes to `out` the only move at a stage of suspend: its line, with what takes the stage's place;
+/// or the moment at which its line is due, where that is later than `time` (milliseconds of the run);
+/// or the device for which it waits. A move is large, so it is written where its caller keeps it. It
+/// takes no memory.
+pub fn next(plan: &Plan, parts: &Parts, stage: SuspendStage, time: u64, out: &mut Move)
     requires made_for { IsFor plan.now parts.now.shape }
     requires well_formed { is_well_formed plan.now parts.now.views (the_stage.Suspend stage) ≡ true }
     requires in_time { time < 2 ^ 63 }
-    ensures { result ≡ timed (due plan.now parts.now.views (the_stage.Suspend stage)) time (suspend_row plan.now parts.now.views stage time) }
+    ensures { out.new ≡ timed (due plan.now parts.now.views (the_stage.Suspend stage)) time (suspend_row plan.now parts.now.views stage time) }
 {
     match stage {
-        SuspendStage::Enter { dev, flags } => parts.suspends(dev, flags),
-        SuspendStage::Verdict { dev, flags } => verdict(plan, parts, dev, flags, time),
-        SuspendStage::Waiting { dev, flags } => waiting(plan, parts, dev, flags, time),
-        SuspendStage::Running { dev, flags, since } => {
-            running(plan, parts, dev, flags, since, time)
+        SuspendStage::Enter { dev, flags } => {
+            *out = parts.suspends(dev, flags);
         }
-        SuspendStage::Domain { dev, flags } => domain(plan, parts, dev, flags),
-        SuspendStage::Links { dev, flags } => links(plan, parts, dev, flags),
+        SuspendStage::Verdict { dev, flags } => {
+            verdict(plan, parts, dev, flags, time, out);
+        }
+        SuspendStage::Waiting { dev, flags } => {
+            waiting(plan, parts, dev, flags, time, out);
+        }
+        SuspendStage::Running { dev, flags, since } => {
+            running(plan, parts, dev, flags, since, time, out);
+        }
+        SuspendStage::Domain { dev, flags } => {
+            domain(plan, parts, dev, flags, out);
+        }
+        SuspendStage::Links { dev, flags } => {
+            links(plan, parts, dev, flags, out);
+        }
         SuspendStage::Deferred { dev, flags } => {
-            parts.calls_resume(
+            *out = parts.calls_resume(
                 dev,
                 0,
                 Purpose::Plain,
                 Await::SuspendDeferred { dev, flags },
-            )
+            );
         }
-        SuspendStage::Parent { dev, flags } => parent(plan, parts, dev, flags),
-        SuspendStage::Done { dev, code, .. } => call_returns(Cb::Suspend, dev, code, Change::Same),
+        SuspendStage::Parent { dev, flags } => {
+            parent(plan, parts, dev, flags, out);
+        }
+        SuspendStage::Done { dev, code, .. } => {
+            *out = call_returns(Cb::Suspend, dev, code, Change::Same);
+        }
     }
 }
