@@ -118,12 +118,18 @@ impl Book {
     {
         all_stand_well();
         lines_are_of_plan();
-        match self.state.next(&self.plan, stage, time) {
-            Move::Wait(dev) => Ok(Step::Blocked(dev)),
-            Move::Late(at) => Ok(Step::Early(at)),
+        let mut next = Move::Late(time);
+        self.state.next(&self.plan, stage, time, &mut next);
+        match &next {
+            Move::Wait(dev) => Ok(Step::Blocked(*dev)),
+            Move::Late(at) => Ok(Step::Early(*at)),
             Move::Write(event, change, then) => {
-                let line = Line { time, actor, event };
-                self.write_move(stage, &line, change, &then)
+                let line = Line {
+                    time,
+                    actor,
+                    event: *event,
+                };
+                self.write_move(stage, &line, *change, then)
             }
         }
     }
@@ -170,11 +176,17 @@ impl Book {
         let Some(stage) = self.state.stage_at(&self.plan, actor) else {
             unreachable!();
         };
-        match self.state.next(&self.plan, &stage, time) {
-            Move::Late(at) => EndStep::Early(at),
+        let mut next = Move::Late(time);
+        self.state.next(&self.plan, &stage, time, &mut next);
+        match &next {
+            Move::Late(at) => EndStep::Early(*at),
             Move::Write(event, change, then) => {
-                let line = Line { time, actor, event };
-                self.write_end(&stage, &line, change, &then);
+                let line = Line {
+                    time,
+                    actor,
+                    event: *event,
+                };
+                self.write_end(&stage, &line, *change, then);
                 EndStep::Wrote
             }
             Move::Wait(_) => unreachable!(),
