@@ -170,6 +170,7 @@ impl Turns {
     /// Takes note of a line that was written at this stage and led to this state. It takes no memory,
     /// and looks anew at the line's writer, at the work item and the timer of the device of the stage
     /// and of the device of the event, and at those who wait for these devices.
+    #[inline(always)]
     pub fn settle(&mut self, plan: &Plan, state: &State, stage: &Stage, line: &Line)
         requires is_of { IsOf plan.now state.now }
         requires stand { AllStandWell plan.now state.now.world }
