@@ -182,7 +182,7 @@ impl Turns {
         let at = device_at(stage);
         let of = other_than(device_in(&line.event), at);
         let actor = line.actor;
-        self.note(stage, line);
+        self.note(at, line);
         self.refresh(plan, state, actor);
         self.touch_any(plan, state, at, actor);
         self.touch_seldom(plan, state, of, actor);
