@@ -68,6 +68,15 @@ marks_others (q ∷ qs) zero i (suc e) j b other is = is
 marks_others (q ∷ qs) (suc d) i zero j b other is = is
 marks_others (q ∷ qs) (suc d) i (suc e) j b other is = marks_others qs d i e j b other is
 
+-- a mark that isn't set can be taken away
+unmarked_set : (q : List Bool) (i : ℕ) → is_marked q i ≡ false → slice_set q i false ≡ q
+unmarked_set [] i is = refl
+unmarked_set (b ∷ q) zero is = ap (λ c. c ∷ q) (sym is)
+unmarked_set (b ∷ q) (suc i) is = ap (λ l. b ∷ l) (unmarked_set q i is)
+
+pub unmarked_kept : (q : List Bool) (i : ℕ) → NoneMarked q 0 (length q) → i < length q → q ≡ slice_set q i false
+unmarked_kept q i none within = sym (unmarked_set q i (none i (omega arith) within))
+
 set_true : (q : List Bool) (i j : ℕ) → is_marked q j ≡ true → is_marked (slice_set q i true) j ≡ true
 set_true [] i j is = is
 set_true (b ∷ q) zero zero is = refl

@@ -40,6 +40,7 @@ impl Waiters {
     }
 
     /// Who sits here waits.
+    #[inline(never)]
     pub fn join(&mut self, seat: usize)
         requires { seat < length self.old }
         ensures { self.new ≡ slice_set self.old seat true }
@@ -48,13 +49,26 @@ impl Waiters {
         self.any = true;
     }
 
-    /// Who sits here doesn't wait any longer.
-    pub fn leave(&mut self, seat: usize)
+    // Takes a seat out, where somebody may wait.
+    #[inline(never)]
+    fn take_out(&mut self, seat: usize)
         requires { seat < length self.old }
         ensures { self.new ≡ slice_set self.old seat false }
     {
         self.seats.remove(seat);
         self.any = self.seats.first(0).is_some();
+    }
+
+    /// Who sits here doesn't wait, or not any longer.
+    #[tactic(auto, using(crate::proofs::QueueLemmas::unmarked_kept))]
+    #[inline(always)]
+    pub fn leave(&mut self, seat: usize)
+        requires { seat < length self.old }
+        ensures { self.new ≡ slice_set self.old seat false }
+    {
+        if self.any {
+            self.take_out(seat);
+        }
     }
 
     /// The first seat at or after this one of somebody who waits.

@@ -117,6 +117,7 @@ impl Rows {
     }
 
     /// From when an actor may write.
+    #[inline(always)]
     pub fn set(&mut self, actor: ActorId, moment: Option<u64>)
         requires { IsSeated self.old actor }
         ensures { Sets self.old self.new actor moment }
@@ -160,9 +161,21 @@ impl Rows {
         ensures seated { IfSome result (λ turn. IsSeated self.now turn.0) }
         ensures begins { self.now.seat ≤ self.now.callers + self.now.devices }
     {
-        if let Some(actor) = self.turn_at(self.time) {
-            return Some((actor, self.time));
+        let _ = &self.seat;
+        match self.turn_at(self.time) {
+            Some(actor) => Some((actor, self.time)),
+            None => self.later(),
         }
+    }
+
+    // The same where nobody may write at the moment of the last line. It is seldom so, and this stands out
+    // of line.
+    #[inline(never)]
+    fn later(&self) -> Option<(ActorId, u64)>
+        requires nobody { (wake : AnActor → Option ℕ) → AreMoments wake self.now → None ≡ first_awake wake (round_of self.now) self.now.time }
+        ensures turn { (wake : AnActor → Option ℕ) → AreMoments wake self.now → result ≡ turn_by wake (round_of self.now) self.now.time }
+        ensures seated { IfSome result (λ turn. IsSeated self.now turn.0) }
+    {
         let _ = &self.seat;
         match self.moments.least() {
             Some(later) => match self.turn_at(later) {

@@ -50,7 +50,8 @@ impl Turns {
         }
     }
 
-    // Looks anew at who sits here.
+    // Looks anew at who sits here. Mostly nobody waits, so that it stands out of line.
+    #[inline(never)]
     fn refresh_seat(&mut self, plan: &Plan, state: &State, seat: usize)
         requires is_of { IsOf plan.now state.now }
         requires stand { AllStandWell plan.now state.now.world }
@@ -65,6 +66,7 @@ impl Turns {
     }
 
     // Looks anew at those who wait for a device; mostly that is nobody.
+    #[inline(always)]
     fn refresh_waiters(&mut self, plan: &Plan, state: &State, dev: DevId)
         requires is_of { IsOf plan.now state.now }
         requires stand { AllStandWell plan.now state.now.world }
@@ -80,6 +82,7 @@ impl Turns {
 
     // Looks anew at an actor, unless it is this one.
     #[tactic(auto, using(crate::proofs::IndexLemmas::asks_none))]
+    #[inline(always)]
     fn refresh_but(&mut self, plan: &Plan, state: &State, actor: ActorId, but: ActorId)
         requires is_of { IsOf plan.now state.now }
         requires stand { AllStandWell plan.now state.now.world }
@@ -90,12 +93,13 @@ impl Turns {
         ensures queues { self.new.queues ≡ self.old.queues }
     {
         if !is_same(actor, but) {
-            self.refresh(plan, state, actor);
+            self.refresh_resting(plan, state, actor);
         }
     }
 
     // Looks anew at the work item and the timer of a device, but for this actor.
     #[tactic(auto, using(crate::proofs::IndexLemmas::asks_none, crate::proofs::IndexLemmas::asks_then))]
+    #[inline(always)]
     fn refresh_own(&mut self, plan: &Plan, state: &State, dev: DevId, but: ActorId)
         requires is_of { IsOf plan.now state.now }
         requires stand { AllStandWell plan.now state.now.world }
@@ -113,6 +117,7 @@ impl Turns {
     }
 
     // Looks anew at all whose turn may depend on this device, but for this actor.
+    #[inline(always)]
     fn touch(&mut self, plan: &Plan, state: &State, dev: DevId, but: ActorId)
         requires is_of { IsOf plan.now state.now }
         requires stand { AllStandWell plan.now state.now.world }
@@ -123,8 +128,20 @@ impl Turns {
         self.refresh_waiters(plan, state, dev);
     }
 
+    // The same, out of line: most lines touch one device only.
+    #[inline(never)]
+    fn touch_apart(&mut self, plan: &Plan, state: &State, dev: DevId, but: ActorId)
+        requires is_of { IsOf plan.now state.now }
+        requires stand { AllStandWell plan.now state.now.world }
+        requires seats { AreOf plan.now self.old.rows }
+        ensures { Touched (wakes plan.now state.now.world) self.old self.new dev but }
+    {
+        self.touch(plan, state, dev, but);
+    }
+
     // Looks anew at all whose turn may depend on this device, if it is one, but for this actor.
     #[tactic(auto, using(crate::proofs::IndexLemmas::touched_none, crate::proofs::IndexLemmas::touched_some))]
+    #[inline(always)]
     fn touch_any(&mut self, plan: &Plan, state: &State, dev: Option<DevId>, but: ActorId)
         requires is_of { IsOf plan.now state.now }
         requires stand { AllStandWell plan.now state.now.world }
@@ -136,9 +153,24 @@ impl Turns {
         }
     }
 
+    // The same of a device that most lines don't have.
+    #[tactic(auto, using(crate::proofs::IndexLemmas::touched_none, crate::proofs::IndexLemmas::touched_some))]
+    #[inline(always)]
+    fn touch_seldom(&mut self, plan: &Plan, state: &State, dev: Option<DevId>, but: ActorId)
+        requires is_of { IsOf plan.now state.now }
+        requires stand { AllStandWell plan.now state.now.world }
+        requires seats { AreOf plan.now self.old.rows }
+        ensures { TouchedAny (wakes plan.now state.now.world) self.old self.new dev but }
+    {
+        if let Some(dev) = dev {
+            self.touch_apart(plan, state, dev, but);
+        }
+    }
+
     /// Takes note of a line that was written at this stage and led to this state. It takes no memory,
     /// and looks anew at the line's writer, at the work item and the timer of the device of the stage
     /// and of the device of the event, and at those who wait for these devices.
+    #[inline(always)]
     pub fn settle(&mut self, plan: &Plan, state: &State, stage: &Stage, line: &Line)
         requires is_of { IsOf plan.now state.now }
         requires stand { AllStandWell plan.now state.now.world }
@@ -147,16 +179,13 @@ impl Turns {
         requires in_time { line.now.time < 2 ^ 63 }
         ensures { (h : History) → Leads plan.now h line.now stage.now state.now.world → IsIndex plan.now h self.old → IsIndex plan.now (line.now ∷ h) self.new }
     {
-        self.note(stage, line);
-        self.refresh(plan, state, line.actor);
         let at = device_at(stage);
-        self.touch_any(plan, state, at, line.actor);
-        self.touch_any(
-            plan,
-            state,
-            other_than(device_in(&line.event), at),
-            line.actor,
-        );
+        let of = other_than(device_in(&line.event), at);
+        let actor = line.actor;
+        self.note(at, line);
+        self.refresh(plan, state, actor);
+        self.touch_any(plan, state, at, actor);
+        self.touch_seldom(plan, state, of, actor);
     }
 }
 

@@ -12,7 +12,7 @@ ghost use Rattle.pm_turns.specs.Turning.{AreOf, Called, IsIndex};
 
 use crate::queue::Waiters;
 use crate::rows::Rows;
-use crate::waking::wakes;
+use crate::waking::{rests_or_wakes, wakes};
 use pm_base::{ActorId, NoMemory};
 use pm_model::Plan;
 use pm_state::State;
@@ -59,6 +59,7 @@ fn no_waiters(alloc: Global, devices: usize, seats: usize) -> Result<Vec<Waiters
 impl Turns {
     /// Looks anew at an actor, as things stand now: for one who has more to start than before. It takes
     /// no memory.
+    #[inline(always)]
     pub fn refresh(&mut self, plan: &Plan, state: &State, actor: ActorId)
         requires is_of { IsOf plan.now state.now }
         requires stand { AllStandWell plan.now state.now.world }
@@ -69,6 +70,21 @@ impl Turns {
         ensures queues { self.new.queues ≡ self.old.queues }
     {
         let moment = wakes(plan, state, actor);
+        self.rows.set(actor, moment);
+    }
+
+    // The same of an actor that mostly rests, as work items and timers do.
+    #[inline(always)]
+    pub(crate) fn refresh_resting(&mut self, plan: &Plan, state: &State, actor: ActorId)
+        requires is_of { IsOf plan.now state.now }
+        requires stand { AllStandWell plan.now state.now.world }
+        requires seats { AreOf plan.now self.old.rows }
+        requires in_range { IsActor plan.now actor }
+        ensures asks { Asks (wakes plan.now state.now.world) self.old.rows self.new.rows }
+        ensures right { moment_by self.new.rows actor ≡ wakes plan.now state.now.world actor }
+        ensures queues { self.new.queues ≡ self.old.queues }
+    {
+        let moment = rests_or_wakes(plan, state, actor);
         self.rows.set(actor, moment);
     }
 

@@ -3,28 +3,15 @@
 ghost use Rattle.std.specs.Prelude.{◌≡◌, ◌≢◌, ◌+◌, ◌*◌, ◌<◌, ◌^◌, ℕ, false, true, slice_set, Some};
 ghost use Rattle.pm_base.specs.declared.DevId.{DevId as ADevice};
 ghost use Rattle.pm_bits.specs.Marks.{is_marked};
-ghost use Rattle.pm_order.specs.Looks.{device_at, device_in, waits_at};
+ghost use Rattle.pm_order.specs.Looks.{device_at, device_in};
 ghost use Rattle.pm_order.specs.Told.{wait_in};
 ghost use Rattle.pm_turns.specs.Seats.{IsSeated, seat_after};
 ghost use Rattle.pm_turns.specs.Turning.{Noted, queue};
 
 use crate::turns::Turns;
 use pm_base::DevId;
-use pm_model::{ControlStage, Event, HelperStage, Line, ResumeStage, Stage, SuspendStage};
+use pm_model::{Event, HelperStage, Line, Stage};
 use pm_state::device_of;
-
-// The device that is waited for at a stage after a wait line.
-fn waits_at(stage: &Stage) -> Option<DevId>
-    ensures { result ≡ waits_at stage.now }
-{
-    match stage {
-        Stage::Suspend(SuspendStage::Waiting { dev, .. }) => Some(*dev),
-        Stage::Resume(ResumeStage::Waiting { call, .. }) => Some(call.dev),
-        Stage::Control(ControlStage::Disabled { dev }) => Some(*dev),
-        Stage::Control(ControlStage::BarrierWait { dev, .. }) => Some(*dev),
-        _ => None,
-    }
-}
 
 // The device that a line at this stage may change; a call line only names one.
 pub(crate) fn device_at(stage: &Stage) -> Option<DevId>
@@ -62,6 +49,7 @@ pub(crate) fn device_in(event: &Event) -> Option<DevId>
 
 impl Turns {
     // Who sits here doesn't wait for the device any longer.
+    #[inline(always)]
     fn leave(&mut self, dev: DevId, seat: usize)
         requires { seat < self.old.rows.callers + 2 * self.old.rows.devices }
         ensures { self.new ≡ record self.old { queues = slice_set self.old.queues dev.0 (slice_set (queue self.old dev) seat false) } }
@@ -85,13 +73,15 @@ impl Turns {
         }
     }
 
-    // Who sits here has written a line at this stage, and doesn't wait any longer.
-    fn leave_at(&mut self, stage: &Stage, seat: usize)
+    // Who sits here has written a line at a stage of this device, if it has one, and doesn't wait for it any
+    // longer. Whether the stage was that after a wait line isn't asked, since mostly nobody waits.
+    #[inline(always)]
+    fn leave_at(&mut self, at: Option<DevId>, seat: usize)
         requires { seat < self.old.rows.callers + 2 * self.old.rows.devices }
         ensures rows { self.new.rows ≡ self.old.rows }
         ensures others { (d : ADevice) (i : ℕ) → i ≢ seat → is_marked (queue self.old d) i ≡ true → is_marked (queue self.new d) i ≡ true }
     {
-        if let Some(dev) = waits_at(stage) {
+        if let Some(dev) = at {
             self.leave(dev, seat);
         }
     }
@@ -109,6 +99,7 @@ impl Turns {
     }
 
     // Takes note of the writer and the time of a line.
+    #[inline(always)]
     fn write_down(&mut self, line: &Line)
         requires seated { IsSeated self.old.rows line.now.actor }
         requires in_time { line.now.time < 2 ^ 63 }
@@ -117,14 +108,15 @@ impl Turns {
         self.rows.note(line.actor, line.time);
     }
 
-    // Takes note of a line that was written at this stage.
-    pub(crate) fn note(&mut self, stage: &Stage, line: &Line)
+    // Takes note of a line that was written at a stage of this device, if it has one.
+    #[inline(always)]
+    pub(crate) fn note(&mut self, at: Option<DevId>, line: &Line)
         requires seated { IsSeated self.old.rows line.now.actor }
         requires in_time { line.now.time < 2 ^ 63 }
         ensures { Noted self.old self.new line.now }
     {
         let seat = self.rows.place(line.actor);
-        self.leave_at(stage, seat);
+        self.leave_at(at, seat);
         self.join_in(&line.event, seat);
         self.write_down(line);
     }

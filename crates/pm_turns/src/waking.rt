@@ -108,6 +108,7 @@ fn control_wakes(plan: &Plan, parts: &Parts, stage: &ControlStage) -> Option<u64
 }
 
 // The same of a stage of any group; `None` where it blocks or awaits a call.
+#[inline(always)]
 fn stage_wakes(plan: &Plan, parts: &Parts, stage: &Stage) -> Option<u64>
     requires made_for { IsFor plan.now parts.now.shape }
     requires well_formed { is_well_formed plan.now parts.now.views stage.now ≡ true }
@@ -123,9 +124,20 @@ fn stage_wakes(plan: &Plan, parts: &Parts, stage: &Stage) -> Option<u64>
     }
 }
 
+// The same, out of line: work items and timers mostly rest, and then it isn't asked.
+#[inline(never)]
+fn stage_wakes_apart(plan: &Plan, parts: &Parts, stage: &Stage) -> Option<u64>
+    requires made_for { IsFor plan.now parts.now.shape }
+    requires well_formed { is_well_formed plan.now parts.now.views stage.now ≡ true }
+    ensures { result ≡ wakes_at plan.now parts.now.views stage.now }
+{
+    stage_wakes(plan, parts, stage)
+}
+
 /// From when an actor may write, in milliseconds of the run, as things stand; `None` where it rests or
 /// waits. No move is made to learn it.
 #[tactic(auto, using(crate::proofs::WakeLemmas::well_at, crate::proofs::WakeLemmas::stage_wakes, crate::proofs::WakeLemmas::start_wakes))]
+#[inline(always)]
 pub fn wakes(plan: &Plan, state: &State, actor: ActorId) -> Option<u64>
     requires is_of { IsOf plan.now state.now }
     requires in_range { IsActor plan.now actor }
@@ -134,6 +146,22 @@ pub fn wakes(plan: &Plan, state: &State, actor: ActorId) -> Option<u64>
 {
     match state.top(plan, actor) {
         Some(stage) => stage_wakes(plan, state.parts(), stage),
+        None => state.ready_from(plan, actor),
+    }
+}
+
+/// The same of an actor that mostly rests, as work items and timers do: what is left to ask of it then is
+/// little, and inlined.
+#[tactic(auto, using(crate::proofs::WakeLemmas::well_at, crate::proofs::WakeLemmas::stage_wakes, crate::proofs::WakeLemmas::start_wakes))]
+#[inline(always)]
+pub fn rests_or_wakes(plan: &Plan, state: &State, actor: ActorId) -> Option<u64>
+    requires is_of { IsOf plan.now state.now }
+    requires in_range { IsActor plan.now actor }
+    requires stands { StandsWell plan.now state.now.world actor }
+    ensures { result ≡ wakes plan.now state.now.world actor }
+{
+    match state.top(plan, actor) {
+        Some(stage) => stage_wakes_apart(plan, state.parts(), stage),
         None => state.ready_from(plan, actor),
     }
 }
