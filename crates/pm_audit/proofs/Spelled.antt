@@ -1,14 +1,19 @@
 -- A line that is offered, and its text.
-use Rattle.std.proofs.Common.{ℕ, ◌≡◌, ◌≢◌, ◌<◌, ◌≤◌, ◌-◌, Bool, Bor, true, false, List, [], ◌∷◌, ◌++◌, Option, Some, None, IfSome, subst, sym, ◌∙◌, ap, if◌then◌else◌, arith}
+use Rattle.std.proofs.Common.{ℕ, ◌≡◌, ◌≢◌, ◌<◌, ◌≤◌, ◌-◌, Bool, Bor, true, false, List, [], ◌∷◌, ◌++◌, Option, Some, None, IfSome, refl, subst, sym, ◌∙◌, ap, if◌then◌else◌, arith}
 use Rattle.std.specs.Option.{MatchOption}
+use Rattle.pm_model.specs.declared.event.Event.{Event}
 use Rattle.pm_model.specs.declared.event.Line.{Line}
 use Rattle.pm_model.specs.declared.plan.Plan.{Plan}
+use Rattle.pm_model.specs.declared.stage.Change.{Change}
+use Rattle.pm_model.specs.declared.stage.Move.{Move}
+use Rattle.pm_model.specs.declared.stage.Move.TheVariants.{Write}
+use Rattle.pm_model.specs.declared.stage.Then.{Then}
 use Rattle.pm_model.specs.LineOf.{is_line_of}
 use Rattle.pm_model.specs.NoWhy.{is_within_line}
 use Rattle.pm_model.specs.Spelling.{Names, line_text}
 use Rattle.pm_model.specs.Text.{IsTextBehind, names_of}
 use Rattle.pm_texts.proofs.Formats.{in_line, spelled_is}
-use Rattle.pm_judge.specs.declared.offering.Offer.{Offer}
+use Rattle.pm_judge.specs.Offering.{IsWrite}
 use Rattle.pm_judge.specs.Judging.{Judged}
 use Rattle.pm_judge.specs.Sometime.{Writes}
 use Rattle.pm_audit.specs.Offers.{IsOffered}
@@ -24,14 +29,14 @@ text_behind false plan last base t line piece at is later same spelled =
     let time : t - base ≡ line.time = omega (arith, at, same) in
     (is, subst (λ n. line_text (names_of plan) (record line { time = n }) ≡ piece) time spelled)
 
-pub is_offered : (f : Bool) (j : Judged) (offer : Offer) (bytes behind : List ℕ) (names : Names) (base t : ℕ) → names ≡ names_of j.plan → base ≡ (if f then j.last else 0) → base ≤ t
-    → is_line_of j.plan offer.line ≡ true → offer.line.time ≡ t → j.lines < j.plan.lines → Writes j.plan j.world j.last offer.line offer.change offer.next
-    → bytes ≡ line_text names (record offer.line { time = t - base }) ++ (10 ∷ behind) → IsOffered f j offer bytes behind
-is_offered f j offer bytes behind names base t same at later is time room writes split =
-    let piece = line_text names (record offer.line { time = t - base }) in
-    let spelled = text_behind f j.plan j.last base t offer.line piece at is later time (ap (λ (n : Names). line_text n (record offer.line { time = t - base })) (sym same)) in
-    let can = can_judge f j.plan j.last offer.line piece spelled in
-    let within = subst (λ (p : List ℕ). is_within_line p ≡ true) (sym (spelled_is f j.plan j.last offer.line piece spelled)) (in_line f j.plan j.last offer.line) in
+pub is_offered : (f : Bool) (j : Judged) (line : Line) (c : Change) (next : Then) (bytes behind : List ℕ) (names : Names) (base : ℕ) → names ≡ names_of j.plan → base ≡ (if f then j.last else 0) → base ≤ line.time
+    → is_line_of j.plan line ≡ true → j.lines < j.plan.lines → Writes j.plan j.world j.last line c next → bytes ≡ line_text names (record line { time = line.time - base }) ++ (10 ∷ behind)
+    → IsOffered f j line c next bytes behind
+is_offered f j line c next bytes behind names base same at later is room writes split =
+    let piece = line_text names (record line { time = line.time - base }) in
+    let spelled = text_behind f j.plan j.last base line.time line piece at is later refl (ap (λ (n : Names). line_text n (record line { time = line.time - base })) (sym same)) in
+    let can = can_judge f j.plan j.last line piece spelled in
+    let within = subst (λ (p : List ℕ). is_within_line p ≡ true) (sym (spelled_is f j.plan j.last line piece spelled)) (in_line f j.plan j.last line) in
     record { piece = piece; begins = record { split = split; within = within }; spelled = spelled; in_range = can.0; in_time = can.1; room = room; writes = writes }
 
 -- what is behind a text and a newline
@@ -47,6 +52,6 @@ pub if_found : (s p : List ℕ) (r : Option (Bor (List ℕ))) → MatchOption r 
 if_found s p None found = tt
 if_found s p (Some x) found = found
 
--- what holds of a value that is there
-pub at_some : {A : Type 0} (P : A → Type 0) (o : Option A) (x : A) → o ≡ Some x → IfSome o P → P x
-at_some {A} P o x is holds = subst (λ (q : Option A). IfSome q P) is holds
+-- what holds of what a move writes
+pub at_write : (P : Event → Change → Then → Type 0) (m : Move) (e : Event) (c : Change) (next : Then) → m ≡ Write e c next → IsWrite m P → P e c next
+at_write P m e c next is holds = subst (λ (x : Move). IsWrite x P) is holds

@@ -4,6 +4,7 @@
 #![tactic(auto)]
 
 mod auditor;
+mod fronts;
 mod loading;
 mod offers;
 mod reader;

@@ -8,12 +8,13 @@ ghost use Rattle.pm_model.specs.Lawful.{IsLawful};
 ghost use Rattle.pm_model.specs.Spelling.{header};
 ghost use Rattle.pm_model.specs.Text.{names_of};
 
+use crate::fronts::Fronts;
 use crate::offers::PlanNames;
 use crate::reading::{HEADER, NoWhy};
 use bstr::ByteSlice;
 use pm_base::NoMemory;
 use pm_book::{Book, TakeFault};
-use pm_model::Plan;
+use pm_model::{Line, Move, Plan};
 use std::alloc::Global;
 
 /// Why no book is made of a trace.
@@ -61,6 +62,7 @@ fn take(book: &mut Book, names: &PlanNames, is_format2: bool, text: &[u8]) -> Re
 fn take_offered<'a>(
     book: &mut Book,
     names: &PlanNames,
+    fronts: &mut Fronts,
     is_format2: bool,
     bytes: &'a [u8],
 ) -> Result<Option<&'a [u8]>, NoMemory>
@@ -68,18 +70,28 @@ fn take_offered<'a>(
     ensures taken { IfOk result (λ found. IfSome found (λ behind. HasTakenLine is_format2 book.old book.new bytes.now behind.now)) }
     ensures left { IfOk result (λ found. IfNone found (book.new ≡ book.old)) }
 {
-    let Some(front) = names.front(book.plan(), book.last_time(), is_format2, bytes) else {
+    let last = book.last_time();
+    let Some(front) = names.front(book.plan(), last, fronts, is_format2, bytes) else {
         return Ok(None);
     };
-    let offered = book.offer(front.actor, front.time);
-    // Borrowed where it stands, since an offer is large.
-    let Some(offer) = &offered else {
+    let mut row = Move::Late(last);
+    if !book.offer(front.actor, front.time, &mut row) {
+        return Ok(None);
+    }
+    let Move::Write(event, change, next) = &row else {
         return Ok(None);
     };
-    let Some(behind) = names.behind(front.time - front.base, &offer.line, bytes) else {
+    let line = Line {
+        time: front.time,
+        actor: front.actor,
+        event: *event,
+    };
+    let time = front.time - front.base;
+    let Some(behind) = names.behind(time, &line, &mut fronts.text, bytes) else {
         return Ok(None);
     };
-    book.accept(&offer.line, offer.change, &offer.next)?;
+    book.accept(&line, *change, next)?;
+    fronts.note(front.actor, last < front.time);
     Ok(Some(behind))
 }
 
@@ -88,6 +100,7 @@ fn take_offered<'a>(
 fn take_first<'a>(
     book: &mut Book,
     names: &PlanNames,
+    fronts: &mut Fronts,
     is_format2: bool,
     bytes: &'a [u8],
 ) -> Result<&'a [u8], LoadFault>
@@ -96,7 +109,7 @@ fn take_first<'a>(
     ensures shorter { IfOk result (λ behind. length behind.now < length bytes.now) }
     ensures err { IfErr result (λ fault. IsFirstFault is_format2 book.old bytes.now fault) }
 {
-    match take_offered(book, names, is_format2, bytes) {
+    match take_offered(book, names, fronts, is_format2, bytes) {
         Ok(Some(behind)) => return Ok(behind),
         Ok(None) => {}
         Err(_) => return Err(LoadFault::NoMemory),
@@ -118,7 +131,12 @@ fn behind_header(bytes: &[u8]) -> Option<&[u8]>
 }
 
 // Takes the lines of a trace, which a book without lines then has, or says why it can't.
-fn take_all(book: &mut Book, names: &PlanNames, bytes: &[u8]) -> Result<(), LoadFault>
+fn take_all(
+    book: &mut Book,
+    names: &PlanNames,
+    fronts: &mut Fronts,
+    bytes: &[u8],
+) -> Result<(), LoadFault>
     requires none { book.old.lines ≡ [] }
     requires names { names.now ≡ names_of book.old.plan }
     ensures ok { OnOk result (AreLoaded book.old.plan bytes.now book.new) }
@@ -129,19 +147,24 @@ fn take_all(book: &mut Book, names: &PlanNames, bytes: &[u8]) -> Result<(), Load
         None => (false, bytes),
     };
     'lines: while !left.is_empty() {
-        left = take_first(book, names, is_format2, left)?;
+        left = take_first(book, names, fronts, is_format2, left)?;
     }
     Ok(())
 }
 
 // The same book with the lines of a trace.
-fn loaded(mut book: Book, names: &PlanNames, bytes: &[u8]) -> Result<Book, LoadFault>
+fn loaded(
+    mut book: Book,
+    names: &PlanNames,
+    mut fronts: Fronts,
+    bytes: &[u8],
+) -> Result<Book, LoadFault>
     requires none { book.lines ≡ [] }
     requires names { names.now ≡ names_of book.plan }
     ensures ok { IfOk result (AreLoaded book.plan bytes.now) }
     ensures err { IfErr result (IsRefused book.plan bytes.now) }
 {
-    take_all(&mut book, names, bytes)?;
+    take_all(&mut book, names, &mut fronts, bytes)?;
     Ok(book)
 }
 
@@ -156,8 +179,11 @@ pub fn load_trace(alloc: Global, plan: Plan, bytes: &[u8]) -> Result<Book, LoadF
     let Ok(names) = PlanNames::new(alloc, &plan) else {
         return Err(LoadFault::NoMemory);
     };
+    let Ok(fronts) = Fronts::new(alloc, &plan) else {
+        return Err(LoadFault::NoMemory);
+    };
     match Book::start(alloc, plan) {
-        Ok(book) => loaded(book, &names, bytes),
+        Ok(book) => loaded(book, &names, fronts, bytes),
         Err(_) => Err(LoadFault::NoMemory),
     }
 }

@@ -7,6 +7,7 @@ ghost use Rattle.pm_model.specs.Spelling.{line_text};
 ghost use Rattle.pm_model.specs.Text.{IsTextBehind, names_of as its_names};
 ghost use Rattle.pm_state.specs.Standing.{IsActor};
 
+use crate::fronts::Fronts;
 use pm_base::{ActorId, NoMemory};
 use pm_lineread::{Finders, line_start, read_line_by, read_line2_by};
 use pm_linetext::{LineText, NamesAtHand};
@@ -52,11 +53,13 @@ impl PlanNames {
     }
 
     /// The time and the actor of the line behind one of that time with whose text, in format 2 where that is
-    /// true, the bytes may begin. No clause says that a line does begin so: the whole text is compared.
+    /// true, the bytes may begin: those that are likely, where the bytes begin so. No clause says that a line
+    /// does begin so: the whole text is compared.
     pub(crate) fn front(
         &self,
         plan: &Plan,
         last: u64,
+        fronts: &Fronts,
         is_format2: bool,
         bytes: &[u8],
     ) -> Option<Front>
@@ -67,20 +70,32 @@ impl PlanNames {
         ensures in_range { IfSome result (λ front. IsActor plan.now front.actor) }
     {
         let base = if is_format2 { last } else { 0 };
+        if let Some(actor) = fronts.guess(plan, is_format2, bytes) {
+            return Some(Front {
+                base,
+                time: last,
+                actor,
+            });
+        }
         let (time, actor) = line_start(plan, &self.finders, base, bytes)?;
         Some(Front { base, time, actor })
     }
 
     /// What is behind the text of this line with that time in place of its own, and its newline, where the
-    /// bytes begin with these.
-    pub(crate) fn behind<'a>(&self, time: u64, line: &Line, bytes: &'a [u8]) -> Option<&'a [u8]>
+    /// bytes begin with these. The text is put in place of what `text` held.
+    pub(crate) fn behind<'a>(
+        &self,
+        time: u64,
+        line: &Line,
+        text: &mut LineText,
+        bytes: &'a [u8],
+    ) -> Option<&'a [u8]>
         requires line_of_names { is_line (length self.now.devices) (length self.now.callers) line.now ≡ true }
         requires not_later { time ≤ line.now.time }
         ensures { IfSome result (λ left. bytes.now ≡ line_text self.now (record line.now { time = time }) ++ (10 ∷ left.now)) }
     {
-        let mut spelled = LineText::new();
-        self.at_hand.spell(time, line, &mut spelled);
-        bytes.strip_prefix(spelled.as_slice())?.strip_prefix(b"\n")
+        self.at_hand.spell(time, line, text);
+        bytes.strip_prefix(text.as_slice())?.strip_prefix(b"\n")
     }
 
     /// The line of the plan whose text this is behind a line of that time, in format 2 where that is true.

@@ -9,11 +9,12 @@ ghost use Rattle.pm_model.specs.Lawful.{IsLawful, is_finished};
 ghost use Rattle.pm_model.specs.Text.{names_of};
 ghost use Rattle.pm_model.specs.World.{world};
 
+use crate::fronts::Fronts;
 use crate::offers::PlanNames;
 use crate::reading::NoWhy;
 use pm_base::NoMemory;
 use pm_judge::{Bad, Judge};
-use pm_model::Plan;
+use pm_model::{Line, Move, Plan};
 use std::alloc::Global;
 use std::marker::Model;
 
@@ -22,6 +23,7 @@ use std::marker::Model;
 pub struct Reader {
     judge: Judge,
     names: PlanNames,
+    fronts: Fronts,
 }
 
 impl Model for Reader {
@@ -48,8 +50,16 @@ impl Reader {
             Ok(names) => names,
             Err(error) => return Err((plan, error)),
         };
+        let fronts = match Fronts::new(alloc, &plan) {
+            Ok(fronts) => fronts,
+            Err(error) => return Err((plan, error)),
+        };
         match Judge::start(alloc, plan) {
-            Ok(judge) => Ok(Reader { judge, names }),
+            Ok(judge) => Ok(Reader {
+                judge,
+                names,
+                fronts,
+            }),
             Err(back) => Err(back),
         }
     }
@@ -74,7 +84,13 @@ impl Reader {
         ensures taken { IfSome result (λ behind. HasTakenFirst is_format2 self.old self.new bytes.now behind.now) }
         ensures left { IfNone result (self.new ≡ self.old) }
     {
-        take_offered(&mut self.judge, &self.names, is_format2, bytes)
+        take_offered(
+            &mut self.judge,
+            &self.names,
+            &mut self.fronts,
+            is_format2,
+            bytes,
+        )
     }
 
     /// Takes the line whose text this is, in format 2 where that is true, or says why it is bad.
@@ -91,6 +107,7 @@ impl Reader {
 fn take_offered<'a>(
     judge: &mut Judge,
     names: &PlanNames,
+    fronts: &mut Fronts,
     is_format2: bool,
     bytes: &'a [u8],
 ) -> Option<&'a [u8]>
@@ -98,14 +115,23 @@ fn take_offered<'a>(
     ensures taken { IfSome result (λ behind. HasTakenFirst is_format2 judge.old judge.new bytes.now behind.now) }
     ensures left { IfNone result (judge.new ≡ judge.old) }
 {
-    let front = names.front(judge.plan(), judge.last_time(), is_format2, bytes)?;
-    let offered = judge.offer(front.actor, front.time);
-    // Borrowed where it stands, since an offer is large.
-    let Some(offer) = &offered else {
+    let last = judge.last_time();
+    let front = names.front(judge.plan(), last, fronts, is_format2, bytes)?;
+    let mut row = Move::Late(last);
+    if !judge.offer(front.actor, front.time, &mut row) {
+        return None;
+    }
+    let Move::Write(event, change, next) = &row else {
         return None;
     };
-    let behind = names.behind(front.time - front.base, &offer.line, bytes)?;
-    judge.accept(&offer.line, offer.change, &offer.next);
+    let line = Line {
+        time: front.time,
+        actor: front.actor,
+        event: *event,
+    };
+    let behind = names.behind(front.time - front.base, &line, &mut fronts.text, bytes)?;
+    judge.accept(&line, *change, next);
+    fronts.note(front.actor, last < front.time);
     Some(behind)
 }
 

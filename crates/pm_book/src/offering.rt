@@ -1,11 +1,11 @@
 //! The line that an actor may write next, and how a book takes it.
 
-ghost use Rattle.std.specs.Prelude.{◌≡◌, ◌<◌, ◌^◌, Ok, IfNone, IfSome, IsOk, OnErr, OnOk, length, true};
+ghost use Rattle.std.specs.Prelude.{◌≡◌, ◌<◌, ◌^◌, Ok, IsOk, OnErr, OnOk, false, length, true};
 ghost use Rattle.pm_judge.specs.Judging.{IsAnswer};
+ghost use Rattle.pm_judge.specs.Offering.{IsOffer, IsOfPlan};
 ghost use Rattle.pm_judge.specs.Sometime.{MayCome, Writes};
 ghost use Rattle.pm_model.specs.declared.event.Event.{Event};
 ghost use Rattle.pm_model.specs.Lawful.{last_time};
-ghost use Rattle.pm_model.specs.LineOf.{is_line_of};
 ghost use Rattle.pm_state.specs.Standing.{IsActor};
 ghost use Rattle.pm_book.specs.Pages.{Longer, world_of};
 
@@ -13,29 +13,27 @@ use crate::book::Book;
 use crate::laws::all_stand_well;
 use pm_base::{ActorId, NoMemory};
 use pm_bounds::lines_are_of_plan;
-use pm_judge::{Offer, offered};
-use pm_model::{Change, Line, Then};
+use pm_judge::offered;
+use pm_model::{Change, Line, Move, Then};
 
 impl Book {
-    /// The line that an actor of the plan may write next at a time below 2^63 milliseconds of the run: there
-    /// is one at most. `None` comes exactly where it may write none then, or the list has all the lines that
-    /// the plan allows. It takes no memory.
-    pub fn offer(&self, actor: ActorId, time: u64) -> Option<Offer>
+    /// Whether an actor of the plan may write a line at a time below 2^63 milliseconds of the run: there is one
+    /// at most, and none where the list has all the lines that the plan allows. The move that writes it is put
+    /// in `out`, which a caller keeps, since a move is large. It takes no memory.
+    pub fn offer(&self, actor: ActorId, time: u64, out: &mut Move) -> bool
         requires in_range { IsActor self.now.plan actor }
         requires in_time { time < 2 ^ 63 }
-        ensures actor { IfSome result (λ offer. offer.line.actor ≡ actor) }
-        ensures time { IfSome result (λ offer. offer.line.time ≡ time) }
-        ensures of_plan { IfSome result (λ offer. is_line_of self.now.plan offer.line ≡ true) }
-        ensures room { IfSome result (λ _. length self.now.lines < self.now.plan.lines) }
-        ensures writes { IfSome result (λ offer. Writes self.now.plan (world_of self.now) (last_time self.now.lines) offer.line offer.change offer.next) }
-        ensures none { IfNone result (length self.now.lines < self.now.plan.lines → (event : Event) → ¬ MayCome self.now.plan (world_of self.now) (last_time self.now.lines) (record { time = time; actor = actor; event = event })) }
+        ensures writes { result ≡ true → IsOffer self.now.plan (world_of self.now) (last_time self.now.lines) actor time out.new }
+        ensures of_plan { result ≡ true → IsOfPlan self.now.plan actor time out.new }
+        ensures room { result ≡ true → length self.now.lines < self.now.plan.lines }
+        ensures none { result ≡ false → length self.now.lines < self.now.plan.lines → (event : Event) → ¬ MayCome self.now.plan (world_of self.now) (last_time self.now.lines) (record { time = time; actor = actor; event = event }) }
     {
         if self.is_full() {
-            return None;
+            return false;
         }
         all_stand_well();
         lines_are_of_plan();
-        offered(&self.plan, &self.state, self.lines.last_time(), actor, time)
+        offered(&self.plan, &self.state, self.lines.last_time(), actor, time, out)
     }
 
     /// Takes a line by an actor of the plan, at a time below 2^63 milliseconds of the run, that may come next:

@@ -1,10 +1,12 @@
 -- What a judge answers of a line, and for which lists it stands then.
-use Rattle.std.proofs.Common.{ℕ, ◌≡◌, ◌<◌, ◌+◌, ◌^◌, true, List, ◌∷◌, length, Option, Some, None, IfNone, IfSome, Ok, Err, refl, sym, subst, arith}
+use Rattle.std.proofs.Common.{ℕ, ◌≡◌, ◌<◌, ◌+◌, ◌^◌, true, List, ◌∷◌, length, Some, Ok, Err, refl, sym, subst, arith}
 use Rattle.std.specs.Option.{option_map_or}
 use Rattle.pm_base.specs.declared.ActorId.{ActorId}
 use Rattle.pm_model.specs.declared.event.Line.{Line}
 use Rattle.pm_model.specs.declared.plan.Plan.{Plan}
 use Rattle.pm_model.specs.declared.stage.Change.{Change}
+use Rattle.pm_model.specs.declared.stage.Move.{Move}
+use Rattle.pm_model.specs.declared.stage.Move.TheVariants.{Late, Wait, Write}
 use Rattle.pm_model.specs.declared.stage.Stage.{Stage}
 use Rattle.pm_model.specs.declared.stage.Then.{Then}
 use Rattle.pm_model.specs.Lawful.{IsLawful, Permits, last_time}
@@ -15,8 +17,8 @@ use Rattle.pm_state.specs.Standing.{Standing, StandsWell, after_write, can_go_on
 use Rattle.pm_times.proofs.Deciding.{event_move, move_event}
 use Rattle.pm_judge.specs.declared.judge.Bad.{Bad}
 use Rattle.pm_judge.specs.declared.judge.Bad.TheVariants as bad
-use Rattle.pm_judge.specs.declared.offering.Offer.{Offer}
 use Rattle.pm_judge.specs.Judging.{IsAnswer, JudgeStandsFor, Judged, StandsForSome}
+use Rattle.pm_judge.specs.Offering.{IsOfPlan, IsOffer, line_by}
 use Rattle.pm_judge.specs.Sometime.{Comes, MayCome, Writes}
 use Rattle.pm_judge.proofs.Moves.{may_come, permits, stays_of, world_after}
 
@@ -32,17 +34,11 @@ pub stands_at : (plan : Plan) (w : World) (actor : ActorId) (s : Stage) → Stan
 stands_at plan w actor s well is = subst (λ o. option_map_or (can_go_on plan w.views) o true ≡ true) (sym is) well
 
 -- a line that is offered is one of the plan
-pub offer_of_plan : (plan : Plan) (w : World) (last t : ℕ) (h : List Line) (o : Option Offer) → w ≡ world plan h → last ≡ last_time h → t < 2 ^ 63
-    → ((line : Line) → Permits plan h line → line.time < 2 ^ 63 → is_line_of plan line ≡ true) → IfSome o (λ x. Writes plan w last x.line x.change x.next) → IfSome o (λ x. x.line.time ≡ t)
-    → IfSome o (λ x. is_line_of plan x.line ≡ true)
-offer_of_plan plan w last t h None same at early of_plan may is = tt
-offer_of_plan plan w last t h (Some x) same at early of_plan may is =
-    of_plan x.line (permits plan h w last x.line x.change x.next same at may) (subst (λ n. n < 2 ^ 63) (sym is) early)
-
--- none is offered, whether there is room or not
-pub none_anyway : (A B : Type 0) (o : Option Offer) → IfNone o A → IfNone o (B → A)
-none_anyway A B None none = λ b. none
-none_anyway A B (Some x) none = tt
+pub offer_of_plan : (plan : Plan) (w : World) (last : ℕ) (actor : ActorId) (t : ℕ) (h : List Line) (m : Move) → w ≡ world plan h → last ≡ last_time h → t < 2 ^ 63
+    → ((line : Line) → Permits plan h line → line.time < 2 ^ 63 → is_line_of plan line ≡ true) → IsOffer plan w last actor t m → IsOfPlan plan actor t m
+offer_of_plan plan w last actor t h (Write e c next) same at early of_plan may = of_plan (line_by actor t e) (permits plan h w last (line_by actor t e) c next same at may) early
+offer_of_plan plan w last actor t h (Late due) same at early of_plan may = may
+offer_of_plan plan w last actor t h (Wait d) same at early of_plan may = may
 
 -- a line that is taken: the list with it is the one for which the judge stands then
 pub stands_on : (plan : Plan) (w : World) (last lines : ℕ) (h : List Line) (line : Line) (c : Change) (next : Then) → JudgeStandsFor (judged plan w last lines) h → Writes plan w last line c next

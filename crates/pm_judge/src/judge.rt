@@ -1,22 +1,22 @@
 //! The judge.
 
-ghost use Rattle.std.specs.Prelude.{◌≡◌, ◌<◌, ◌^◌, ◌∷◌, [], List, Ok, IfErr, IfNone, IfOk, IfSome, OnErr, OnOk, true};
+ghost use Rattle.std.specs.Prelude.{◌≡◌, ◌<◌, ◌^◌, ◌∷◌, [], List, Ok, IfErr, IfOk, OnErr, OnOk, false, true};
 ghost use Rattle.pm_judge.specs.Judging.{IsAnswer, JudgeStandsFor, Judged};
+ghost use Rattle.pm_judge.specs.Offering.{IsOffer, IsOfPlan};
 ghost use Rattle.pm_judge.specs.Sometime.{MayCome, Writes};
 ghost use Rattle.pm_model.specs.declared.event.Event.{Event};
 ghost use Rattle.pm_model.specs.declared.event.Line.{Line};
 ghost use Rattle.pm_model.specs.Lawful.{IsLawful, is_finished};
-ghost use Rattle.pm_model.specs.LineOf.{is_line_of};
 ghost use Rattle.pm_model.specs.World.{world};
 ghost use Rattle.pm_state.specs.Standing.{IsActor};
 
 use crate::deciding::decide;
 use crate::laws::{all_stand_well, each_line_fits, each_line_is_taken};
-use crate::offering::{Offer, offered};
+use crate::offering::offered;
 use pm_base::{ActorId, NoMemory};
 use pm_bounds::lines_are_of_plan;
 use pm_laws::sizes;
-use pm_model::{Change, Line, Plan, Then};
+use pm_model::{Change, Line, Move, Plan, Then};
 use pm_state::State;
 use std::alloc::Global;
 use std::marker::Model;
@@ -113,25 +113,23 @@ impl Judge {
         Ok(())
     }
 
-    /// The line that an actor of the plan may write next at a time below 2^63 milliseconds of the run: there
-    /// is one at most. `None` comes exactly where it may write none then, or there are as many lines as the
-    /// plan allows. It takes no memory.
-    pub fn offer(&self, actor: ActorId, time: u64) -> Option<Offer>
+    /// Whether an actor of the plan may write a line at a time below 2^63 milliseconds of the run: there is one
+    /// at most, and none where there are as many lines as the plan allows. The move that writes it is put in
+    /// `out`, which a caller keeps, since a move is large. It takes no memory.
+    pub fn offer(&self, actor: ActorId, time: u64, out: &mut Move) -> bool
         requires in_range { IsActor self.now.plan actor }
         requires in_time { time < 2 ^ 63 }
-        ensures actor { IfSome result (λ offer. offer.line.actor ≡ actor) }
-        ensures time { IfSome result (λ offer. offer.line.time ≡ time) }
-        ensures of_plan { IfSome result (λ offer. is_line_of self.now.plan offer.line ≡ true) }
-        ensures room { IfSome result (λ _. self.now.lines < self.now.plan.lines) }
-        ensures writes { IfSome result (λ offer. Writes self.now.plan self.now.world self.now.last offer.line offer.change offer.next) }
-        ensures none { IfNone result (self.now.lines < self.now.plan.lines → (event : Event) → ¬ MayCome self.now.plan self.now.world self.now.last (record { time = time; actor = actor; event = event })) }
+        ensures writes { result ≡ true → IsOffer self.now.plan self.now.world self.now.last actor time out.new }
+        ensures of_plan { result ≡ true → IsOfPlan self.now.plan actor time out.new }
+        ensures room { result ≡ true → self.now.lines < self.now.plan.lines }
+        ensures none { result ≡ false → self.now.lines < self.now.plan.lines → (event : Event) → ¬ MayCome self.now.plan self.now.world self.now.last (record { time = time; actor = actor; event = event }) }
     {
         if self.plan.lines <= self.lines {
-            return None;
+            return false;
         }
         all_stand_well();
         lines_are_of_plan();
-        offered(&self.plan, &self.state, self.last, actor, time)
+        offered(&self.plan, &self.state, self.last, actor, time, out)
     }
 
     /// Takes a line by an actor of the plan, at a time below 2^63 milliseconds of the run, that may come next:

@@ -13,4 +13,4 @@ mod tests;
 pub use deciding::{Permitted, decide};
 pub use judge::{Bad, Judge};
 pub use laws::{all_stand_well, each_line_fits, each_line_is_taken};
-pub use offering::{Offer, offered};
+pub use offering::offered;

@@ -1,6 +1,7 @@
 //! What is asked of the state of a run.
 
-ghost use Rattle.std.specs.Prelude.{◌≡◌, ◌≢◌, ◌<◌, ◌≤◌, ◌^◌, Some, IfNone, IfSome, IsTrue, ◌↔◌, true};
+ghost use Rattle.std.specs.Prelude.{◌≡◌, ◌≢◌, ◌<◌, ◌≤◌, ◌^◌, Some, IfNone, IfSome, IsTrue, ◌↔◌, false, true};
+ghost use Rattle.pm_judge.specs.Offering.{IsWrite};
 ghost use Rattle.pm_judge.specs.Sometime.{MayCome, Writes};
 ghost use Rattle.pm_model.specs.declared.event.Event.{Event as AnEvent};
 ghost use Rattle.pm_model.specs.declared.stage.Change.{Change as AChange};
@@ -11,7 +12,7 @@ ghost use Rattle.pm_state.specs.Standing.{IsOf, can_go_on};
 ghost use Rattle.pm_times.specs.Times.{event_at};
 
 use crate::deciding::Permitted;
-use pm_model::{Change, Event, Line, Move, Plan, Stage, Then};
+use pm_model::{Event, Line, Move, Plan, Stage};
 use pm_state::State;
 
 // Whether two events are equal.
@@ -29,35 +30,37 @@ pub(crate) fn event_of(plan: &Plan, state: &State, stage: Stage, time: u64) -> O
     requires at_once { due plan.now state.now.world.views stage ≤ time }
     ensures { result ≡ event_at plan.now state.now.world.views stage time }
 {
-    match state.next(plan, &stage, time) {
+    let mut row = Move::Late(time);
+    state.next(plan, &stage, time, &mut row);
+    match row {
         Move::Write(event, _, _) => Some(event),
         Move::Late(_) | Move::Wait(_) => None,
     }
 }
 
-// What the row at a stage writes at this moment, what it changes beside that and what takes the stage's place,
-// where the last line was written at this; `None` where it waits or comes later.
+// Whether the row at a stage writes at this moment, where the last line was written at this: it doesn't where it
+// waits or comes later. What it writes is put in `out`.
+#[inline]
 pub(crate) fn row_at(
     plan: &Plan,
     state: &State,
-    stage: Stage,
+    stage: &Stage,
     last: u64,
     time: u64,
-) -> Option<(Event, Change, Then)>
+    out: &mut Move,
+) -> bool
     requires is_of { IsOf plan.now state.now }
-    requires stands { can_go_on plan.now state.now.world.views stage ≡ true }
+    requires stands { can_go_on plan.now state.now.world.views stage.now ≡ true }
     requires in_time { time < 2 ^ 63 }
-    ensures gives { IfSome result (λ row. move plan.now state.now.world.views stage time ≡ Some (Write row.0 row.1 row.2)) }
-    ensures in_order { IfSome result (λ _. last ≤ time) }
-    ensures none { IfNone result ((event : AnEvent) (change : AChange) (next : AThen) → last ≤ time → move plan.now state.now.world.views stage time ≢ Some (Write event change next)) }
+    ensures gives { result ≡ true → IsWrite out.new (λ event change next. move plan.now state.now.world.views stage.now time ≡ Some (Write event change next)) }
+    ensures in_order { result ≡ true → last ≤ time }
+    ensures none { result ≡ false → (event : AnEvent) (change : AChange) (next : AThen) → last ≤ time → move plan.now state.now.world.views stage.now time ≢ Some (Write event change next) }
 {
     if time < last {
-        return None;
+        return false;
     }
-    match state.next(plan, &stage, time) {
-        Move::Write(event, change, next) => Some((event, change, next)),
-        Move::Late(_) | Move::Wait(_) => None,
-    }
+    state.next(plan, stage, time, out);
+    matches!(*out, Move::Write(_, _, _))
 }
 
 // A line that may come next at its time, where the last one was written at this.
@@ -76,7 +79,13 @@ pub(crate) fn written(
     ensures some { IfSome result (λ coming. Writes plan.now state.now.world last line.now coming.change coming.next) }
     ensures none { IfNone result (¬ MayCome plan.now state.now.world last line.now) }
 {
-    let (event, change, next) = row_at(plan, state, stage, last, line.time)?;
+    let mut row = Move::Late(last);
+    if !row_at(plan, state, &stage, last, line.time, &mut row) {
+        return None;
+    }
+    let Move::Write(event, change, next) = row else {
+        return None;
+    };
     if same(event, line.event) {
         Some(Permitted {
             stage,

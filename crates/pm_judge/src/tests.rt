@@ -4,7 +4,7 @@ ghost use Rattle.std.specs.Prelude.{◌≡◌, ◌<◌, ◌^◌, IfOk, length};
 
 use super::*;
 use pm_base::{ActorId, DevId, NoMemory};
-use pm_model::{CallerRow, Command, Event, Helper, Items, Line, NamedList, Plan};
+use pm_model::{CallerRow, Command, Event, Helper, Items, Line, Move, NamedList, Plan};
 use std::alloc::Global;
 use std::test::Fail;
 
@@ -72,9 +72,21 @@ fn take_offered(judge: &mut Judge, time: u64) -> Option<Event>
     requires in_time { time < 2 ^ 63 }
     ensures plan { judge.new.plan ≡ judge.old.plan }
 {
-    let offer = judge.offer(ActorId::Caller(0), time)?;
-    judge.accept(&offer.line, offer.change, &offer.next);
-    Some(offer.line.event)
+    let actor = ActorId::Caller(0);
+    let mut row = Move::Late(0);
+    if !judge.offer(actor, time, &mut row) {
+        return None;
+    }
+    let Move::Write(event, change, next) = &row else {
+        return None;
+    };
+    let line = Line {
+        time,
+        actor,
+        event: *event,
+    };
+    judge.accept(&line, *change, next);
+    Some(line.event)
 }
 
 // The judge of that plan.

@@ -5,4 +5,4 @@ use Rattle.pm_judge.proofs.offering.offered.Goals as goal
 pub row_at-requires-clause-stands : goal.row_at-requires-clause-stands
 row_at-requires-clause-stands c =
     let state = c.args.state.now in
-    stands_at c.args.plan.now state.world c.args.actor c.in_ok-stage.stage c.requires.stands c.in_ok-stage.ensures
+    stands_at c.args.plan.now state.world c.args.actor c.in-Some.stage c.requires.stands c.in-Some.ensures

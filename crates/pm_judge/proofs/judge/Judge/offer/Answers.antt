@@ -1,10 +1,10 @@
 -- By the list for which the judge stands.
-use Rattle.std.proofs.Common.{◌≡◌, ◌<◌, ◌^◌, IfNone, IfSome, true, subst}
+use Rattle.std.proofs.Common.{◌≡◌, ◌<◌, ◌^◌, true, false, subst}
 use Rattle.pm_model.specs.declared.event.Event.{Event}
-use Rattle.pm_model.specs.LineOf.{is_line_of}
 use Rattle.pm_judge.specs.Judging.{Judged}
+use Rattle.pm_judge.specs.Offering.{IsOfPlan}
 use Rattle.pm_judge.specs.Sometime.{MayCome}
-use Rattle.pm_judge.proofs.Answering.{none_anyway, offer_of_plan}
+use Rattle.pm_judge.proofs.Answering.{offer_of_plan}
 use Rattle.pm_judge.proofs.judge.Judge.offer.Goals as goal
 
 pub offered-requires-clause-stands : goal.offered-requires-clause-stands
@@ -18,13 +18,13 @@ pub returns-clause-of_plan : goal.returns-clause-of_plan
 returns-clause-of_plan c =
     let j = c.self.inside in
     let i = c.self.invariant in
-    let Is : Judged → Type 0 = λ (old : Judged). IfSome c.offered.result (λ x. is_line_of old.plan x.line ≡ true) in
+    let Is : Judged → Type 0 = λ (old : Judged). c.offered.result ≡ true → IsOfPlan old.plan c.args.actor c.args.time c.offered.new.out in
     subst Is c.self.view_is
-    (offer_of_plan j.plan j.state.world j.last c.args.time i.list c.offered.result i.stands.world_is i.stands.last_is c.requires.in_time
-    (λ line permitted early. c.lines_are_of_plan.ensures.next j.plan i.list line i.lawful permitted early) c.offered.ensures.writes c.offered.ensures.time)
+    (λ yes. offer_of_plan j.plan j.state.world j.last c.args.actor c.args.time i.list c.offered.new.out i.stands.world_is i.stands.last_is c.requires.in_time
+    (λ line permitted early. c.lines_are_of_plan.ensures.next j.plan i.list line i.lawful permitted early) (c.offered.ensures.writes yes))
 
 pub returns-clause-none : goal.returns-clause-none
 returns-clause-none c =
     let None_for : Judged → Type 0 = λ (old : Judged).
-    IfNone c.offered.result (old.lines < old.plan.lines → (event : Event) → MayCome old.plan old.world old.last (record { time = c.args.time; actor = c.args.actor; event = event }) → ⊥) in
-    subst None_for c.self.view_is (none_anyway _ _ c.offered.result c.offered.ensures.none)
+    c.offered.result ≡ false → old.lines < old.plan.lines → (event : Event) → MayCome old.plan old.world old.last (record { time = c.args.time; actor = c.args.actor; event = event }) → ⊥ in
+    subst None_for c.self.view_is (λ no room. c.offered.ensures.none no)
