@@ -19,7 +19,9 @@ use pm_planrows::{
     code_fault, device_rows, domain_fault, domain_rows, later_fault, link_fault, link_rows,
     name_fault, natural_within, number_fault, repeat_fault, too_many_fault, unknown_fault,
 };
-use pm_plantree::{Place, RawPlan, Section, document, key_fault, kind_fault, raw_plan};
+use pm_plantree::{
+    Place, RawPlan, Section, document, is_sound, key_fault, kind_fault, raw_plan,
+};
 use std::alloc::Global;
 use toml::Table;
 
@@ -48,8 +50,10 @@ fn tree_plan(alloc: Global, tree: &Table) -> Result<Plan, PlanFault>
     ensures ok { IfOk result (λ plan. tree_plan (table_view tree.now) ≡ Ok (contents_of plan)) }
     ensures fault { IfErr result (IsFaultOf (tree_plan (table_view tree.now))) }
 {
-    refuse(PlanWhy::Key, key_fault(tree))?;
-    refuse(PlanWhy::Kind, kind_fault(tree))?;
+    if !is_sound(tree) {
+        refuse(PlanWhy::Key, key_fault(tree))?;
+        refuse(PlanWhy::Kind, kind_fault(tree))?;
+    }
     let raw = raw_plan(alloc, tree)?;
     named_plan(alloc, &raw)
 }
