@@ -19,9 +19,7 @@ use pm_planrows::{
     code_fault, device_rows, domain_fault, domain_rows, later_fault, link_fault, link_rows,
     name_fault, natural_within, number_fault, repeat_fault, too_many_fault, unknown_fault,
 };
-use pm_plantree::{
-    Place, RawPlan, Section, document, is_sound, key_fault, kind_fault, raw_plan,
-};
+use pm_plantree::{Place, RawPlan, Section, document, is_sound, key_fault, kind_fault, raw_plan};
 use std::alloc::Global;
 use toml::Table;
 

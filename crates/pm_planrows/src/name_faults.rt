@@ -126,7 +126,11 @@ pub fn unknown_fault(raw: &RawPlan, names: &Names) -> Option<Place>
     if let Some(fault) = unknown_in_domains(raw.domains.as_slice(), &names.domains) {
         return Some(fault);
     }
-    if let Some(fault) = unknown_in_devices(raw.devices.as_slice(), &names.domains, &names.devices) {
+    if let Some(fault) = unknown_in_devices(
+        raw.devices.as_slice(),
+        &names.domains,
+        &names.devices,
+    ) {
         return Some(fault);
     }
     unknown_in_links(raw.links.as_slice(), &names.devices)

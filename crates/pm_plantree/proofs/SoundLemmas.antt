@@ -1,8 +1,8 @@
 -- Where no entry is wrong, no key and no kind is.
-use Rattle.std.proofs.Common.{◌≡◌, ℕ, ◌+◌, Bool, true, false, ◌||◌, List, [], ◌∷◌, None, refl}
+use Rattle.std.proofs.Common.{◌≡◌, ℕ, ◌+◌, false, None, refl}
 use Rattle.std.proofs.lemmas.Bool.{or_parts}
 use Rattle.std.specs.List.{list_any}
-use Rattle.toml.specs.Data.{Data, Members, member, no_members}
+use Rattle.toml.specs.Data.{Members, member, no_members}
 use Rattle.pm_plantree.specs.KeyFault.{is_unknown_key, lacks_key, unknown_key, wrong_key}
 use Rattle.pm_plantree.specs.KindFault.{is_misfit, wrong_kind}
 use Rattle.pm_plantree.specs.Places.{first_place}

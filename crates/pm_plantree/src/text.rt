@@ -24,7 +24,9 @@ impl<'a> Text<'a> {
     pub fn new(text: &'a str) -> Text<'a>
         ensures { result ≡ text.now }
     {
-        Text { bytes: text.as_bytes() }
+        Text {
+            bytes: text.as_bytes(),
+        }
     }
 
     /// The bytes, in order.

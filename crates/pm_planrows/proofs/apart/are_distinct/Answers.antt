@@ -1,5 +1,4 @@
 -- The numbers are those that were sorted.
-use Rattle.std.proofs.Common.{refl}
 use Rattle.pm_planrows.proofs.ApartLemmas.{rising_apart}
 use Rattle.pm_planrows.proofs.apart.are_distinct.Goals as goal
 
