@@ -102,9 +102,6 @@ law raw named ordered commands =
     (rw (names_of_callers raw) (distinct_names Caller (caller_names raw) twice_caller))
 
 -- no two domains and no two devices have one name
-pub domains_differ : (raw : RawPlan) → repeat_fault raw ≡ None → all_distinct (domain_names raw) ≡ true
-domains_differ raw none = all_differ (domain_names raw) (distinct_names Domain (domain_names raw) (repeats_none raw none).0)
-
 pub devices_named_apart : (raw : RawPlan) → repeat_fault raw ≡ None → all_distinct (device_names raw) ≡ true
 devices_named_apart raw none = all_differ (device_names raw) (distinct_names Device (device_names raw) (repeats_none raw none).1)
 

@@ -12,13 +12,14 @@ ghost use Rattle.pm_planread.specs.PlanOf.{IsFaultOf, contents_of, counted_plan,
 use crate::refusal::{PlanFault, PlanWhy, refuse, refused};
 use crate::scripts::caller_rows;
 use pm_base::{MAX_LINES, PLAN_BYTES};
+use pm_finder::Finder;
 use pm_model::{DeviceList, DomainList, LinkList, Plan};
-use pm_planrows::names::{Names, distinct_names, names_of};
+use pm_planrows::names::{Names, names_of};
 use pm_planrows::{
     code_fault, device_rows, domain_fault, domain_rows, later_fault, link_fault, link_rows,
     name_fault, natural_within, number_fault, repeat_fault, too_many_fault, unknown_fault,
 };
-use pm_plantree::{Place, RawPlan, Section, document, key_fault, kind_fault, raw_plan};
+use pm_plantree::{Place, RawPlan, Section, document, is_sound, key_fault, kind_fault, raw_plan};
 use std::alloc::Global;
 use toml::Table;
 
@@ -47,8 +48,10 @@ fn tree_plan(alloc: Global, tree: &Table) -> Result<Plan, PlanFault>
     ensures ok { IfOk result (λ plan. tree_plan (table_view tree.now) ≡ Ok (contents_of plan)) }
     ensures fault { IfErr result (IsFaultOf (tree_plan (table_view tree.now))) }
 {
-    refuse(PlanWhy::Key, key_fault(tree))?;
-    refuse(PlanWhy::Kind, kind_fault(tree))?;
+    if !is_sound(tree) {
+        refuse(PlanWhy::Key, key_fault(tree))?;
+        refuse(PlanWhy::Kind, kind_fault(tree))?;
+    }
     let raw = raw_plan(alloc, tree)?;
     named_plan(alloc, &raw)
 }
@@ -63,21 +66,20 @@ fn named_plan(alloc: Global, raw: &RawPlan) -> Result<Plan, PlanFault>
     let names = names_of(alloc, raw)?;
     refuse(PlanWhy::Name, name_fault(raw, &names))?;
     refuse(PlanWhy::Repeat, repeat_fault(raw, &names))?;
-    known_plan(alloc, raw, names)
+    known_plan(alloc, raw, &names)
 }
 
 /// The plan of rows of which no two of a section have one name.
-fn known_plan(alloc: Global, raw: &RawPlan, names: Names) -> Result<Plan, PlanFault>
+fn known_plan(alloc: Global, raw: &RawPlan, names: &Names) -> Result<Plan, PlanFault>
     requires few { too_many_fault raw.now ≡ None }
     requires are_names { name_fault raw.now ≡ None }
     requires distinct { repeat_fault raw.now ≡ None }
-    requires names { AreNamesOf raw.now names }
+    requires names { AreNamesOf raw.now names.now }
     ensures ok { IfOk result (λ plan. known_plan raw.now ≡ Ok (contents_of plan)) }
     ensures fault { IfErr result (IsFaultOf (known_plan raw.now)) }
 {
-    let names = distinct_names(alloc, names)?;
-    refuse(PlanWhy::Unknown, unknown_fault(raw, &names))?;
-    ordered_plan(alloc, raw, &names)
+    refuse(PlanWhy::Unknown, unknown_fault(raw, names))?;
+    ordered_plan(alloc, raw, names)
 }
 
 /// The plan of rows whose names are known and no two of a section the same.
@@ -106,7 +108,8 @@ fn ordered_plan(alloc: Global, raw: &RawPlan, names: &Names) -> Result<Plan, Pla
         PlanWhy::NoCallbacksWithLink,
         link_fault(device_slice, link_slice),
     )?;
-    counted_plan(alloc, raw, domains, devices, links)
+    let finder = names.devices.finder();
+    counted_plan(alloc, raw, finder, domains, devices, links)
 }
 
 /// The plan of rows that stand in order.
@@ -114,6 +117,7 @@ fn ordered_plan(alloc: Global, raw: &RawPlan, names: &Names) -> Result<Plan, Pla
 fn counted_plan(
     alloc: Global,
     raw: &RawPlan,
+    finder: &Finder,
     domains: DomainList,
     devices: DeviceList,
     links: LinkList,
@@ -129,7 +133,7 @@ fn counted_plan(
 {
     refuse(PlanWhy::Number, number_fault(raw))?;
     refuse(PlanWhy::Code, code_fault(raw))?;
-    let callers = caller_rows(alloc, &devices, raw.callers.as_slice())?;
+    let callers = caller_rows(alloc, &devices, finder, raw.callers.as_slice())?;
     Ok(Plan {
         lines: lines_of(raw),
         trace: trace_of(raw),

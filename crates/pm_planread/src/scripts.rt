@@ -12,9 +12,9 @@ ghost use Rattle.pm_planread.specs.Scripts.{are_commands, bad_command, caller_ro
 
 use crate::refusal::{PlanFault, PlanWhy, refused};
 use pm_finder::Finder;
-use pm_model::{CallerList, CallerRow, Command, DeviceList, Items, Name, NamedList};
+use pm_model::{CallerList, CallerRow, Command, DeviceList, Items, NamedList};
 use pm_planrows::names::copied;
-use pm_plantree::{Place, RawCaller, Section};
+use pm_plantree::{Place, RawCaller, Section, Text};
 use pm_script::read_command_of;
 use std::alloc::Global;
 
@@ -23,6 +23,7 @@ use std::alloc::Global;
 pub fn caller_rows(
     alloc: Global,
     devices: &DeviceList,
+    finder: &Finder,
     callers: &[RawCaller],
 ) -> Result<CallerList, PlanFault>
     requires devices { length devices.now ≤ MAX_DEVICES }
@@ -33,8 +34,7 @@ pub fn caller_rows(
     ensures none { OnOk result (script_fault (map (λ row. row.name) devices.now) callers.now ≡ None) }
     ensures fault { IfErr result (IsScriptFault (script_fault (map (λ row. row.name) devices.now) callers.now)) }
 {
-    let finder = Finder::new(alloc, devices.as_slice())?;
-    let rows = callers_in(alloc, devices, &finder, callers)?;
+    let rows = callers_in(alloc, devices, finder, callers)?;
     Ok(NamedList::new(alloc, rows)?)
 }
 
@@ -86,7 +86,7 @@ fn commands_in(
     alloc: Global,
     devices: &DeviceList,
     finder: &Finder,
-    texts: &[Name],
+    texts: &[Text],
     caller: usize,
 ) -> Result<Vec<Command>, PlanFault>
     requires few { length devices.now ≤ MAX_DEVICES }

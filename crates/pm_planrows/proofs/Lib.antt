@@ -1,4 +1,5 @@
 pub mod FaultLemmas
 pub mod PositionLemmas
 pub mod NameLemmas
+pub mod ApartLemmas
 pub mod RowNames

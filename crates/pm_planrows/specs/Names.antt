@@ -1,10 +1,11 @@
 -- The refusals `name`, `repeat` and `unknown` (this project's own): names that are none, names and pairs of names that stand
 -- earlier in their section, and references to names that aren't there.
-use Rattle.std.specs.Prelude.{◌≡◌, ℕ, Bool, false, not, ◌&&◌, ◌||◌, List, [], ◌∷◌, Option, is_none, map, nat_lt, position}
+use Rattle.std.specs.Prelude.{◌≡◌, ℕ, Bool, true, false, not, ◌&&◌, ◌||◌, List, [], ◌∷◌, Option, Some, None, is_none, map, nat_lt, position}
 use Rattle.std.specs.Option.{option_map_or, option_or}
 use Rattle.std.specs.Str.{bytes_eq}
 use Rattle.pm_model.specs.IsPlan.{is_caller_name, is_name}
 use Rattle.pm_lists.specs.NamedList.{place_named}
+use Rattle.pm_names.specs.Table.{all_distinct}
 use Rattle.pm_plantree.specs.Places.{first_fault}
 use Rattle.pm_plantree.specs.declared.place.Place.{Place}
 use Rattle.pm_plantree.specs.declared.place.Section.{Section}
@@ -16,9 +17,10 @@ use Rattle.pm_plantree.specs.declared.raw.RawPlan.{RawPlan}
 use Rattle.pm_planrows.specs.Faults.{fault_if}
 use Rattle.pm_planrows.specs.declared.index.Label.{Label}
 use Rattle.pm_planrows.specs.declared.names.Names.{Names}
+use Rattle.pm_planrows.specs.declared.names.Pair.{Pair}
 
 abbrev pub names_in : List Label → List (List ℕ)
-names_in labels = map (λ label. label.name) labels
+names_in labels = map (λ label. label.name.now) labels
 
 abbrev pub domain_names : RawPlan → List (List ℕ)
 domain_names raw = map (λ row. row.name) raw.domains
@@ -98,9 +100,14 @@ pair_name (c ∷ consumer) supplier = 1 ∷ c ∷ pair_name consumer supplier
 abbrev pub link_names : RawPlan → List (List ℕ)
 link_names raw = map (λ row. pair_name row.consumer row.supplier) raw.links
 
+-- where there is no list of links' pairs of names, no two pairs are the same
+abbrev pub ArePairsOf : List (List ℕ) → Option (List Pair) → Type 0
+ArePairsOf names None = all_distinct names ≡ true
+ArePairsOf names (Some pairs) = map (λ pair. pair.name) pairs ≡ names
+
 -- the indexes are those of the plan's names
 pub record AreNamesOf (raw : RawPlan) (names : Names) : Type 0 where
   pub domains : names_in names.domains ≡ domain_names raw
   pub devices : names_in names.devices ≡ device_names raw
-  pub links : names_in names.links ≡ link_names raw
+  pub links : ArePairsOf (link_names raw) names.links
   pub callers : names_in names.callers ≡ caller_names raw

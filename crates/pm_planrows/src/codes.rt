@@ -24,13 +24,13 @@ pub fn is_within(low: u32, high: u32, number: i64) -> bool
 pub fn number_fault(raw: &RawPlan) -> Option<Place>
     ensures { result ≡ number_fault raw.now }
 {
-    fault_if(
-        Section::Top,
-        raw.lines_at,
-        !is_within(1, MAX_LINES, raw.lines),
-    )
-    .or_else(|| fault_if(Section::Top, raw.trace_at, !is_within(1, 2, raw.trace)))
-    .or_else(|| bad_times(raw.devices.as_slice()))
+    if !is_within(1, MAX_LINES, raw.lines) {
+        return Some(Place::new(Section::Top, raw.lines_at, 0));
+    }
+    if !is_within(1, 2, raw.trace) {
+        return Some(Place::new(Section::Top, raw.trace_at, 0));
+    }
+    bad_times(raw.devices.as_slice())
 }
 
 fn bad_times(rows: &[RawDevice]) -> Option<Place>
@@ -80,9 +80,13 @@ fn bad_codes(rows: &[RawDevice]) -> Option<Place>
 fn other_code_in(row: &RawDevice) -> Option<usize>
     ensures { result ≡ other_code_in row.now }
 {
-    other_idle_code(&row.idle)
-        .or_else(|| first_other_code(row.suspend.as_slice()))
-        .or_else(|| first_other_code(row.resume.as_slice()))
+    if let Some(part) = other_idle_code(&row.idle) {
+        return Some(part);
+    }
+    if let Some(part) = first_other_code(row.suspend.as_slice()) {
+        return Some(part);
+    }
+    first_other_code(row.resume.as_slice())
 }
 
 fn other_idle_code(codes: &Option<Codes64>) -> Option<usize>

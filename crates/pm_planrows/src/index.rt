@@ -1,39 +1,40 @@
 //! Names that are found by their bytes.
 
-ghost use Rattle.std.specs.Prelude.{◌≡◌, ◌<◌, ◌^◌, true, length, map, vec_len, IfOk, IfSome};
+ghost use Rattle.std.specs.Prelude.{◌≡◌, ◌<◌, ◌^◌, true, length, map, vec_len, IfOk, IfSome, IsTrue};
 ghost use Rattle.pm_lists.specs.NamedList.{place_named};
 ghost use Rattle.pm_names.specs.Table.{all_distinct};
 
+use crate::apart::are_apart;
 use pm_base::NoMemory;
 use pm_finder::Finder;
 use pm_model::{Name, Named, NamedList};
 use std::alloc::Global;
 use std::marker::Model;
 
-/// A name by itself.
+/// A name that its row owns.
 #[derive(Debug, Drop)]
-pub struct Label {
-    pub name: Name,
+pub struct Label<'a> {
+    pub name: &'a Name,
 }
 
-impl Named for Label {
-    ghost name_of = { λ label. label.name };
+impl<'a> Named for Label<'a> {
+    ghost name_of = { λ label. label.name.now };
 
     fn name(&self) -> &Name {
-        &self.name
+        self.name
     }
 }
 
 /// Names in the plan's order, and what finds them.
 #[derive(Debug, Drop)]
-pub struct Index {
-    labels: NamedList<Label>,
+pub struct Index<'a> {
+    labels: NamedList<Label<'a>>,
     finder: Finder,
     // Whether the finder serves: no two names are the same.
     is_distinct: bool,
 }
 
-impl Model for Index {
+impl<'a> Model for Index<'a> {
     ghost use Rattle.std.specs.Prelude.{◌≡◌, List, map, true};
     ghost use Rattle.pm_names.specs.Table.{all_distinct};
     ghost use Rattle.pm_planrows.specs.declared.index.Label.{Label};
@@ -42,45 +43,50 @@ impl Model for Index {
 
     ghost view = { λ index. index.labels };
 
-    ghost invariant = { λ index. index.is_distinct ≡ true → all_distinct (map (λ label. label.name) index.labels) ≡ true };
+    ghost invariant = { λ index. index.is_distinct ≡ true → all_distinct (map (λ label. label.name.now) index.labels) ≡ true };
 }
 
-impl Index {
+impl<'a> Index<'a> {
     /// An index of these names, of which there are fewer than 2^32.
-    pub fn new(alloc: Global, labels: Vec<Label>) -> Result<Index, NoMemory>
+    pub fn new(alloc: Global, labels: Vec<Label<'a>>) -> Result<Index<'a>, NoMemory>
         requires { vec_len labels < 2 ^ 32 }
-        ensures { IfOk result (λ index. index ≡ labels.items) }
+        ensures { IfOk result (λ index. index ≡ labels.entry.items) }
     {
+        let is_distinct = are_apart(alloc, labels.as_slice())?;
         let labels = NamedList::new(alloc, labels)?;
+        let finder = if is_distinct {
+            Finder::new(alloc, labels.as_slice())?
+        } else {
+            Finder::none(alloc)
+        };
         Ok(Index {
             labels,
-            finder: Finder::none(alloc),
-            is_distinct: false,
+            finder,
+            is_distinct,
         })
     }
 
-    /// The same index where no two names are the same: it finds them sooner.
-    pub fn distinct(self, alloc: Global) -> Result<Index, NoMemory>
-        requires { all_distinct (map (λ label. label.name) self) ≡ true }
-        ensures { IfOk result (λ index. index ≡ self) }
+    /// Whether it is known that no two names are the same.
+    pub fn is_distinct(&self) -> bool
+        ensures { IsTrue result → all_distinct (map (λ label. label.name.now) self.now) ≡ true }
     {
-        let finder = Finder::new(alloc, self.labels.as_slice())?;
-        Ok(Index {
-            labels: self.labels,
-            finder,
-            is_distinct: true,
-        })
+        self.is_distinct
+    }
+
+    /// What finds the names where no two are the same, in any list of rows that have them.
+    pub fn finder(&self) -> &Finder {
+        &self.finder
     }
 
     /// The names as a list that has them in the order of their bytes too.
-    pub fn labels(&self) -> &NamedList<Label>
+    pub fn labels(&self) -> &NamedList<Label<'a>>
         ensures { result.now ≡ self.now }
     {
         &self.labels
     }
 
     /// The names, in order.
-    pub fn as_slice(&self) -> &[Label]
+    pub fn as_slice(&self) -> &[Label<'a>]
         ensures { result.now ≡ self.now }
     {
         self.labels.as_slice()
@@ -88,7 +94,7 @@ impl Index {
 
     /// The place of a name, and of several that are the same the first.
     pub fn find(&self, name: &[u8]) -> Option<usize>
-        ensures place { result ≡ place_named name.now (map (λ label. label.name) self.now) }
+        ensures place { result ≡ place_named name.now (map (λ label. label.name.now) self.now) }
         ensures in_range { IfSome result (λ place. place < length self.now) }
     {
         if self.is_distinct {

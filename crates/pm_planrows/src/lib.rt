@@ -5,6 +5,7 @@
 //! refusal finds its first place.
 #![tactic(auto)]
 
+mod apart;
 mod codes;
 mod index;
 mod many;

@@ -13,10 +13,16 @@ use pm_plantree::{Codes64, Place, RawCaller, RawDevice, RawPlan, Section};
 pub fn too_many_fault(raw: &RawPlan) -> Option<Place>
     ensures { result ≡ too_many_fault raw.now }
 {
-    past_limit(Section::Domain, MAX_DOMAINS, raw.domains.as_slice().len())
-        .or_else(|| many_in_devices(raw.devices.as_slice()))
-        .or_else(|| past_limit(Section::Link, MAX_LINKS, raw.links.as_slice().len()))
-        .or_else(|| many_in_callers(raw.callers.as_slice()))
+    if let Some(fault) = past_limit(Section::Domain, MAX_DOMAINS, raw.domains.as_slice().len()) {
+        return Some(fault);
+    }
+    if let Some(fault) = many_in_devices(raw.devices.as_slice()) {
+        return Some(fault);
+    }
+    if let Some(fault) = past_limit(Section::Link, MAX_LINKS, raw.links.as_slice().len()) {
+        return Some(fault);
+    }
+    many_in_callers(raw.callers.as_slice())
 }
 
 /// The first item past the limit, of so many.

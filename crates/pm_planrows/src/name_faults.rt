@@ -1,18 +1,19 @@
 //! Names that are none, that stand twice, or that aren't there.
 
-ghost use Rattle.std.specs.Prelude.{◌≡◌, ◌&&◌, length, nat_le};
+ghost use Rattle.std.specs.Prelude.{◌≡◌, ◌&&◌, length, map, nat_le};
 ghost use Rattle.std.specs.List.{list_all};
 ghost use Rattle.pm_base.specs.declared.limits.TheConstants.{MAX_NAME};
 ghost use Rattle.pm_model.specs.IsPlan.{is_caller_name, is_name, is_name_byte, is_plain_byte};
 ghost use Rattle.pm_plantree.specs.Places.{first_fault};
+ghost use Rattle.pm_plantree.specs.declared.place.Section.TheVariants.{Link};
 ghost use Rattle.pm_planrows.specs.Faults.{fault_if};
-ghost use Rattle.pm_planrows.specs.Names.{AreNamesOf, device_unknown, domain_unknown, first_bad_name, first_repeat, is_earlier, is_lost, is_name_in, is_unknown, link_unknown, name_fault, names_in, repeat_fault, unknown_fault};
+ghost use Rattle.pm_planrows.specs.Names.{AreNamesOf, device_unknown, domain_unknown, first_bad_name, first_repeat, is_earlier, is_lost, is_name_in, is_unknown, link_names, link_unknown, name_fault, names_in, repeat_fault, unknown_fault};
 
 use crate::index::{Index, Label};
 use crate::names::Names;
 use pm_base::MAX_NAME;
-use pm_model::Name;
-use pm_plantree::{Place, RawDevice, RawDomain, RawLink, RawPlan, Section};
+use pm_model::{Named, NamedList};
+use pm_plantree::{Place, RawDevice, RawDomain, RawLink, RawPlan, Section, Text};
 
 /// The item, where something is wrong with it.
 pub fn fault_if(section: Section, i: usize, wrong: bool) -> Option<Place>
@@ -31,9 +32,13 @@ pub fn name_fault(raw: &RawPlan, names: &Names) -> Option<Place>
     requires { AreNamesOf raw.now names.now }
     ensures { result ≡ name_fault raw.now }
 {
-    first_bad_name(Section::Domain, names.domains.as_slice())
-        .or_else(|| first_bad_name(Section::Device, names.devices.as_slice()))
-        .or_else(|| first_bad_name(Section::Caller, names.callers.as_slice()))
+    if let Some(fault) = first_bad_name(Section::Domain, names.domains.as_slice()) {
+        return Some(fault);
+    }
+    if let Some(fault) = first_bad_name(Section::Device, names.devices.as_slice()) {
+        return Some(fault);
+    }
+    first_bad_name(Section::Caller, names.callers.as_slice())
 }
 
 fn first_bad_name(section: Section, labels: &[Label]) -> Option<Place>
@@ -54,18 +59,48 @@ pub fn repeat_fault(raw: &RawPlan, names: &Names) -> Option<Place>
     requires { AreNamesOf raw.now names.now }
     ensures { result ≡ repeat_fault raw.now }
 {
-    first_repeat(Section::Domain, &names.domains)
-        .or_else(|| first_repeat(Section::Device, &names.devices))
-        .or_else(|| first_repeat(Section::Link, &names.links))
-        .or_else(|| first_repeat(Section::Caller, &names.callers))
+    if let Some(fault) = first_repeat(Section::Domain, &names.domains) {
+        return Some(fault);
+    }
+    if let Some(fault) = first_repeat(Section::Device, &names.devices) {
+        return Some(fault);
+    }
+    if let Some(fault) = first_pair_repeat(raw, names) {
+        return Some(fault);
+    }
+    first_repeat(Section::Caller, &names.callers)
 }
 
+/// The first name that stands earlier, which isn't looked for where no two are the same.
+#[tactic(auto, using(crate::proofs::ApartLemmas::none_repeats))]
 fn first_repeat(section: Section, index: &Index) -> Option<Place>
     ensures { result ≡ first_repeat section (names_in index.now) }
 {
-    let labels = index.as_slice();
-    for (i, label) in labels.iter().enumerate() {
-        let fault = fault_if(section, i, is_earlier(i, index.find(label.name.as_slice())));
+    if index.is_distinct() {
+        None
+    } else {
+        repeat_among(section, index.labels())
+    }
+}
+
+/// The first pair of names of a link that stands earlier.
+#[tactic(auto, using(crate::proofs::ApartLemmas::none_repeats))]
+fn first_pair_repeat(raw: &RawPlan, names: &Names) -> Option<Place>
+    requires { AreNamesOf raw.now names.now }
+    ensures { result ≡ first_repeat Link (link_names raw.now) }
+{
+    match &names.links {
+        Some(pairs) => repeat_among(Section::Link, pairs),
+        None => None,
+    }
+}
+
+fn repeat_among<T: Named>(section: Section, list: &NamedList<T>) -> Option<Place>
+    ensures { result ≡ first_repeat section (map T.name_of list.now) }
+{
+    for (i, row) in list.as_slice().iter().enumerate() {
+        let place = list.find(row.name().as_slice());
+        let fault = fault_if(section, i, is_earlier(i, place));
         if fault.is_some() {
             return fault;
         }
@@ -88,9 +123,17 @@ pub fn unknown_fault(raw: &RawPlan, names: &Names) -> Option<Place>
     requires { AreNamesOf raw.now names.now }
     ensures { result ≡ unknown_fault raw.now }
 {
-    unknown_in_domains(raw.domains.as_slice(), &names.domains)
-        .or_else(|| unknown_in_devices(raw.devices.as_slice(), &names.domains, &names.devices))
-        .or_else(|| unknown_in_links(raw.links.as_slice(), &names.devices))
+    if let Some(fault) = unknown_in_domains(raw.domains.as_slice(), &names.domains) {
+        return Some(fault);
+    }
+    if let Some(fault) = unknown_in_devices(
+        raw.devices.as_slice(),
+        &names.domains,
+        &names.devices,
+    ) {
+        return Some(fault);
+    }
+    unknown_in_links(raw.links.as_slice(), &names.devices)
 }
 
 fn unknown_in_domains(rows: &[RawDomain], domains: &Index) -> Option<Place>
@@ -131,13 +174,13 @@ fn unknown_in_links(rows: &[RawLink], devices: &Index) -> Option<Place>
     None
 }
 
-fn is_unknown(index: &Index, name: &Name) -> bool
+fn is_unknown(index: &Index, name: &Text) -> bool
     ensures { result ≡ is_unknown (names_in index.now) name.now }
 {
     index.find(name.as_slice()).is_none()
 }
 
-fn is_lost(index: &Index, name: &Option<Name>) -> bool
+fn is_lost(index: &Index, name: &Option<Text>) -> bool
     ensures { result ≡ is_lost (names_in index.now) name.now }
 {
     match name {

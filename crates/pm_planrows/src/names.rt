@@ -1,49 +1,50 @@
 //! The names of a plan, each list with an index of its own.
 
-ghost use Rattle.std.specs.Prelude.{◌≡◌, ◌<◌, ◌^◌, true, length, map, vec_len, IfOk};
-ghost use Rattle.pm_names.specs.Table.{all_distinct};
+ghost use Rattle.std.specs.Prelude.{◌≡◌, ◌<◌, ◌^◌, length, map, vec_len, IfOk};
 ghost use Rattle.pm_planrows.specs.Few.{AreFew};
-ghost use Rattle.pm_planrows.specs.Names.{AreNamesOf, names_in, pair_name};
+ghost use Rattle.pm_planrows.specs.Names.{AreNamesOf, ArePairsOf, names_in, pair_name};
 
+use crate::apart::are_links_apart;
 use crate::index::{Index, Label};
 use pm_base::NoMemory;
-use pm_model::{Items, Name, Named};
+use pm_model::{Items, Name, Named, NamedList};
 use pm_plantree::{RawLink, RawPlan};
 use std::alloc::Global;
 
-/// The names of a plan's items; of a link the names of both its devices.
+/// The pair of names of a link as one name.
 #[derive(Debug, Drop)]
-pub struct Names {
-    pub domains: Index,
-    pub devices: Index,
-    pub links: Index,
-    pub callers: Index,
+pub struct Pair {
+    pub name: Name,
+}
+
+impl Named for Pair {
+    ghost name_of = { λ pair. pair.name };
+
+    fn name(&self) -> &Name {
+        &self.name
+    }
+}
+
+/// The names of a plan's items.
+#[derive(Debug, Drop)]
+pub struct Names<'a> {
+    pub domains: Index<'a>,
+    pub devices: Index<'a>,
+    /// The pairs of names of links, where it isn't known that no two are the same.
+    pub links: Option<NamedList<Pair>>,
+    pub callers: Index<'a>,
 }
 
 /// The names of a plan that hasn't too many items.
-pub fn names_of(alloc: Global, raw: &RawPlan) -> Result<Names, NoMemory>
+pub fn names_of<'a>(alloc: Global, raw: &'a RawPlan) -> Result<Names<'a>, NoMemory>
     requires { AreFew raw.now }
     ensures { IfOk result (AreNamesOf raw.now) }
 {
     Ok(Names {
         domains: index_of(alloc, raw.domains.as_slice())?,
         devices: index_of(alloc, raw.devices.as_slice())?,
-        links: link_index(alloc, raw.links.as_slice())?,
+        links: pairs_of(alloc, raw.links.as_slice())?,
         callers: index_of(alloc, raw.callers.as_slice())?,
-    })
-}
-
-/// The same names where no two domains and no two devices have one name: they are found sooner.
-pub fn distinct_names(alloc: Global, names: Names) -> Result<Names, NoMemory>
-    requires domains { all_distinct (names_in names.domains) ≡ true }
-    requires devices { all_distinct (names_in names.devices) ≡ true }
-    ensures { IfOk result (λ same. same ≡ names) }
-{
-    Ok(Names {
-        domains: names.domains.distinct(alloc)?,
-        devices: names.devices.distinct(alloc)?,
-        links: names.links,
-        callers: names.callers,
     })
 }
 
@@ -55,43 +56,45 @@ pub fn copied(alloc: Global, name: &Name) -> Result<Name, NoMemory>
 }
 
 /// The index of rows' names.
-fn index_of<T: Named>(alloc: Global, rows: &[T]) -> Result<Index, NoMemory>
+fn index_of<'a, T: Named>(alloc: Global, rows: &'a [T]) -> Result<Index<'a>, NoMemory>
     requires { length rows.now < 2 ^ 32 }
     ensures { IfOk result (λ index. names_in index ≡ map T.name_of rows.now) }
 {
     Index::new(alloc, labels(alloc, rows)?)
 }
 
-fn labels<T: Named>(alloc: Global, rows: &[T]) -> Result<Vec<Label>, NoMemory>
+fn labels<'a, T: Named>(alloc: Global, rows: &'a [T]) -> Result<Vec<Label<'a>>, NoMemory>
     ensures names { IfOk result (λ v. names_in v.items ≡ map T.name_of rows.now) }
     ensures len { IfOk result (λ v. vec_len v ≡ length rows.now) }
 {
     let mut labels = Vec::with_capacity(alloc, rows.len())?;
     for row in rows {
-        let name = copied(alloc, row.name())?;
-        labels.push(Label { name })?;
+        labels.push(Label { name: row.name() })?;
     }
     Ok(labels)
 }
 
-/// The index of links by the names of their devices.
-fn link_index(alloc: Global, rows: &[RawLink]) -> Result<Index, NoMemory>
+/// The pairs of names of links, where their numbers don't tell that no two are the same.
+fn pairs_of(alloc: Global, rows: &[RawLink]) -> Result<Option<NamedList<Pair>>, NoMemory>
     requires { length rows.now < 2 ^ 32 }
-    ensures { IfOk result (λ index. names_in index ≡ map (λ row. pair_name row.consumer row.supplier) rows.now) }
+    ensures { IfOk result (ArePairsOf (map (λ row. pair_name row.consumer row.supplier) rows.now)) }
 {
-    Index::new(alloc, link_labels(alloc, rows)?)
+    if are_links_apart(alloc, rows)? {
+        return Ok(None);
+    }
+    Ok(Some(NamedList::new(alloc, pairs_in(alloc, rows)?)?))
 }
 
-fn link_labels(alloc: Global, rows: &[RawLink]) -> Result<Vec<Label>, NoMemory>
-    ensures names { IfOk result (λ v. names_in v.items ≡ map (λ row. pair_name row.consumer row.supplier) rows.now) }
+fn pairs_in(alloc: Global, rows: &[RawLink]) -> Result<Vec<Pair>, NoMemory>
+    ensures names { IfOk result (λ v. map (λ pair. pair.name) v.items ≡ map (λ row. pair_name row.consumer row.supplier) rows.now) }
     ensures len { IfOk result (λ v. vec_len v ≡ length rows.now) }
 {
-    let mut labels = Vec::with_capacity(alloc, rows.len())?;
+    let mut pairs = Vec::with_capacity(alloc, rows.len())?;
     for row in rows {
         let name = pair_name(alloc, row.consumer.as_slice(), row.supplier.as_slice())?;
-        labels.push(Label { name })?;
+        pairs.push(Pair { name })?;
     }
-    Ok(labels)
+    Ok(pairs)
 }
 
 /// Two names as one, from which both can be told: 1 before each byte of the first, and 0 before the

@@ -12,9 +12,9 @@ use crate::index::Index;
 use crate::names::{Names, copied};
 use pm_base::{DevId, DomId, MAX_MS, NoMemory};
 use pm_model::{
-    Codes, DeviceList, DeviceRow, DomainList, DomainRow, Items, LinkList, LinkRow, Name, NamedList,
+    Codes, DeviceList, DeviceRow, DomainList, DomainRow, Items, LinkList, LinkRow, NamedList,
 };
-use pm_plantree::{Codes64, RawDevice, RawDomain, RawLink, RawPlan};
+use pm_plantree::{Codes64, RawDevice, RawDomain, RawLink, RawPlan, Text};
 use std::alloc::Global;
 
 /// The domains of a plan.
@@ -143,7 +143,7 @@ fn link_row(row: &RawLink, devices: &Index) -> LinkRow
 }
 
 /// The place of a name.
-fn place_in(index: &Index, name: &Name) -> Option<u32>
+fn place_in(index: &Index, name: &Text) -> Option<u32>
     requires { length index.now ≤ MAX_DEVICES }
     ensures { result ≡ place_named name.now (names_in index.now) }
 {
@@ -153,7 +153,7 @@ fn place_in(index: &Index, name: &Name) -> Option<u32>
     }
 }
 
-fn domain_named(domains: &Index, name: &Option<Name>) -> Option<DomId>
+fn domain_named(domains: &Index, name: &Option<Text>) -> Option<DomId>
     requires { length domains.now ≤ MAX_DEVICES }
     ensures { result ≡ option_and_then (domain_of (names_in domains.now)) name.now }
 {
@@ -163,7 +163,7 @@ fn domain_named(domains: &Index, name: &Option<Name>) -> Option<DomId>
     }
 }
 
-fn device_named(devices: &Index, name: &Option<Name>) -> Option<DevId>
+fn device_named(devices: &Index, name: &Option<Text>) -> Option<DevId>
     requires { length devices.now ≤ MAX_DEVICES }
     ensures { result ≡ option_and_then (device_of (names_in devices.now)) name.now }
 {
@@ -173,7 +173,7 @@ fn device_named(devices: &Index, name: &Option<Name>) -> Option<DevId>
     }
 }
 
-fn device_or_first(devices: &Index, name: &Name) -> DevId
+fn device_or_first(devices: &Index, name: &Text) -> DevId
     requires { length devices.now ≤ MAX_DEVICES }
     ensures { result ≡ device_or_first (names_in devices.now) name.now }
 {

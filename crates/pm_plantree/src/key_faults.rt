@@ -89,7 +89,8 @@ fn unknown_key(section: Section, table: &Table) -> Option<usize>
     None
 }
 
-fn lacks_key(section: Section, table: &Table) -> bool
+/// Whether a required key is missing.
+pub fn lacks_key(section: Section, table: &Table) -> bool
     ensures { result ≡ lacks_key section (table_view table.now) }
 {
     match section {

@@ -10,10 +10,14 @@ mod keys;
 mod kind_faults;
 mod place;
 mod raw;
+mod sound;
+mod text;
 mod tree;
 
 pub use key_faults::key_fault;
 pub use kind_faults::kind_fault;
 pub use place::{Place, Section};
 pub use raw::{Codes64, RawCaller, RawDevice, RawDomain, RawLink, RawPlan, raw_plan};
+pub use sound::is_sound;
+pub use text::Text;
 pub use tree::document;

@@ -1,11 +1,12 @@
 //! What the tree of a plan says, row by row.
 
-ghost use Rattle.std.specs.Prelude.{◌≡◌, [], map, option_map, unwrap_or, IfOk};
-ghost use Rattle.toml.specs.Data.{Members};
+ghost use Rattle.std.specs.Prelude.{◌≡◌, [], map, unwrap_or, IfOk};
+ghost use Rattle.toml.specs.Data.{Members, as_str};
 ghost use Rattle.toml.specs.View.{table_view, view};
 ghost use Rattle.pm_plantree.specs.Tree.{entries_view};
 ghost use Rattle.pm_plantree.specs.Raw.{key_place, number_at, numbers_at, numbers_in, raw_caller, raw_device, raw_domain, raw_link, raw_plan, rows_in, switch_at, text_at, texts_in};
 
+use crate::text::Text;
 use crate::tree::{Entry, entries_of, items_in, list_in, value_in};
 use pm_base::DEFAULT_LINES;
 use pm_model::{Items, Name, Named};
@@ -17,13 +18,13 @@ pub type Codes64 = Items<i64>;
 
 /// A domain, which names its parent.
 #[derive(Debug, Drop)]
-pub struct RawDomain {
+pub struct RawDomain<'a> {
     pub name: Name,
-    pub parent: Option<Name>,
+    pub parent: Option<Text<'a>>,
     pub always_on: bool,
 }
 
-impl Named for RawDomain {
+impl<'a> Named for RawDomain<'a> {
     ghost name_of = { λ row. row.name };
 
     fn name(&self) -> &Name {
@@ -33,10 +34,10 @@ impl Named for RawDomain {
 
 /// A device, which names its parent and its domain.
 #[derive(Debug, Drop)]
-pub struct RawDevice {
+pub struct RawDevice<'a> {
     pub name: Name,
-    pub parent: Option<Name>,
-    pub domain: Option<Name>,
+    pub parent: Option<Text<'a>>,
+    pub domain: Option<Text<'a>>,
     pub ignore_children: bool,
     pub no_callbacks: bool,
     pub busy: bool,
@@ -48,7 +49,7 @@ pub struct RawDevice {
     pub resume_ms: i64,
 }
 
-impl Named for RawDevice {
+impl<'a> Named for RawDevice<'a> {
     ghost name_of = { λ row. row.name };
 
     fn name(&self) -> &Name {
@@ -58,21 +59,21 @@ impl Named for RawDevice {
 
 /// A link, which names its devices.
 #[derive(Debug, Drop)]
-pub struct RawLink {
-    pub consumer: Name,
-    pub supplier: Name,
+pub struct RawLink<'a> {
+    pub consumer: Text<'a>,
+    pub supplier: Text<'a>,
     pub pm_runtime: bool,
     pub later: bool,
 }
 
 /// A caller with the text of each command.
 #[derive(Debug, Drop)]
-pub struct RawCaller {
+pub struct RawCaller<'a> {
     pub name: Name,
-    pub script: Items<Name>,
+    pub script: Items<Text<'a>>,
 }
 
-impl Named for RawCaller {
+impl<'a> Named for RawCaller<'a> {
     ghost name_of = { λ row. row.name };
 
     fn name(&self) -> &Name {
@@ -80,33 +81,33 @@ impl Named for RawCaller {
     }
 }
 
-/// What the text of a plan says.
+/// What the text of a plan says. Its rows own their names; all other text is the tree's.
 #[derive(Debug, Drop)]
-pub struct RawPlan {
+pub struct RawPlan<'a> {
     pub lines: i64,
     /// The place of the key `lines` among the top keys in byte order, and 0 where it is missing.
     pub lines_at: usize,
     pub trace: i64,
     /// The same of the key `trace`.
     pub trace_at: usize,
-    pub domains: Items<RawDomain>,
-    pub devices: Items<RawDevice>,
-    pub links: Items<RawLink>,
-    pub callers: Items<RawCaller>,
+    pub domains: Items<RawDomain<'a>>,
+    pub devices: Items<RawDevice<'a>>,
+    pub links: Items<RawLink<'a>>,
+    pub callers: Items<RawCaller<'a>>,
 }
 
 /// A row of a plan that a table says.
-trait Row: Drop {
+trait Row<'a>: Drop {
     /// The row of a table.
     ghost row_of: { Members → Self };
 
-    fn row(alloc: Global, entries: &[Entry]) -> Result<Self, AllocError>
+    fn row(alloc: Global, entries: &[Entry<'a>]) -> Result<Self, AllocError>
         ensures { IfOk result (λ row. row ≡ row_of (entries_view entries.now)) };
 }
 
 /// What the tree says. It fails where memory runs out.
 #[tactic(auto, unfolding(crate::specs::Raw::raw_plan))]
-pub fn raw_plan(alloc: Global, tree: &Table) -> Result<RawPlan, AllocError>
+pub fn raw_plan<'a>(alloc: Global, tree: &'a Table) -> Result<RawPlan<'a>, AllocError>
     ensures { IfOk result (λ plan. plan ≡ raw_plan (table_view tree.now)) }
 {
     let entries = entries_of(alloc, tree)?;
@@ -128,7 +129,7 @@ pub fn raw_plan(alloc: Global, tree: &Table) -> Result<RawPlan, AllocError>
 }
 
 /// The rows of an array's tables.
-fn rows_in<T: Row>(alloc: Global, values: &[Value]) -> Result<Vec<T>, AllocError>
+fn rows_in<'a, T: Row<'a>>(alloc: Global, values: &'a [Value]) -> Result<Vec<T>, AllocError>
     ensures { IfOk result (λ rows. rows.items ≡ rows_in T.row_of (map view values.now)) }
 {
     let mut rows = Vec::with_capacity(alloc, values.len())?;
@@ -140,28 +141,28 @@ fn rows_in<T: Row>(alloc: Global, values: &[Value]) -> Result<Vec<T>, AllocError
     Ok(rows)
 }
 
-impl Row for RawDomain {
+impl<'a> Row<'a> for RawDomain<'a> {
     ghost row_of = { raw_domain };
 
     #[tactic(auto, unfolding(crate::specs::Raw::raw_domain))]
-    fn row(alloc: Global, entries: &[Entry]) -> Result<RawDomain, AllocError> {
+    fn row(alloc: Global, entries: &[Entry<'a>]) -> Result<RawDomain<'a>, AllocError> {
         Ok(RawDomain {
-            name: text_or_empty(alloc, entries, "name")?,
-            parent: text_at(alloc, entries, "parent")?,
+            name: copied(alloc, text_or_empty(entries, "name"))?,
+            parent: text_at(entries, "parent"),
             always_on: switch_at(entries, "always_on").unwrap_or(false),
         })
     }
 }
 
-impl Row for RawDevice {
+impl<'a> Row<'a> for RawDevice<'a> {
     ghost row_of = { raw_device };
 
     #[tactic(auto, unfolding(crate::specs::Raw::raw_device))]
-    fn row(alloc: Global, entries: &[Entry]) -> Result<RawDevice, AllocError> {
+    fn row(alloc: Global, entries: &[Entry<'a>]) -> Result<RawDevice<'a>, AllocError> {
         Ok(RawDevice {
-            name: text_or_empty(alloc, entries, "name")?,
-            parent: text_at(alloc, entries, "parent")?,
-            domain: text_at(alloc, entries, "domain")?,
+            name: copied(alloc, text_or_empty(entries, "name"))?,
+            parent: text_at(entries, "parent"),
+            domain: text_at(entries, "domain"),
             ignore_children: switch_at(entries, "ignore_children").unwrap_or(false),
             no_callbacks: switch_at(entries, "no_callbacks").unwrap_or(false),
             busy: switch_at(entries, "busy").unwrap_or(false),
@@ -175,65 +176,66 @@ impl Row for RawDevice {
     }
 }
 
-impl Row for RawLink {
+impl<'a> Row<'a> for RawLink<'a> {
     ghost row_of = { raw_link };
 
     #[tactic(auto, unfolding(crate::specs::Raw::raw_link))]
-    fn row(alloc: Global, entries: &[Entry]) -> Result<RawLink, AllocError> {
+    fn row(alloc: Global, entries: &[Entry<'a>]) -> Result<RawLink<'a>, AllocError> {
         Ok(RawLink {
-            consumer: text_or_empty(alloc, entries, "consumer")?,
-            supplier: text_or_empty(alloc, entries, "supplier")?,
+            consumer: text_or_empty(entries, "consumer"),
+            supplier: text_or_empty(entries, "supplier"),
             pm_runtime: switch_at(entries, "pm_runtime").unwrap_or(true),
             later: switch_at(entries, "later").unwrap_or(false),
         })
     }
 }
 
-impl Row for RawCaller {
+impl<'a> Row<'a> for RawCaller<'a> {
     ghost row_of = { raw_caller };
 
     #[tactic(auto, unfolding(crate::specs::Raw::raw_caller))]
-    fn row(alloc: Global, entries: &[Entry]) -> Result<RawCaller, AllocError> {
+    fn row(alloc: Global, entries: &[Entry<'a>]) -> Result<RawCaller<'a>, AllocError> {
         Ok(RawCaller {
-            name: text_or_empty(alloc, entries, "name")?,
+            name: copied(alloc, text_or_empty(entries, "name"))?,
             script: Items::new(texts_in(alloc, list_in(entries, "script"))?),
         })
     }
 }
 
 /// A copy of the text.
-fn copied(alloc: Global, text: &str) -> Result<Name, AllocError>
-    ensures { IfOk result (λ copy. copy ≡ text.now) }
+fn copied(alloc: Global, text: Text) -> Result<Name, AllocError>
+    ensures { IfOk result (λ copy. copy ≡ text.entry) }
 {
-    Ok(Items::new(Vec::from_slice(alloc, text.as_bytes())?))
+    Ok(Items::new(Vec::from_slice(alloc, text.as_slice())?))
 }
 
 /// The string under a key.
-fn text_at(alloc: Global, entries: &[Entry], key: &str) -> Result<Option<Name>, AllocError>
-    ensures { IfOk result (λ text. text ≡ text_at key.now (entries_view entries.now)) }
+fn text_at<'a>(entries: &[Entry<'a>], key: &str) -> Option<Text<'a>>
+    ensures { result ≡ text_at key.now (entries_view entries.now) }
 {
-    match string_at(entries, key) {
-        Some(text) => Ok(Some(copied(alloc, text)?)),
-        None => Ok(None),
+    match value_in(entries, key) {
+        Some(value) => text_of(value),
+        None => None,
     }
 }
 
-fn string_at<'a>(entries: &[Entry<'a>], key: &str) -> Option<&'a str>
-    ensures { option_map (λ text. text.now) result ≡ text_at key.now (entries_view entries.now) }
+/// The string that a value is.
+fn text_of(value: &Value) -> Option<Text>
+    ensures { result ≡ as_str (view value.now) }
 {
-    match value_in(entries, key) {
-        Some(value) => value.as_str(),
+    match value.as_str() {
+        Some(text) => Some(Text::new(text)),
         None => None,
     }
 }
 
 /// The string under a key, and no bytes where none stands there.
-fn text_or_empty(alloc: Global, entries: &[Entry], key: &str) -> Result<Name, AllocError>
-    ensures { IfOk result (λ text. text ≡ unwrap_or (text_at key.now (entries_view entries.now)) []) }
+fn text_or_empty<'a>(entries: &[Entry<'a>], key: &str) -> Text<'a>
+    ensures { result ≡ unwrap_or (text_at key.now (entries_view entries.now)) [] }
 {
-    match string_at(entries, key) {
-        Some(text) => copied(alloc, text),
-        None => Ok(Items::new(Vec::new(alloc))),
+    match text_at(entries, key) {
+        Some(text) => text,
+        None => Text::new(""),
     }
 }
 
@@ -281,13 +283,13 @@ fn numbers_in(alloc: Global, values: &[Value]) -> Result<Vec<i64>, AllocError>
 }
 
 /// The strings of an array.
-fn texts_in(alloc: Global, values: &[Value]) -> Result<Vec<Name>, AllocError>
+fn texts_in<'a>(alloc: Global, values: &'a [Value]) -> Result<Vec<Text<'a>>, AllocError>
     ensures { IfOk result (λ texts. texts.items ≡ texts_in (map view values.now)) }
 {
     let mut texts = Vec::with_capacity(alloc, values.len())?;
     for value in values {
-        if let Some(text) = value.as_str() {
-            texts.push(copied(alloc, text)?)?;
+        if let Some(text) = text_of(value) {
+            texts.push(text)?;
         }
     }
     Ok(texts)

@@ -1,10 +1,11 @@
 -- The item whose word is found is the one at the place of the word.
-use Rattle.std.proofs.Common.{◌≡◌, ℕ, ◌+◌, Bool, List, [], ◌∷◌, length, map, Option, Some, None, position, slice_get, refl, not, cond, nat_lt, sym, ap, ◌∙◌, arith}
+use Rattle.std.proofs.Common.{◌≡◌, ℕ, ◌+◌, Bool, List, [], ◌∷◌, length, map, Option, Some, None, unwrap_or, position, slice_get, refl, not, cond, nat_lt, sym, ap, ◌∙◌, arith}
 use Rattle.std.specs.List.{find, position_or_len}
 use Rattle.std.specs.Option.{option_and_then}
 use Rattle.std.specs.Str.{bytes_eq}
 use Rattle.pm_linetext.specs.Words.{all_helpers}
 use Rattle.pm_model.specs.Spelling.{helper_word}
+use Rattle.pm_model.specs.declared.event.Helper.{Helper}
 use Rattle.pm_names.specs.Table.{place_of}
 use Rattle.pm_names.specs.Words.{helper_words}
 use Rattle.pm_script.specs.Command.{helper_named}
@@ -28,3 +29,9 @@ found_by_word passes word items =
 pub named_at : (word : List ℕ) (place : Option ℕ) → place ≡ place_of helper_words word → helper_named word ≡ option_and_then (λ p. slice_get all_helpers p) place
 unfolding helper_named
 named_at word place is = found_by_word (bytes_eq word) helper_word all_helpers ∙ ap (λ p. option_and_then (λ q. slice_get all_helpers q) p) (sym is)
+
+-- a helper's own word names it
+pub named_here : (word found : List ℕ) (helper : Helper) (place : ℕ) → slice_get helper_words place ≡ Some found → slice_get helper_words place ≡ Some (helper_word helper) → place_of helper_words (helper_word helper) ≡ Some place → slice_get all_helpers place ≡ Some helper → found ≡ word → helper_named word ≡ Some helper
+named_here word found helper place shown its number here same =
+    let is : word ≡ helper_word helper = sym same ∙ ap (λ o. unwrap_or o []) (sym shown ∙ its) in
+    named_at word (Some place) (sym number ∙ ap (λ w. place_of helper_words w) (sym is)) ∙ here

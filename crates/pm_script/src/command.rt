@@ -1,6 +1,6 @@
 //! Reads a command.
 
-ghost use Rattle.std.specs.Prelude.{◌≡◌, ◌<◌, ◌≤◌, true, option_and_then, length, map, nat_eq, nat_lt, if◌then◌else◌, IfOk, IfSome};
+ghost use Rattle.std.specs.Prelude.{◌≡◌, ◌<◌, ◌≤◌, Some, true, option_and_then, length, map, nat_eq, nat_lt, if◌then◌else◌, IfOk, IfSome, IsTrue};
 ghost use Rattle.std.specs.Option.{option_copied};
 ghost use Rattle.pm_base.specs.declared.limits.TheConstants.{MAX_DEVICES};
 ghost use Rattle.pm_model.specs.IsPlan.{is_command, is_operand};
@@ -13,8 +13,8 @@ use crate::fault::ScriptFault;
 use crate::numbers::{milliseconds_in, switch_in};
 use crate::words::{FirstWords, first_words};
 use pm_base::DevId;
-use pm_finder::{Finder, find};
-use pm_linetext::{helper_of, operand_of, takes_device};
+use pm_finder::{Finder, find, is_same};
+use pm_linetext::{helper_of, helper_place, operand_of, takes_device};
 use pm_model::{Command, DeviceList, Helper, Operand, Plan};
 use pm_names::helpers;
 
@@ -68,12 +68,48 @@ fn helper_in(word: Option<&[u8]>) -> Result<Helper, ScriptFault>
     }
 }
 
-/// The helper that a word names.
+/// The helper that a word names. The likely one is looked at before all.
 #[tactic(auto, using(crate::proofs::HelperLemmas::named_at))]
 fn helper_named(word: &[u8]) -> Option<Helper>
     ensures { result ≡ helper_named word.now }
 {
+    let likely = likely_helper(word);
+    if is_named(likely, word) {
+        return Some(likely);
+    }
     helper_of(helpers().number_of(word)?)
+}
+
+/// Of the helpers whose words begin with this one's first byte, one that scripts often name. Contracts
+/// claim nothing of the choice.
+fn likely_helper(word: &[u8]) -> Helper {
+    let [first, ..] = word else {
+        return Helper::Get;
+    };
+    match *first {
+        b'g' => if word.len() == 3 {
+            Helper::Get
+        } else {
+            Helper::GetSync
+        },
+        b'p' => if word.len() == 3 {
+            Helper::Put
+        } else {
+            Helper::PutSync
+        },
+        b'd' => Helper::Delay,
+        b'e' => Helper::Enable,
+        b'r' => Helper::Resume,
+        b's' => Helper::Suspend,
+        _ => Helper::MarkLastBusy,
+    }
+}
+
+/// Whether this is the helper that a word names. Where it isn't, the answer is no.
+fn is_named(helper: Helper, word: &[u8]) -> bool
+    ensures { IsTrue result → helper_named word.now ≡ Some helper }
+{
+    is_same(helpers().name_of(helper_place(helper)), word)
 }
 
 /// The place of the device that a word names.
