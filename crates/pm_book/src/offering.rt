@@ -33,7 +33,14 @@ impl Book {
         }
         all_stand_well();
         lines_are_of_plan();
-        offered(&self.plan, &self.state, self.lines.last_time(), actor, time, out)
+        offered(
+            &self.plan,
+            &self.state,
+            self.lines.last_time(),
+            actor,
+            time,
+            out,
+        )
     }
 
     /// Takes a line by an actor of the plan, at a time below 2^63 milliseconds of the run, that may come next:
