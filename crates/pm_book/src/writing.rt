@@ -119,7 +119,7 @@ impl Book {
         all_stand_well();
         lines_are_of_plan();
         let mut next = Move::Late(time);
-        self.state.next(&self.plan, stage, time, &mut next);
+        self.state.write_next(&self.plan, stage, time, &mut next);
         match &next {
             Move::Wait(dev) => Ok(Step::Blocked(*dev)),
             Move::Late(at) => Ok(Step::Early(*at)),
@@ -177,7 +177,7 @@ impl Book {
             unreachable!();
         };
         let mut next = Move::Late(time);
-        self.state.next(&self.plan, &stage, time, &mut next);
+        self.state.write_next(&self.plan, &stage, time, &mut next);
         match &next {
             Move::Late(at) => EndStep::Early(*at),
             Move::Write(event, change, then) => {

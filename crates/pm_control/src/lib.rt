@@ -151,14 +151,24 @@ fn move_at(plan: &Plan, parts: &Parts, stage: ControlStage, time: u64) -> Move
     }
 }
 
-/// Writes to `out` the only move at a stage of a control function: its line, with what takes the
-/// stage's place; or the device for which it waits. `time` is in milliseconds of the run. A move is
-/// large, so it is written where its caller keeps it. It takes no memory.
-pub fn next(plan: &Plan, parts: &Parts, stage: ControlStage, time: u64, out: &mut Move)
+/// The only move at a stage of a control function: its line, with what takes the stage's place; or the
+/// device for which it waits. `time` is in milliseconds of the run. It takes no memory.
+pub fn next(plan: &Plan, parts: &Parts, stage: ControlStage, time: u64) -> Move
+    requires made_for { IsFor plan.now parts.now.shape }
+    requires well_formed { is_well_formed plan.now parts.now.views (the_stage.Control stage) ≡ true }
+    requires in_time { time < 2 ^ 63 }
+    ensures { result ≡ timed (due plan.now parts.now.views (the_stage.Control stage)) time (control_row plan.now parts.now.views stage time) }
+{
+    move_at(plan, parts, stage, time)
+}
+
+/// Puts what `next` answers in `out`, which its caller keeps, since a move is large. It takes no
+/// memory.
+pub fn write_next(plan: &Plan, parts: &Parts, stage: ControlStage, time: u64, out: &mut Move)
     requires made_for { IsFor plan.now parts.now.shape }
     requires well_formed { is_well_formed plan.now parts.now.views (the_stage.Control stage) ≡ true }
     requires in_time { time < 2 ^ 63 }
     ensures { out.new ≡ timed (due plan.now parts.now.views (the_stage.Control stage)) time (control_row plan.now parts.now.views stage time) }
 {
-    *out = move_at(plan, parts, stage, time);
+    *out = next(plan, parts, stage, time);
 }

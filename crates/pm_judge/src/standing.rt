@@ -30,9 +30,7 @@ pub(crate) fn event_of(plan: &Plan, state: &State, stage: Stage, time: u64) -> O
     requires at_once { due plan.now state.now.world.views stage ≤ time }
     ensures { result ≡ event_at plan.now state.now.world.views stage time }
 {
-    let mut row = Move::Late(time);
-    state.next(plan, &stage, time, &mut row);
-    match row {
+    match state.next(plan, &stage, time) {
         Move::Write(event, _, _) => Some(event),
         Move::Late(_) | Move::Wait(_) => None,
     }
@@ -59,7 +57,7 @@ pub(crate) fn row_at(
     if time < last {
         return false;
     }
-    state.next(plan, stage, time, out);
+    state.write_next(plan, stage, time, out);
     matches!(*out, Move::Write(_, _, _))
 }
 

@@ -434,11 +434,22 @@ fn resumed(call: ResumeCall) -> Move
     )
 }
 
-/// Writes to `out` the only move at a stage of resume: its line, with what takes the stage's place; or
-/// the moment at which its line is due, where that is later than `time` (milliseconds of the run); or
-/// the device for which it waits. A move is large, so it is written where its caller keeps it. It
-/// takes no memory.
-pub fn next(plan: &Plan, parts: &Parts, stage: ResumeStage, time: u64, out: &mut Move)
+/// The only move at a stage of resume: its line, with what takes the stage's place; or the moment at
+/// which its line is due, where that is later than `time` (milliseconds of the run); or the device for
+/// which it waits. It takes no memory.
+pub fn next(plan: &Plan, parts: &Parts, stage: ResumeStage, time: u64) -> Move
+    requires made_for { IsFor plan.now parts.now.shape }
+    requires well_formed { is_well_formed plan.now parts.now.views (the_stage.Resume stage) ≡ true }
+    ensures { result ≡ timed (due plan.now parts.now.views (the_stage.Resume stage)) time (resume_row plan.now parts.now.views stage time) }
+{
+    let mut out = Move::Late(time);
+    write_next(plan, parts, stage, time, &mut out);
+    out
+}
+
+/// Puts what `next` answers in `out`, which its caller keeps, since a move is large. It takes no
+/// memory.
+pub fn write_next(plan: &Plan, parts: &Parts, stage: ResumeStage, time: u64, out: &mut Move)
     requires made_for { IsFor plan.now parts.now.shape }
     requires well_formed { is_well_formed plan.now parts.now.views (the_stage.Resume stage) ≡ true }
     ensures { out.new ≡ timed (due plan.now parts.now.views (the_stage.Resume stage)) time (resume_row plan.now parts.now.views stage time) }

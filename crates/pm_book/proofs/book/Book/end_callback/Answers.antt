@@ -17,6 +17,6 @@ pub unreachable-requires-in-Wait : goal.unreachable-requires-in-Wait
 unreachable-requires-in-Wait c =
     let b = c.self.inside in
     let runs = subst (λ (w : World). is_running b.plan w c.args.actor ≡ true) (sym c.self.invariant.world_is) (subst (λ (p : Pages). is_running p.plan (world_of p) c.args.actor ≡ true) (sym c.self.view_is) c.requires.running) in
-    let gives = subst (λ (m : Move). Some m ≡ move b.plan b.state.world.views c.in-Some.stage c.moment-time.result) c.in-Wait.is c.next.ensures in
+    let gives = subst (λ (m : Move). Some m ≡ move b.plan b.state.world.views c.in-Some.stage c.moment-time.result) c.in-Wait.is c.write_next.ensures in
     no_wait c.moment-time.result c.in-Wait.field-0 (running_due b.plan c.in-Some.stage)
     (move_ends b.plan b.state.world c.args.actor c.in-Some.stage c.moment-time.result _ (sym c.stage_at.ensures ∙ c.in-Some.is) runs gives)

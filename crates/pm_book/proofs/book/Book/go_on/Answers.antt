@@ -19,7 +19,7 @@ write_move-requires-clause-may c =
     let b = c.self.inside in
     let line : Line = record { time = c.args.time; actor = c.args.actor; event = c.in-Write.event } in
     let may = subst (λ (p : Pages). MayGo p.plan p.lines c.args.actor c.args.stage.now c.args.time) (sym c.self.view_is) c.requires.may in
-    let gives = subst (λ (m : Move). Some m ≡ move b.plan b.state.world.views c.args.stage.now c.args.time) c.in-Write.is c.next.ensures in
+    let gives = subst (λ (m : Move). Some m ≡ move b.plan b.state.world.views c.args.stage.now c.args.time) c.in-Write.is c.write_next.ensures in
     subst (λ (p : Pages). MayWrite p.plan p.lines c.args.stage.now line c.in-Write.change c.in-Write.then) c.self.view_is
     (may_write b.plan (reverse b.lines.lines) b.state.world c.args.actor c.args.time c.args.stage.now c.in-Write.event c.in-Write.change c.in-Write.then c.self.invariant.world_is may gives)
 
@@ -29,7 +29,7 @@ write_move-requires-clause-within c =
     let h = reverse b.lines.lines in
     let line : Line = record { time = c.args.time; actor = c.args.actor; event = c.in-Write.event } in
     let may = subst (λ (p : Pages). MayGo p.plan p.lines c.args.actor c.args.stage.now c.args.time) (sym c.self.view_is) c.requires.may in
-    let gives = subst (λ (m : Move). Some m ≡ move b.plan b.state.world.views c.args.stage.now c.args.time) c.in-Write.is c.next.ensures in
+    let gives = subst (λ (m : Move). Some m ≡ move b.plan b.state.world.views c.args.stage.now c.args.time) c.in-Write.is c.write_next.ensures in
     let write = may_write b.plan h b.state.world c.args.actor c.args.time c.args.stage.now c.in-Write.event c.in-Write.change c.in-Write.then c.self.invariant.world_is may gives in
     let told = c.lines_are_of_plan.ensures.event b.plan h line c.self.invariant.lawful (permits b.plan h c.args.stage.now line c.in-Write.change c.in-Write.then write) (omega (arith, may.in_time)) in
     subst (λ (p : Pages). BeginsWithin (length p.plan.devices) c.in-Write.event) c.self.view_is (begins_within (length b.plan.devices) c.in-Write.event told)
