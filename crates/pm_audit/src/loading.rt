@@ -86,12 +86,11 @@ fn take_offered<'a>(
         actor: front.actor,
         event: *event,
     };
-    let time = front.time - front.base;
-    let Some(behind) = names.behind(time, &line, &mut fronts.text, bytes) else {
+    let Some(behind) = names.behind(&line, &mut fronts.text, front.behind) else {
         return Ok(None);
     };
     book.accept(&line, *change, next)?;
-    fronts.note(front.actor, last < front.time);
+    fronts.note(front.actor);
     Ok(Some(behind))
 }
 

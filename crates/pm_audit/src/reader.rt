@@ -129,9 +129,9 @@ fn take_offered<'a>(
         actor: front.actor,
         event: *event,
     };
-    let behind = names.behind(front.time - front.base, &line, &mut fronts.text, bytes)?;
+    let behind = names.behind(&line, &mut fronts.text, front.behind)?;
     judge.accept(&line, *change, next);
-    fronts.note(front.actor, last < front.time);
+    fronts.note(front.actor);
     Some(behind)
 }
 
