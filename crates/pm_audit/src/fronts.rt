@@ -6,7 +6,7 @@ ghost use Rattle.pm_model.specs.Spelling.{space};
 use crate::pieces::behind;
 use pm_base::{ActorId, NoMemory};
 use pm_linetext::LineText;
-use pm_model::Plan;
+use pm_model::{Move, Plan};
 use std::alloc::Global;
 use std::marker::Model;
 
@@ -77,6 +77,8 @@ pub(crate) struct Fronts {
     pub time: TimeText,
     /// The text of the last line's event.
     pub text: LineText,
+    /// The last move that was offered. It is kept here, since it is large.
+    pub row: Move,
 }
 
 // The seat of an actor. A caller and a device of one place are neighbours.
@@ -98,6 +100,7 @@ impl Fronts {
             seat: 0,
             time: TimeText::new(0),
             text: LineText::new(),
+            row: Move::Late(0),
         })
     }
 

@@ -74,11 +74,10 @@ fn take_offered<'a>(
     let Some(front) = names.front(book.plan(), last, fronts, is_format2, bytes) else {
         return Ok(None);
     };
-    let mut row = Move::Late(last);
-    if !book.offer(front.actor, front.time, &mut row) {
+    if !book.offer(front.actor, front.time, &mut fronts.row) {
         return Ok(None);
     }
-    let Move::Write(event, change, next) = &row else {
+    let Move::Write(event, change, next) = &fronts.row else {
         return Ok(None);
     };
     let line = Line {

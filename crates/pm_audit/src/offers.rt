@@ -1,16 +1,16 @@
 //! Lines that are read by the text of the one line that may come next.
 
-ghost use Rattle.std.specs.Prelude.{◌≡◌, ◌<◌, ◌≤◌, ◌^◌, ◌++◌, ◌∷◌, IfNone, IfOk, IfSome, if◌then◌else◌, length, true};
+ghost use Rattle.std.specs.Prelude.{◌≡◌, ◌<◌, ◌^◌, ◌++◌, ◌∷◌, IfNone, IfOk, IfSome, decimal, if◌then◌else◌, length, true};
+ghost use Rattle.pm_audit.specs.Offers.{IsFront};
 ghost use Rattle.pm_model.specs.declared.event.Line.{Line as ALine};
-ghost use Rattle.pm_model.specs.LineOf.{is_line};
-ghost use Rattle.pm_model.specs.Spelling.{line_text};
+ghost use Rattle.pm_model.specs.LineOf.{is_actor_of, is_line};
+ghost use Rattle.pm_model.specs.Spelling.{actor_text, event_text, space};
 ghost use Rattle.pm_model.specs.Text.{IsTextBehind, names_of as its_names};
-ghost use Rattle.pm_state.specs.Standing.{IsActor};
 
 use crate::fronts::{Fronts, TimeText};
 use crate::pieces::behind;
 use pm_base::{ActorId, NoMemory};
-use pm_lineread::{Finders, actor_start, line_start, read_line_by, read_line2_by};
+use pm_lineread::{Finders, line_start, read_line_by, read_line2_by};
 use pm_linetext::{LineText, NamesAtHand};
 use pm_model::{Line, Plan};
 use std::alloc::Global;
@@ -29,11 +29,18 @@ pub(crate) struct Front<'a> {
     pub behind: &'a [u8],
 }
 
-/// An actor whose name bytes begin with, and what is behind that and a space.
-#[derive(Clone, Copy)]
-pub(crate) struct Named<'a> {
-    actor: ActorId,
-    behind: &'a [u8],
+// What is behind the time of a line that is written at the time of the line before, where the bytes begin so.
+#[inline]
+fn behind_time<'a>(text: &TimeText, is_format2: bool, last: u64, bytes: &'a [u8]) -> Option<&'a [u8]>
+    ensures { IfSome result (λ rest. bytes.now ≡ (decimal (if is_format2 then 0 else last) ++ space) ++ rest.now) }
+{
+    if is_format2 {
+        return behind(b"0 ", bytes);
+    }
+    if text.time() == last {
+        return text.behind(bytes);
+    }
+    None
 }
 
 /// The names of a plan, to be found and to be spelled. Contracts see the names.
@@ -63,7 +70,7 @@ impl PlanNames {
     }
 
     // What is behind the name of this actor and a space, where it is one of the plan and the bytes begin so.
-    #[inline]
+    #[inline(always)]
     fn behind_actor<'a>(&self, actor: ActorId, bytes: &'a [u8]) -> Option<&'a [u8]>
         ensures begins { IfSome result (λ rest. bytes.now ≡ (actor_text self.now actor ++ space) ++ rest.now) }
         ensures in_range { IfSome result (λ _. is_actor_of (length self.now.devices) (length self.now.callers) actor ≡ true) }
@@ -82,26 +89,10 @@ impl PlanNames {
         behind(b" ", behind_name)
     }
 
-    // The actor of the plan whose name is the front of these bytes: who is likely to write next, or whose name
-    // is found.
-    #[inline]
-    fn actor_at<'a>(&self, plan: &Plan, fronts: &Fronts, bytes: &'a [u8]) -> Option<Named<'a>>
-        ensures begins { IfSome result (λ named. bytes.now ≡ (actor_text self.now named.actor ++ space) ++ named.behind.now) }
-        ensures in_range { IfSome result (λ named. is_actor_of (length self.now.devices) (length self.now.callers) named.actor ≡ true) }
-    {
-        if let Some(actor) = fronts.follower() {
-            if let Some(behind) = self.behind_actor(actor, bytes) {
-                return Some(Named { actor, behind });
-            }
-        }
-        let actor = actor_start(plan, &self.finders, bytes)?;
-        let behind = self.behind_actor(actor, bytes)?;
-        Some(Named { actor, behind })
-    }
-
-    // The front of the line with which the bytes begin behind one of that time, where it has the same time.
-    #[inline]
-    fn front_at_once<'a>(
+    // The front of the line with which the bytes begin behind one of that time, where it has this time and is by
+    // who is likely to write next.
+    #[inline(always)]
+    fn front_guessed<'a>(
         &self,
         plan: &Plan,
         last: u64,
@@ -109,16 +100,14 @@ impl PlanNames {
         is_format2: bool,
         bytes: &'a [u8],
     ) -> Option<Front<'a>>
+        requires names { self.now ≡ its_names plan.now }
+        requires in_time { last < 2 ^ 63 }
+        ensures { IfSome result (IsFront is_format2 plan.now self.now last bytes.now) }
     {
         let base = if is_format2 { last } else { 0 };
-        let rest = if is_format2 {
-            behind(b"0 ", bytes)?
-        } else if fronts.time.time() == last {
-            fronts.time.behind(bytes)?
-        } else {
-            return None;
-        };
-        let Named { actor, behind } = self.actor_at(plan, fronts, rest)?;
+        let rest = behind_time(&fronts.time, is_format2, last, bytes)?;
+        let actor = fronts.follower()?;
+        let behind = self.behind_actor(actor, rest)?;
         Some(Front {
             base,
             time: last,
@@ -128,7 +117,8 @@ impl PlanNames {
     }
 
     // The front of the line with which the bytes begin behind one of that time.
-    fn front_later<'a>(
+    #[inline(never)]
+    fn front_found<'a>(
         &self,
         plan: &Plan,
         last: u64,
@@ -136,6 +126,9 @@ impl PlanNames {
         is_format2: bool,
         bytes: &'a [u8],
     ) -> Option<Front<'a>>
+        requires names { self.now ≡ its_names plan.now }
+        requires in_time { last < 2 ^ 63 }
+        ensures { IfSome result (IsFront is_format2 plan.now self.now last bytes.now) }
     {
         let base = if is_format2 { last } else { 0 };
         let (time, actor) = line_start(plan, &self.finders, base, bytes)?;
@@ -151,6 +144,7 @@ impl PlanNames {
 
     /// The front of the line with which the bytes begin, in format 2 where that is true, behind one of that
     /// time, where it is found. No clause says that it is found where the bytes begin so.
+    #[inline(always)]
     pub(crate) fn front<'a>(
         &self,
         plan: &Plan,
@@ -159,11 +153,14 @@ impl PlanNames {
         is_format2: bool,
         bytes: &'a [u8],
     ) -> Option<Front<'a>>
+        requires names { self.now ≡ its_names plan.now }
+        requires in_time { last < 2 ^ 63 }
+        ensures { IfSome result (IsFront is_format2 plan.now self.now last bytes.now) }
     {
-        if let Some(front) = self.front_at_once(plan, last, fronts, is_format2, bytes) {
+        if let Some(front) = self.front_guessed(plan, last, fronts, is_format2, bytes) {
             return Some(front);
         }
-        self.front_later(plan, last, &mut fronts.time, is_format2, bytes)
+        self.front_found(plan, last, &mut fronts.time, is_format2, bytes)
     }
 
     /// What is behind the text of this line's event and its newline, where the bytes begin with these. The text

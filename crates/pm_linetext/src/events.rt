@@ -298,6 +298,7 @@ fn push_domain<S: NameSource>(text: &mut LineText, names: &S, dev: DevId, up: bo
 }
 
 /// Appends an event.
+#[inline(always)]
 pub(crate) fn push_event<S: NameSource>(text: &mut LineText, names: &S, event: &Event)
     requires { HasRoom text.old (event_text (S.names names.now) event.now) }
     ensures { text.new ≡ text.old ++ event_text (S.names names.now) event.now }
