@@ -116,6 +116,16 @@ impl PlanNames {
         })
     }
 
+    // The front of the line with which the bytes begin behind one of that time, where it has this time, which these
+    // bytes are behind, and its actor's name is found.
+    #[inline(never)]
+    fn front_named<'a>(&self, plan: &Plan, last: u64, is_format2: bool, bytes: &'a [u8]) -> Option<Front<'a>>
+        ensures { IfSome result (IsFrontOf is_format2 self.now last last bytes.now) }
+    {
+        let actor = actor_start(plan, &self.finders, bytes)?;
+        self.front_by(actor, last, is_format2, bytes)
+    }
+
     // The front of the line with which the bytes begin behind one of that time.
     #[inline(never)]
     fn front_found<'a>(
