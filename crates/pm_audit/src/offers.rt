@@ -1,7 +1,7 @@
 //! Lines that are read by the text of the one line that may come next.
 
 ghost use Rattle.std.specs.Prelude.{◌≡◌, ◌<◌, ◌^◌, ◌++◌, ◌∷◌, IfNone, IfOk, IfSome, decimal, if◌then◌else◌, length, true};
-ghost use Rattle.pm_audit.specs.Offers.{IsFront};
+ghost use Rattle.pm_audit.specs.Offers.{IsFront, IsNamed};
 ghost use Rattle.pm_model.specs.declared.event.Line.{Line as ALine};
 ghost use Rattle.pm_model.specs.LineOf.{is_actor_of, is_line};
 ghost use Rattle.pm_model.specs.Spelling.{actor_text, event_text, space};
@@ -10,7 +10,7 @@ ghost use Rattle.pm_model.specs.Text.{IsTextBehind, names_of as its_names};
 use crate::fronts::{Fronts, TimeText};
 use crate::pieces::behind;
 use pm_base::{ActorId, NoMemory};
-use pm_lineread::{Finders, line_start, read_line_by, read_line2_by};
+use pm_lineread::{Finders, actor_start, line_start, read_line_by, read_line2_by};
 use pm_linetext::{LineText, NamesAtHand};
 use pm_model::{Line, Plan};
 use std::alloc::Global;
@@ -29,9 +29,21 @@ pub(crate) struct Front<'a> {
     pub behind: &'a [u8],
 }
 
+/// An actor, and the bytes behind its name and a space.
+#[derive(Clone, Copy)]
+pub(crate) struct Named<'a> {
+    actor: ActorId,
+    behind: &'a [u8],
+}
+
 // What is behind the time of a line that is written at the time of the line before, where the bytes begin so.
-#[inline]
-fn behind_time<'a>(text: &TimeText, is_format2: bool, last: u64, bytes: &'a [u8]) -> Option<&'a [u8]>
+#[inline(always)]
+fn behind_time<'a>(
+    text: &TimeText,
+    is_format2: bool,
+    last: u64,
+    bytes: &'a [u8],
+) -> Option<&'a [u8]>
     ensures { IfSome result (λ rest. bytes.now ≡ (decimal (if is_format2 then 0 else last) ++ space) ++ rest.now) }
 {
     if is_format2 {
@@ -89,46 +101,32 @@ impl PlanNames {
         behind(b" ", behind_name)
     }
 
-    // The front of the line with which the bytes begin behind one of that time, where it has this time and is by
-    // who is likely to write next.
-    #[inline(always)]
-    fn front_guessed<'a>(
-        &self,
-        plan: &Plan,
-        last: u64,
-        fronts: &Fronts,
-        is_format2: bool,
-        bytes: &'a [u8],
-    ) -> Option<Front<'a>>
-        requires names { self.now ≡ its_names plan.now }
-        requires in_time { last < 2 ^ 63 }
-        ensures { IfSome result (IsFront is_format2 plan.now self.now last bytes.now) }
-    {
-        let base = if is_format2 { last } else { 0 };
-        let rest = behind_time(&fronts.time, is_format2, last, bytes)?;
-        let actor = fronts.follower()?;
-        let behind = self.behind_actor(actor, rest)?;
-        Some(Front {
-            base,
-            time: last,
-            actor,
-            behind,
-        })
-    }
-
-    // The front of the line with which the bytes begin behind one of that time, where it has this time, which these
-    // bytes are behind, and its actor's name is found.
+    // The actor whose name the bytes begin with, where it is found: by its name.
     #[inline(never)]
-    fn front_named<'a>(&self, plan: &Plan, last: u64, is_format2: bool, bytes: &'a [u8]) -> Option<Front<'a>>
-        ensures { IfSome result (IsFrontOf is_format2 self.now last last bytes.now) }
+    fn named_apart<'a>(&self, plan: &Plan, bytes: &'a [u8]) -> Option<Named<'a>>
+        ensures { IfSome result (IsNamed self.now bytes.now) }
     {
         let actor = actor_start(plan, &self.finders, bytes)?;
-        self.front_by(actor, last, is_format2, bytes)
+        let behind = self.behind_actor(actor, bytes)?;
+        Some(Named { actor, behind })
+    }
+
+    // The actor whose name the bytes begin with, where it is found: it is this one, or is found by its name.
+    #[inline(always)]
+    fn named<'a>(&self, plan: &Plan, likely: Option<ActorId>, bytes: &'a [u8]) -> Option<Named<'a>>
+        ensures { IfSome result (IsNamed self.now bytes.now) }
+    {
+        if let Some(actor) = likely {
+            if let Some(behind) = self.behind_actor(actor, bytes) {
+                return Some(Named { actor, behind });
+            }
+        }
+        self.named_apart(plan, bytes)
     }
 
     // The front of the line with which the bytes begin behind one of that time.
     #[inline(never)]
-    fn front_found<'a>(
+    fn front_apart<'a>(
         &self,
         plan: &Plan,
         last: u64,
@@ -167,10 +165,16 @@ impl PlanNames {
         requires in_time { last < 2 ^ 63 }
         ensures { IfSome result (IsFront is_format2 plan.now self.now last bytes.now) }
     {
-        if let Some(front) = self.front_guessed(plan, last, fronts, is_format2, bytes) {
-            return Some(front);
-        }
-        self.front_found(plan, last, &mut fronts.time, is_format2, bytes)
+        let Some(rest) = behind_time(&fronts.time, is_format2, last, bytes) else {
+            return self.front_apart(plan, last, &mut fronts.time, is_format2, bytes);
+        };
+        let Named { actor, behind } = self.named(plan, fronts.follower(), rest)?;
+        Some(Front {
+            base: if is_format2 { last } else { 0 },
+            time: last,
+            actor,
+            behind,
+        })
     }
 
     /// What is behind the text of this line's event and its newline, where the bytes begin with these. The text
