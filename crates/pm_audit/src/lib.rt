@@ -11,8 +11,6 @@ mod pieces;
 mod reader;
 mod reading;
 mod rest;
-#[cfg(test)]
-mod tests;
 
 pub use auditor::{Auditor, Verdict};
 pub use loading::{LoadFault, load_trace};

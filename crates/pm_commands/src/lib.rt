@@ -5,8 +5,6 @@ mod check;
 mod counts;
 mod dispatch;
 mod make;
-#[cfg(test)]
-mod tests;
 
 pub use check::check_top;
 pub use counts::counts_text;

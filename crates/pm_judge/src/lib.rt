@@ -7,8 +7,6 @@ mod laws;
 mod offering;
 mod sometime;
 mod standing;
-#[cfg(test)]
-mod tests;
 
 pub use deciding::{Permitted, decide};
 pub use judge::{Bad, Judge};

@@ -5,8 +5,6 @@ mod answers;
 mod holding;
 mod inspecting;
 mod running;
-#[cfg(test)]
-mod tests;
 
 pub use answers::{Bond, Inspect};
 pub use inspecting::inspect;

@@ -6,8 +6,6 @@ mod books;
 mod convert;
 mod fault;
 mod feeding;
-#[cfg(test)]
-mod tests;
 mod times;
 mod why;
 

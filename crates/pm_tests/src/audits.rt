@@ -3,7 +3,7 @@
 ghost use Rattle.std.specs.Prelude.{◌≡◌, ◌<◌, [], ◌∷◌, None, IfOk, false, pos};
 ghost use Rattle.pm_model.specs.declared.event.Helper.TheVariants as helper;
 
-use super::*;
+use pm_audit::{Auditor, LoadFault, NoWhy, Verdict, load_trace};
 use pm_base::{DevId, NoMemory};
 use pm_model::{CallerRow, Command, DeviceRow, Helper, Items, NamedList, Plan};
 use std::alloc::Global;

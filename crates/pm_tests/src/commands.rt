@@ -1,7 +1,7 @@
 //! What no clause says: that calls succeed, and how a failure in mid-stream ends. Whole texts stand in the
 //! cases of `pm_cases`.
 
-use crate::{counts_text, make_top, top};
+use pm_commands::{counts_text, make_top, top};
 use pm_gate::{Quiet, Ticker};
 use pm_io::{MemFiles, MemSink};
 use pm_planread::read_plan;

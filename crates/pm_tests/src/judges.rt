@@ -2,8 +2,8 @@
 
 ghost use Rattle.std.specs.Prelude.{◌≡◌, ◌<◌, ◌^◌, IfOk, length};
 
-use super::*;
 use pm_base::{ActorId, DevId, NoMemory};
+use pm_judge::{Bad, Judge};
 use pm_model::{CallerRow, Command, Event, Helper, Items, Line, Move, NamedList, Plan};
 use std::alloc::Global;
 use std::test::Fail;

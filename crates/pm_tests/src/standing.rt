@@ -1,14 +1,16 @@
 //! How devices stand in runs that are cut short. What each run writes was worked out from the rules by another
 //! program, and the answers by hand from its lines.
 
-use crate::answers::{Bond, Inspect};
-use crate::inspecting::inspect;
-use pm_base::DevId;
+ghost use Rattle.std.specs.Prelude.{◌≡◌, [], IfOk};
+
+use pm_base::{DevId, NoMemory};
 use pm_book::Book;
-use pm_planread::read_plan;
+use pm_model::Plan;
+use pm_planread::{PlanFault, read_plan};
+use pm_safety::{Bond, Inspect, inspect};
 use pm_serial::{drain, fresh_books_have_time};
-use std::alloc::{AllocError, Global};
-use std::test::Fail;
+use std::alloc::Global;
+use std::process::Abort;
 
 /// A run of so many lines, and how its devices stand then.
 struct Cut {
@@ -186,36 +188,73 @@ caller = [{name = 'c', script = ['set_active k']}]
     },
 ];
 
-/// The book after the run.
-fn book_after(alloc: Global, cut: &Cut) -> Result<Book, Fail> {
+/// The plan of a run.
+fn plan_of(alloc: Global, cut: &Cut) -> Result<Plan, PlanFault> {
     let mut text = Vec::from_slice(alloc, cut.limit)?;
     text.extend_from_slice(cut.plan)?;
-    let plan = read_plan(alloc, &text)?;
-    let mut book = match Book::start(alloc, plan) {
-        Ok(book) => book,
-        Err((_plan, error)) => return Err(Fail::from(error)),
-    };
-    fresh_books_have_time();
-    drain(&mut book)?;
-    Ok(book)
+    read_plan(alloc, &text)
 }
 
-/// How all devices of the book stand.
-fn all_stand(alloc: Global, book: &Book) -> Result<Vec<Inspect>, AllocError> {
-    let mut all = Vec::new(alloc);
-    for place in 0..book.plan().devices.len() {
-        all.push(inspect(book, DevId(place as u32)))?;
+/// A book of the plan without lines.
+fn fresh_book(alloc: Global, plan: Plan) -> Result<Book, NoMemory>
+    ensures { IfOk result (λ book. book.lines ≡ []) }
+{
+    match Book::start(alloc, plan) {
+        Ok(book) => Ok(book),
+        Err((_plan, error)) => Err(error),
     }
-    Ok(all)
+}
+
+/// How the device in this place stands, where the plan has so many.
+fn stand_at(book: &Book, place: usize) -> Option<Inspect> {
+    if place < book.plan().devices.len() {
+        Some(inspect(book, DevId(place as u32)))
+    } else {
+        None
+    }
+}
+
+/// How the devices stand, of which a plan here has three at most.
+type Stand = [Option<Inspect>; 4];
+
+fn all_stand(book: &Book) -> Stand {
+    [
+        stand_at(book, 0),
+        stand_at(book, 1),
+        stand_at(book, 2),
+        stand_at(book, 3),
+    ]
+}
+
+/// How all devices of the plan stand after its run. It alone owns a book, so that the proof of the test stays
+/// small.
+fn stand_after(alloc: Global, plan: Plan) -> Result<Stand, NoMemory> {
+    let mut book = fresh_book(alloc, plan)?;
+    fresh_books_have_time();
+    drain(&mut book)?;
+    Ok(all_stand(&book))
+}
+
+fn wanted(stand: &[Inspect]) -> Stand {
+    [
+        stand.get(0).copied(),
+        stand.get(1).copied(),
+        stand.get(2).copied(),
+        stand.get(3).copied(),
+    ]
+}
+
+fn is_so(rt: &impl Abort, cut: &Cut, stand: Stand) {
+    let shows = cut.shows;
+    assert_eq!(rt; stand, wanted(cut.stand), "{shows}");
 }
 
 #[test]
-fn says_how_each_device_stands(rt: HostRuntime) -> Result<(), Fail> {
+fn says_how_each_device_stands(rt: HostRuntime) -> Result<(), PlanFault> {
     let alloc = rt.alloc();
     for cut in &CUTS {
-        let book = book_after(alloc, cut)?;
-        let shows = cut.shows;
-        assert_eq!(rt; all_stand(alloc, &book)?.as_slice(), cut.stand, "{shows}");
+        let plan = plan_of(alloc, cut)?;
+        is_so(&rt, cut, stand_after(alloc, plan)?);
     }
     Ok(())
 }
