@@ -1,6 +1,8 @@
 -- A line that is offered, and its text.
-use Rattle.std.proofs.Common.{ℕ, ◌≡◌, ◌≢◌, ◌<◌, ◌≤◌, ◌-◌, Bool, Bor, true, false, List, [], ◌∷◌, ◌++◌, Option, Some, None, IfSome, refl, subst, sym, ◌∙◌, ap, if◌then◌else◌, arith}
+use Rattle.std.proofs.Common.{ℕ, ◌≡◌, ◌≢◌, ◌<◌, ◌≤◌, ◌-◌, Bool, Bor, true, false, List, [], ◌∷◌, ◌++◌, Option, Some, None, IfSome, refl, subst, sym, ◌∙◌, ap, if◌then◌else◌, arith, decimal}
 use Rattle.std.specs.Option.{MatchOption}
+use Rattle.std.proofs.lemmas.Grind.{common_steps}
+use Rattle.std.proofs.lemmas.List.{append_assoc}
 use Rattle.pm_model.specs.declared.event.Event.{Event}
 use Rattle.pm_model.specs.declared.event.Line.{Line}
 use Rattle.pm_model.specs.declared.plan.Plan.{Plan}
@@ -10,13 +12,13 @@ use Rattle.pm_model.specs.declared.stage.Move.TheVariants.{Write}
 use Rattle.pm_model.specs.declared.stage.Then.{Then}
 use Rattle.pm_model.specs.LineOf.{is_line_of}
 use Rattle.pm_model.specs.NoWhy.{is_within_line}
-use Rattle.pm_model.specs.Spelling.{Names, line_text}
+use Rattle.pm_model.specs.Spelling.{Names, actor_text, event_text, line_text, space}
 use Rattle.pm_model.specs.Text.{IsTextBehind, names_of}
 use Rattle.pm_texts.proofs.Formats.{in_line, spelled_is}
 use Rattle.pm_judge.specs.Offering.{IsWrite}
 use Rattle.pm_judge.specs.Judging.{Judged}
 use Rattle.pm_judge.specs.Sometime.{Writes}
-use Rattle.pm_audit.specs.Offers.{IsOffered}
+use Rattle.pm_audit.specs.Offers.{BeginsBy, IsOffered}
 use Rattle.pm_audit.proofs.Lines.{can_judge}
 
 -- the text with the time since a base, which is 0 in format 1
@@ -29,6 +31,9 @@ text_behind false plan last base t line piece at is later same spelled =
     let time : t - base ≡ line.time = omega (arith, at, same) in
     (is, subst (λ n. line_text (names_of plan) (record line { time = n }) ≡ piece) time spelled)
 
+whole_text : (time actor event rest : List ℕ) → (time ++ space) ++ ((actor ++ space) ++ (event ++ rest)) ≡ (time ++ space ++ actor ++ space ++ event) ++ rest
+whole_text time actor event rest = grind (arith, common_steps, append_assoc)
+
 pub is_offered : (f : Bool) (j : Judged) (line : Line) (c : Change) (next : Then) (bytes behind : List ℕ) (names : Names) (base : ℕ) → names ≡ names_of j.plan → base ≡ (if f then j.last else 0) → base ≤ line.time
     → is_line_of j.plan line ≡ true → j.lines < j.plan.lines → Writes j.plan j.world j.last line c next → bytes ≡ line_text names (record line { time = line.time - base }) ++ (10 ∷ behind)
     → IsOffered f j line c next bytes behind
@@ -39,18 +44,16 @@ is_offered f j line c next bytes behind names base same at later is room writes 
     let within = subst (λ (p : List ℕ). is_within_line p ≡ true) (sym (spelled_is f j.plan j.last line piece spelled)) (in_line f j.plan j.last line) in
     record { piece = piece; begins = record { split = split; within = within }; spelled = spelled; in_range = can.0; in_time = can.1; room = room; writes = writes }
 
--- what is behind a text and a newline
-pub behind_text : (r : Option (Bor (List ℕ))) (bytes text rest : List ℕ) → bytes ≡ text ++ rest → IfSome r (λ x. rest ≡ (10 ∷ []) ++ x.now) → IfSome r (λ x. bytes ≡ text ++ (10 ∷ x.now))
-behind_text None bytes text rest is left = tt
-behind_text (Some x) bytes text rest is left = is ∙ ap (λ (l : List ℕ). text ++ l) left
-
 -- a prefix that was found
-pub found_first : (s p : List ℕ) (r : Option (Bor (List ℕ))) (x : Bor (List ℕ)) → r ≡ Some x → MatchOption r ((rest : List ℕ) → s ≢ p ++ rest) (λ y. s ≡ p ++ y.now) → s ≡ p ++ x.now
-found_first s p r x is found = subst (λ (o : Option (Bor (List ℕ))). MatchOption o ((rest : List ℕ) → s ≢ p ++ rest) (λ y. s ≡ p ++ y.now)) is found
-
 pub if_found : (s p : List ℕ) (r : Option (Bor (List ℕ))) → MatchOption r ((rest : List ℕ) → s ≢ p ++ rest) (λ y. s ≡ p ++ y.now) → IfSome r (λ y. s ≡ p ++ y.now)
 if_found s p None found = tt
 if_found s p (Some x) found = found
+
+-- the front of a line, its event and its newline
+pub whole_line : (names : Names) (line : Line) (time : ℕ) (bytes event left : List ℕ) → BeginsBy names time line.actor bytes event → event ≡ event_text names line.event ++ (10 ∷ left)
+    → bytes ≡ line_text names (record line { time = time }) ++ (10 ∷ left)
+whole_line names line time bytes event left begins ends =
+    begins ∙ (ap (λ (x : List ℕ). (decimal time ++ space) ++ ((actor_text names line.actor ++ space) ++ x)) ends ∙ whole_text (decimal time) (actor_text names line.actor) (event_text names line.event) (10 ∷ left))
 
 -- what holds of what a move writes
 pub at_write : (P : Event → Change → Then → Type 0) (m : Move) (e : Event) (c : Change) (next : Then) → m ≡ Write e c next → IsWrite m P → P e c next

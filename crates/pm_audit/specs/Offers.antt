@@ -1,17 +1,40 @@
 -- A line that may come next and is read by its text (this project's own). Lists have the newest line first.
-use Rattle.std.specs.Prelude.{ℕ, ◌≡◌, ◌<◌, ◌^◌, ◌++◌, ◌∷◌, Bool, true, List, None}
+use Rattle.std.specs.Prelude.{ℕ, ◌≡◌, ◌<◌, ◌≤◌, ◌-◌, ◌^◌, ◌++◌, ◌∷◌, Bool, true, List, None, decimal, if◌then◌else◌, length}
+use Rattle.pm_base.specs.declared.ActorId.{ActorId}
 use Rattle.pm_model.specs.declared.event.Line.{Line}
 use Rattle.pm_model.specs.declared.stage.Change.{Change}
 use Rattle.pm_model.specs.declared.stage.Then.{Then}
 use Rattle.pm_model.specs.Lawful.{IsLawful}
+use Rattle.pm_model.specs.declared.plan.Plan.{Plan}
 use Rattle.pm_model.specs.NoWhy.{is_within_line}
+use Rattle.pm_model.specs.LineOf.{is_actor_of}
+use Rattle.pm_model.specs.Spelling.{Names, actor_text, space}
 use Rattle.pm_model.specs.Text.{IsTextBehind}
 use Rattle.pm_state.specs.Standing.{IsActor}
 use Rattle.pm_judge.specs.Judging.{JudgeStandsFor, Judged}
 use Rattle.pm_judge.specs.Sometime.{Writes}
 use Rattle.pm_book.specs.Pages.{Pages}
+use Rattle.pm_audit.specs.declared.offers.Front.{Front}
+use Rattle.pm_audit.specs.declared.offers.Named.{Named}
 use Rattle.pm_audit.specs.Auditing.{IsRead}
 use Rattle.pm_audit.specs.Loading.{HasTaken}
+
+-- the bytes begin with this time and this actor, and go on with these
+abbrev pub BeginsBy : Names → ℕ → ActorId → List ℕ → List ℕ → Type 0
+BeginsBy names time actor bytes behind = bytes ≡ (decimal time ++ space) ++ ((actor_text names actor ++ space) ++ behind)
+
+-- the bytes begin with the name of this actor
+pub record IsNamed (names : Names) (bytes : List ℕ) (named : Named) : Type 0 where
+  pub begins : bytes ≡ (actor_text names named.actor ++ space) ++ named.behind.now
+  pub in_range : is_actor_of (length names.devices) (length names.callers) named.actor ≡ true
+
+-- this is the front of the line with which the bytes begin, in format 2 where that is true, behind one of time `last`
+pub record IsFront (f : Bool) (plan : Plan) (names : Names) (last : ℕ) (bytes : List ℕ) (front : Front) : Type 0 where
+  pub base : front.base ≡ (if f then last else 0)
+  pub later : front.base ≤ front.time
+  pub in_time : front.time < 2 ^ 63
+  pub in_range : IsActor plan front.actor
+  pub begins : BeginsBy names (front.time - front.base) front.actor bytes front.behind.now
 
 -- the bytes begin with a line, of this piece and a newline, and go on with these
 pub record BeginsWith (bytes piece behind : List ℕ) : Type 0 where

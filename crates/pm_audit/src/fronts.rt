@@ -1,26 +1,84 @@
 //! What the front of the next line is likely to be.
 
-ghost use Rattle.std.specs.Prelude.{IfSome};
-ghost use Rattle.pm_state.specs.Standing.{IsActor};
+ghost use Rattle.std.specs.Prelude.{◌≡◌, ◌<◌, ◌^◌, ◌++◌, IfOk, IfSome, decimal};
+ghost use Rattle.pm_model.specs.Spelling.{space};
 
-use bstr::ByteSlice;
+use crate::pieces::behind;
 use pm_base::{ActorId, NoMemory};
 use pm_linetext::LineText;
-use pm_model::{Named, Plan};
+use pm_model::{Move, Plan};
 use std::alloc::Global;
+use std::marker::Model;
+
+/// A time, in milliseconds, with its text and the space behind it. Contracts see the time.
+#[derive(Drop)]
+pub(crate) struct TimeText {
+    time: u64,
+    text: LineText,
+}
+
+impl Model for TimeText {
+    ghost use Rattle.std.specs.Prelude.{◌≡◌, ◌++◌, ℕ, decimal};
+    ghost use Rattle.pm_model.specs.Spelling.{space};
+
+    ghost Value = { ℕ };
+
+    ghost view = { λ t. t.time };
+
+    ghost invariant = { λ t. t.text ≡ decimal t.time ++ space };
+}
+
+impl TimeText {
+    /// The text of a time.
+    fn new(time: u64) -> TimeText
+        requires { time < 2 ^ 63 }
+        ensures { result ≡ time }
+    {
+        let mut text = LineText::new();
+        text.put_time(time);
+        TimeText { time, text }
+    }
+
+    /// The time.
+    #[inline]
+    pub(crate) fn time(&self) -> u64
+        ensures { result ≡ self.now }
+    {
+        self.time
+    }
+
+    /// Another time.
+    pub(crate) fn set(&mut self, time: u64)
+        requires { time < 2 ^ 63 }
+        ensures { self.new ≡ time }
+    {
+        self.text.put_time(time);
+        self.time = time;
+    }
+
+    /// What is behind the text of the time and the space, where the bytes begin with these.
+    #[inline]
+    pub(crate) fn behind<'a>(&self, bytes: &'a [u8]) -> Option<&'a [u8]>
+        ensures { IfSome result (λ rest. bytes.now ≡ (decimal self.now ++ space) ++ rest.now) }
+    {
+        behind(self.text.as_slice(), bytes)
+    }
+}
 
 /// What the lines before tell of the front of the next one: most have the time of the last line, and are by who
-/// wrote behind its actor the time before. No clause says that a line begins so: the whole text is compared.
+/// wrote behind its actor the time before. No clause says that a line begins so: its front is compared.
 #[derive(Drop)]
 pub(crate) struct Fronts {
     // Who wrote behind each actor the last time, by the actor's seat.
     followers: Vec<ActorId>,
     // The seat of who wrote the last line.
     seat: usize,
-    // How many bytes of the last line's text are its time and the space behind.
-    digits: usize,
-    /// The text of the last line.
+    /// A time that was read, which is mostly that of the last line.
+    pub time: TimeText,
+    /// The text of the last line's event.
     pub text: LineText,
+    /// The last move that was offered. It is kept here, since it is large.
+    pub row: Move,
 }
 
 // The seat of an actor. A caller and a device of one place are neighbours.
@@ -32,31 +90,6 @@ fn seat_of(actor: ActorId) -> usize {
     }
 }
 
-// What is behind the name of this actor, where it is one of the plan and the bytes begin so.
-#[inline]
-fn behind_actor<'a>(plan: &Plan, actor: ActorId, bytes: &'a [u8]) -> Option<&'a [u8]>
-    ensures { IfSome result (λ _. IsActor plan.now actor) }
-{
-    match actor {
-        ActorId::Caller(place) => {
-            let row = plan.callers.get(place as usize)?;
-            bytes.strip_prefix(row.name().as_slice())
-        }
-        ActorId::Work(place) => {
-            let row = plan.devices.get(place as usize)?;
-            bytes
-                .strip_prefix(b"work.")?
-                .strip_prefix(row.name().as_slice())
-        }
-        ActorId::Timer(place) => {
-            let row = plan.devices.get(place as usize)?;
-            bytes
-                .strip_prefix(b"timer.")?
-                .strip_prefix(row.name().as_slice())
-        }
-    }
-}
-
 impl Fronts {
     /// Before any line of the plan. It takes 24 bytes for each device or each caller, whichever are more, and
     /// fails where memory runs out.
@@ -65,39 +98,21 @@ impl Fronts {
         Ok(Fronts {
             followers: vec![in alloc; ActorId::Caller(0); places.saturating_mul(3)]?,
             seat: 0,
-            digits: 2,
+            time: TimeText::new(0),
             text: LineText::new(),
+            row: Move::Late(0),
         })
     }
 
-    /// The actor of the plan who is likely to write next, where the bytes begin with the time of the last line
-    /// and its name.
+    /// Who is likely to write next.
     #[inline]
-    pub(crate) fn guess(&self, plan: &Plan, is_format2: bool, bytes: &[u8]) -> Option<ActorId>
-        ensures { IfSome result (λ actor. IsActor plan.now actor) }
-    {
-        let time = if is_format2 {
-            b"0 "
-        } else {
-            self.text.as_slice().get(..self.digits)?
-        };
-        let actor = *self.followers.get(self.seat)?;
-        let behind = behind_actor(plan, actor, bytes.strip_prefix(time)?)?;
-        if behind.first() == Some(&b' ') {
-            Some(actor)
-        } else {
-            None
-        }
+    pub(crate) fn follower(&self) -> Option<ActorId> {
+        self.followers.get(self.seat).copied()
     }
 
-    /// The line whose text is kept was taken. It is by this actor, and at another time than the one before
-    /// where that is true.
+    /// A line by this actor was taken.
     #[inline]
-    pub(crate) fn note(&mut self, actor: ActorId, is_later: bool) {
-        if is_later {
-            let time = self.text.as_slice().find_byte(b' ').unwrap_or(0);
-            self.digits = time.saturating_add(1);
-        }
+    pub(crate) fn note(&mut self, actor: ActorId) {
         if let Some(follower) = self.followers.get_mut(self.seat) {
             *follower = actor;
         }

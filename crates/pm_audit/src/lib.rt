@@ -7,6 +7,7 @@ mod auditor;
 mod fronts;
 mod loading;
 mod offers;
+mod pieces;
 mod reader;
 mod reading;
 mod rest;

@@ -74,11 +74,10 @@ fn take_offered<'a>(
     let Some(front) = names.front(draft.plan(), last, fronts, is_format2, bytes) else {
         return Ok(None);
     };
-    let mut row = Move::Late(last);
-    if !draft.offer(front.actor, front.time, &mut row) {
+    if !draft.offer(front.actor, front.time, &mut fronts.row) {
         return Ok(None);
     }
-    let Move::Write(event, change, next) = &row else {
+    let Move::Write(event, change, next) = &fronts.row else {
         return Ok(None);
     };
     let line = Line {
@@ -86,12 +85,11 @@ fn take_offered<'a>(
         actor: front.actor,
         event: *event,
     };
-    let time = front.time - front.base;
-    let Some(behind) = names.behind(time, &line, &mut fronts.text, bytes) else {
+    let Some(behind) = names.behind(&line, &mut fronts.text, front.behind) else {
         return Ok(None);
     };
     draft.accept(&line, *change, next)?;
-    fronts.note(front.actor, last < front.time);
+    fronts.note(front.actor);
     Ok(Some(behind))
 }
 

@@ -117,11 +117,10 @@ fn take_offered<'a>(
 {
     let last = judge.last_time();
     let front = names.front(judge.plan(), last, fronts, is_format2, bytes)?;
-    let mut row = Move::Late(last);
-    if !judge.offer(front.actor, front.time, &mut row) {
+    if !judge.offer(front.actor, front.time, &mut fronts.row) {
         return None;
     }
-    let Move::Write(event, change, next) = &row else {
+    let Move::Write(event, change, next) = &fronts.row else {
         return None;
     };
     let line = Line {
@@ -129,9 +128,9 @@ fn take_offered<'a>(
         actor: front.actor,
         event: *event,
     };
-    let behind = names.behind(front.time - front.base, &line, &mut fronts.text, bytes)?;
+    let behind = names.behind(&line, &mut fronts.text, front.behind)?;
     judge.accept(&line, *change, next);
-    fronts.note(front.actor, last < front.time);
+    fronts.note(front.actor);
     Some(behind)
 }
 

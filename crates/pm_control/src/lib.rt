@@ -164,6 +164,7 @@ pub fn next(plan: &Plan, parts: &Parts, stage: ControlStage, time: u64) -> Move
 
 /// Puts what `next` answers in `out`, which its caller keeps, since a move is large. It takes no
 /// memory.
+#[inline(always)]
 pub fn write_next(plan: &Plan, parts: &Parts, stage: ControlStage, time: u64, out: &mut Move)
     requires made_for { IsFor plan.now parts.now.shape }
     requires well_formed { is_well_formed plan.now parts.now.views (the_stage.Control stage) ≡ true }

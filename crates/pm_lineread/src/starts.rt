@@ -41,6 +41,17 @@ fn actor_named(plan: &Plan, by: &Finders, word: &[u8]) -> Option<ActorId>
     }
 }
 
+/// The actor whose name, up to a space, these bytes may begin with. It takes no memory.
+///
+/// No clause says that they begin so: who is given it compares the name.
+pub fn actor_start(plan: &Plan, by: &Finders, bytes: &[u8]) -> Option<ActorId>
+    ensures { IfSome result
+        (λ actor. is_actor_of (length plan.now.devices) (length plan.now.callers) actor ≡ true) }
+{
+    let (word, _) = bytes.split_at(word_len(b' ', bytes));
+    actor_named(plan, by, word)
+}
+
 /// The time, in milliseconds of the run, and the actor of the line whose text these bytes may be, behind a
 /// line of time `base`, which is 0 in format 1. It takes no memory.
 ///
@@ -56,8 +67,6 @@ pub fn line_start(plan: &Plan, by: &Finders, base: u64, bytes: &[u8]) -> Option<
     let Ok((since, rest)) = number(10, 0, (1 << 63) - 1 - base, bytes) else {
         return None;
     };
-    let rest = rest.strip_prefix(b" ")?;
-    let (word, _) = rest.split_at(word_len(b' ', rest));
-    let actor = actor_named(plan, by, word)?;
+    let actor = actor_start(plan, by, rest.strip_prefix(b" ")?)?;
     Some((base + since, actor))
 }

@@ -270,6 +270,10 @@ line_parts devices callers line h =
     let parts = and_parts (nat_lt line.time (2 ^ 63) && is_actor_of devices callers line.actor) (is_event_of devices line.event) h in
     (ltb-true line.time (2 ^ 63) (and_parts (nat_lt line.time (2 ^ 63)) (is_actor_of devices callers line.actor) parts.0).0, parts.1)
 
+-- the text of an event over names that fit
+pub named_event_len : (names : Names) → NamesFit names → (devices : ℕ) (e : Event) → is_event_of devices e ≡ true → length (event_text names e) ≤ TEXT_BYTES
+named_event_len names fit devices e h = omega (arith, either_len (is_short_event e) _ 103 118 (omega arith) (event_len names fit devices e h))
+
 -- the text of a line over names that fit, with an earlier time in its place
 pub named_text_len : (names : Names) → NamesFit names → (devices callers : ℕ) (line : Line) (time : ℕ) → is_line devices callers line ≡ true → time ≤ line.time → length (line_text names (record line { time = time })) ≤ TEXT_BYTES
 named_text_len names fit devices callers line time h earlier =

@@ -1,18 +1,18 @@
 //! Names of a plan that are copied whole.
 
-ghost use Rattle.std.specs.Prelude.{◌≡◌, ◌≤◌, ◌++◌, [], IfOk, length, map, slice_index_or, take, true};
+ghost use Rattle.std.specs.Prelude.{◌≡◌, ◌<◌, ◌≤◌, ◌++◌, [], IfOk, IfSome, length, map, slice_index_or, take, true};
 ghost use Rattle.pm_base.specs.declared.limits.TheConstants.{MAX_NAME};
-ghost use Rattle.pm_model.specs.LineOf.{is_line};
-ghost use Rattle.pm_model.specs.Spelling.{line_text};
+ghost use Rattle.pm_model.specs.LineOf.{is_event_of, is_line};
+ghost use Rattle.pm_model.specs.Spelling.{caller_name, device_name, event_text, line_text};
 ghost use Rattle.pm_model.specs.Text.{names_of};
 ghost use Rattle.pm_linetext.specs.Room.{HasRoom};
 
-use crate::events::push_line;
+use crate::events::{push_event, push_line};
 use crate::names::NameSource;
 use crate::padded::PaddedName;
 use crate::text::LineText;
 use pm_base::NoMemory;
-use pm_model::{Line, Named, NamedList, Plan};
+use pm_model::{Event, Line, Named, NamedList, Plan};
 use std::alloc::{AllocError, Global};
 use std::marker::Model;
 
@@ -56,6 +56,44 @@ impl NamesAtHand {
         text.clear();
         push_line(text, self, time, line);
     }
+
+    /// Puts the text of an event in place of what `text` held. The event is one of a plan with as many devices.
+    pub fn spell_event(&self, event: &Event, text: &mut LineText)
+        requires { is_event_of (length self.now.devices) event.now ≡ true }
+        ensures { text.new ≡ event_text self.now event.now }
+    {
+        let _ = &self.devices; // so the proof knows that the names fit
+        text.clear();
+        push_event(text, self, event);
+    }
+
+    /// The name of the device at a place, where there is one.
+    #[inline]
+    pub fn device_name(&self, place: usize) -> Option<&[u8]>
+        ensures name { IfSome result (λ name. name.now ≡ device_name self.now place) }
+        ensures in_range { IfSome result (λ _. place < length self.now.devices) }
+    {
+        name_at(&self.devices, place)
+    }
+
+    /// The name of the caller at a place, where there is one.
+    #[inline]
+    pub fn caller_name(&self, place: usize) -> Option<&[u8]>
+        ensures name { IfSome result (λ name. name.now ≡ caller_name self.now place) }
+        ensures in_range { IfSome result (λ _. place < length self.now.callers) }
+    {
+        name_at(&self.callers, place)
+    }
+}
+
+/// The name at a place, where there is one.
+#[inline]
+fn name_at(names: &[PaddedName], place: usize) -> Option<&[u8]>
+    ensures name { IfSome result (λ name. name.now ≡ slice_index_or names.now place []) }
+    ensures in_range { IfSome result (λ _. place < length names.now) }
+{
+    let name = names.get(place)?;
+    Some(name.as_slice())
 }
 
 /// The padded names are at hand.

@@ -223,6 +223,7 @@ fn push_ret<S: NameSource>(text: &mut LineText, names: &S, helper: Helper, dev: 
 }
 
 /// Appends the return of one of the kernel's inner functions.
+#[inline(always)]
 fn push_return<S: NameSource>(text: &mut LineText, names: &S, func: Cb, dev: DevId, code: i32)
     requires { HasRoom text.old (event_text (S.names names.now) (Event.Return func dev code)) }
     ensures { text.new ≡ text.old ++ event_text (S.names names.now) (Event.Return func dev code) }
@@ -298,7 +299,8 @@ fn push_domain<S: NameSource>(text: &mut LineText, names: &S, dev: DevId, up: bo
 }
 
 /// Appends an event.
-fn push_event<S: NameSource>(text: &mut LineText, names: &S, event: &Event)
+#[inline(always)]
+pub(crate) fn push_event<S: NameSource>(text: &mut LineText, names: &S, event: &Event)
     requires { HasRoom text.old (event_text (S.names names.now) event.now) }
     ensures { text.new ≡ text.old ++ event_text (S.names names.now) event.now }
 {

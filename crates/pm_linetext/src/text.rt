@@ -1,7 +1,8 @@
 //! The text of one line while it is spelled.
 
-ghost use Rattle.std.specs.Prelude.{◌≡◌, ◌++◌, [], decimal};
+ghost use Rattle.std.specs.Prelude.{◌≡◌, ◌++◌, ◌<◌, ◌^◌, [], decimal};
 ghost use Rattle.std.specs.Fmt.{signed_decimal};
+ghost use Rattle.pm_model.specs.Spelling.{space};
 ghost use Rattle.pm_linetext.specs.Room.{HasRoom};
 
 use crate::padded::PaddedName;
@@ -44,6 +45,16 @@ impl LineText {
         ensures { result.now ≡ self.now }
     {
         &self.bytes[..self.len]
+    }
+
+    /// Puts a time and the space behind it in place of what the text held.
+    pub fn put_time(&mut self, time: u64)
+        requires { time < 2 ^ 63 }
+        ensures { self.new ≡ decimal time ++ space }
+    {
+        self.clear();
+        self.push_number(time);
+        self.push(b" ");
     }
 
     /// Leaves no text.

@@ -1,10 +1,10 @@
 -- By the line that is offered, and its text.
-use Rattle.std.proofs.Common.{◌≡◌, true, if◌then◌else◌, subst}
+use Rattle.std.proofs.Common.{◌≡◌, ◌-◌, true, if◌then◌else◌, subst}
 use Rattle.pm_model.specs.LineOf.{is_line_of}
 use Rattle.pm_judge.specs.Offering.{line_by}
 use Rattle.pm_judge.specs.Sometime.{Writes}
 use Rattle.pm_audit.proofs.Lines.{read_ok}
-use Rattle.pm_audit.proofs.Spelled.{at_write, is_offered}
+use Rattle.pm_audit.proofs.Spelled.{at_write, is_offered, whole_line}
 use Rattle.pm_audit.proofs.reader.take_offered.Goals as goal
 
 pub returns-clause-taken : goal.returns-clause-taken
@@ -21,7 +21,7 @@ returns-clause-taken c =
     let base = subst (λ n. front.base ≡ (if f then n else 0)) c.last_time-last.ensures.time c.in_ok-front.ensures.base in
     let found =
     is_offered f j line it.change it.next c.args.bytes.now c.in_ok-behind.behind.now c.args.names.now front.base c.requires base c.in_ok-front.ensures.later of_plan (c.offer.ensures.room yes) writes
-    c.in_ok-behind.ensures in
+    (whole_line c.args.names.now line (front.time - front.base) c.args.bytes.now front.behind.now c.in_ok-behind.behind.now c.in_ok-front.ensures.begins c.in_ok-behind.ensures) in
     record {
       piece = found.piece;
       begins = found.begins;
