@@ -1,4 +1,4 @@
--- A book that is loaded from a trace, line by line.
+-- A draft that is loaded from a trace, line by line.
 use Rattle.std.proofs.Common.{ℕ, suc, ◌≡◌, ◌≢◌, ◌+◌, Bool, true, false, List, [], ◌∷◌, ◌++◌, Option, Some, None, IfNone, Result, IfErr, length, nat_eq, inl, inr, refl, sym, subst, ap, ◌∙◌, arith}
 use Rattle.std.proofs.lemmas.List.{append_assoc}
 use Rattle.std.proofs.lemmas.Result.{err_from_is_err_and}
@@ -12,7 +12,7 @@ use Rattle.pm_model.specs.Spelling.{header, newline}
 use Rattle.pm_texts.proofs.Bytes.{append_none}
 use Rattle.pm_texts.proofs.Formats.{IsTextIn, format_is, stands_for, text_by_format, text_more}
 use Rattle.pm_texts.proofs.WhyBad.{reason_first}
-use Rattle.pm_book.specs.Pages.{Pages}
+use Rattle.pm_book.specs.Pages.{Keeps, Pages}
 use Rattle.pm_audit.specs.Auditing.{IsBad, reason_of}
 use Rattle.pm_audit.specs.Loading.{AreLoaded, HasTaken, IsFirstFault, IsLineFault, IsRefused}
 use Rattle.pm_audit.specs.Loading as loading
@@ -102,6 +102,14 @@ pub loads_all : (plan : Plan) (bytes : List ℕ) (f : Bool) (left : List ℕ) (p
 loads_all plan bytes f left p has none =
     let same : bytes ≡ has.whole = has.split ∙ (ap (λ x. has.whole ++ x) none ∙ append_none has.whole) in
     record { plan_is = has.plan_is; lawful = has.lawful; stands = subst (λ (x : List ℕ). StandsFor plan x p.lines) (sym same) has.stands }
+
+-- a book that is made of a draft has its lines
+pub loaded_kept : (plan : Plan) (bytes : List ℕ) (p q : Pages) → AreLoaded plan bytes p → Keeps p q → AreLoaded plan bytes q
+loaded_kept plan bytes p q are kept = record {
+  plan_is = kept.plan ∙ are.plan_is;
+  lawful = subst (λ (l : List Line). IsLawful plan l) (sym kept.lines) are.lawful;
+  stands = subst (λ (l : List Line). StandsFor plan bytes l) (sym kept.lines) are.stands;
+}
 
 -- with the line with which the bytes left begin
 pub loads_first : (plan : Plan) (bytes : List ℕ) (f : Bool) (left left' : List ℕ) (old new : Pages) → HasLoaded plan bytes f left old → HasTakenLine f old new left left' → HasLoaded plan bytes f left' new

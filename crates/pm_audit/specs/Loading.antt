@@ -19,7 +19,7 @@ abbrev pub IsRefused : Plan → List ℕ → LoadFault → Type 0
 IsRefused plan bytes (fault.No n why) = IsVerdict plan bytes (verdicts.No n (reason_of why))
 IsRefused plan bytes fault.NoMemory = Unit {0}
 
--- behind these lines of its plan the book took the line whose text this piece is, in format 2 where that is true
+-- behind these lines of its plan the draft took the line whose text this piece is, in format 2 where that is true
 pub record HasTaken (f : Bool) (plan : Plan) (h : List Line) (new : Pages) (piece : List ℕ) : Type 0 where
   pub next : IsNext f plan h piece
   pub plan_is : new.plan ≡ plan

@@ -59,7 +59,7 @@ pub record HasTakenFirst (f : Bool) (old new : Judged) (bytes behind : List ℕ)
   pub read : (h : List Line) → IsLawful old.plan h → JudgeStandsFor old h → IsRead f old.plan h piece new None
   pub plan : new.plan ≡ old.plan
 
--- a book took the line with which the bytes begin
+-- a draft took the line with which the bytes begin
 pub record HasTakenLine (f : Bool) (old new : Pages) (bytes behind : List ℕ) : Type 0 where
   pub piece : List ℕ
   pub begins : BeginsWith bytes piece behind

@@ -13,7 +13,7 @@ use crate::offers::PlanNames;
 use crate::reading::{HEADER, NoWhy};
 use bstr::ByteSlice;
 use pm_base::NoMemory;
-use pm_book::{Book, TakeFault};
+use pm_book::{Book, Draft, TakeFault};
 use pm_model::{Line, Move, Plan};
 use std::alloc::Global;
 
@@ -30,29 +30,29 @@ pub enum LoadFault {
     NoMemory,
 }
 
-// What is said where the line behind those of a book is bad.
-fn bad_line(book: &Book, why: NoWhy) -> LoadFault
-    ensures { result ≡ LoadFault.No (length book.now.lines + 1) why }
+// What is said where the line behind those of a draft is bad.
+fn bad_line(draft: &Draft, why: NoWhy) -> LoadFault
+    ensures { result ≡ LoadFault.No (length draft.now.lines + 1) why }
 {
     LoadFault::No {
-        line: book.lines().len() as u64 + 1,
+        line: draft.len() as u64 + 1,
         why,
     }
 }
 
 // Takes the line of the plan whose text this is, in format 2 where that is true, or says why it is bad.
-fn take(book: &mut Book, names: &PlanNames, is_format2: bool, text: &[u8]) -> Result<(), LoadFault>
-    ensures ok { OnOk result (HasTaken is_format2 book.old.plan book.old.lines book.new text.now) }
-    ensures err { IfErr result (λ fault. IsLineFault is_format2 book.old text.now fault) }
+fn take(draft: &mut Draft, names: &PlanNames, is_format2: bool, text: &[u8]) -> Result<(), LoadFault>
+    ensures ok { OnOk result (HasTaken is_format2 draft.old.plan draft.old.lines draft.new text.now) }
+    ensures err { IfErr result (λ fault. IsLineFault is_format2 draft.old text.now fault) }
 {
-    let Some(line) = names.line_of(book.plan(), book.last_time(), is_format2, text) else {
-        return Err(bad_line(book, NoWhy::Text));
+    let Some(line) = names.line_of(draft.plan(), draft.last_time(), is_format2, text) else {
+        return Err(bad_line(draft, NoWhy::Text));
     };
-    match book.take_line(&line) {
+    match draft.take_line(&line) {
         Ok(()) => Ok(()),
-        Err(TakeFault::Limit) => Err(bad_line(book, NoWhy::Limit)),
-        Err(TakeFault::Step) => Err(bad_line(book, NoWhy::Step)),
-        Err(TakeFault::Time) => Err(bad_line(book, NoWhy::Time)),
+        Err(TakeFault::Limit) => Err(bad_line(draft, NoWhy::Limit)),
+        Err(TakeFault::Step) => Err(bad_line(draft, NoWhy::Step)),
+        Err(TakeFault::Time) => Err(bad_line(draft, NoWhy::Time)),
         Err(TakeFault::NoMemory) => Err(LoadFault::NoMemory),
     }
 }
@@ -60,21 +60,21 @@ fn take(book: &mut Book, names: &PlanNames, is_format2: bool, text: &[u8]) -> Re
 // Takes the line that may come next with whose text, in format 2 where that is true, and newline the bytes
 // begin, where it is found by its time and its actor. Gives what is behind these.
 fn take_offered<'a>(
-    book: &mut Book,
+    draft: &mut Draft,
     names: &PlanNames,
     fronts: &mut Fronts,
     is_format2: bool,
     bytes: &'a [u8],
 ) -> Result<Option<&'a [u8]>, NoMemory>
-    requires { names.now ≡ names_of book.old.plan }
-    ensures taken { IfOk result (λ found. IfSome found (λ behind. HasTakenLine is_format2 book.old book.new bytes.now behind.now)) }
-    ensures left { IfOk result (λ found. IfNone found (book.new ≡ book.old)) }
+    requires { names.now ≡ names_of draft.old.plan }
+    ensures taken { IfOk result (λ found. IfSome found (λ behind. HasTakenLine is_format2 draft.old draft.new bytes.now behind.now)) }
+    ensures left { IfOk result (λ found. IfNone found (draft.new ≡ draft.old)) }
 {
-    let last = book.last_time();
-    let Some(front) = names.front(book.plan(), last, fronts, is_format2, bytes) else {
+    let last = draft.last_time();
+    let Some(front) = names.front(draft.plan(), last, fronts, is_format2, bytes) else {
         return Ok(None);
     };
-    if !book.offer(front.actor, front.time, &mut fronts.row) {
+    if !draft.offer(front.actor, front.time, &mut fronts.row) {
         return Ok(None);
     }
     let Move::Write(event, change, next) = &fronts.row else {
@@ -88,7 +88,7 @@ fn take_offered<'a>(
     let Some(behind) = names.behind(&line, &mut fronts.text, front.behind) else {
         return Ok(None);
     };
-    book.accept(&line, *change, next)?;
+    draft.accept(&line, *change, next)?;
     fronts.note(front.actor);
     Ok(Some(behind))
 }
@@ -96,27 +96,27 @@ fn take_offered<'a>(
 // Takes the first line of the bytes, in format 2 where that is true, or says why it is bad. Gives what is
 // behind its newline.
 fn take_first<'a>(
-    book: &mut Book,
+    draft: &mut Draft,
     names: &PlanNames,
     fronts: &mut Fronts,
     is_format2: bool,
     bytes: &'a [u8],
 ) -> Result<&'a [u8], LoadFault>
-    requires { names.now ≡ names_of book.old.plan }
-    ensures ok { IfOk result (λ behind. HasTakenLine is_format2 book.old book.new bytes.now behind.now) }
+    requires { names.now ≡ names_of draft.old.plan }
+    ensures ok { IfOk result (λ behind. HasTakenLine is_format2 draft.old draft.new bytes.now behind.now) }
     ensures shorter { IfOk result (λ behind. length behind.now < length bytes.now) }
-    ensures err { IfErr result (λ fault. IsFirstFault is_format2 book.old bytes.now fault) }
+    ensures err { IfErr result (λ fault. IsFirstFault is_format2 draft.old bytes.now fault) }
 {
-    match take_offered(book, names, fronts, is_format2, bytes) {
+    match take_offered(draft, names, fronts, is_format2, bytes) {
         Ok(Some(behind)) => return Ok(behind),
         Ok(None) => {}
         Err(_) => return Err(LoadFault::NoMemory),
     }
     let Some(at) = bytes.find_byte(b'\n') else {
-        return Err(bad_line(book, NoWhy::Cut));
+        return Err(bad_line(draft, NoWhy::Cut));
     };
     let (text, behind) = bytes.split_at(at);
-    take(book, names, is_format2, text)?;
+    take(draft, names, is_format2, text)?;
     Ok(behind.split_at(1).1)
 }
 
@@ -128,42 +128,46 @@ fn behind_header(bytes: &[u8]) -> Option<&[u8]>
     bytes.strip_prefix(HEADER)?.strip_prefix(b"\n")
 }
 
-// Takes the lines of a trace, which a book without lines then has, or says why it can't.
+// Takes the lines of a trace, which a draft without lines then has, or says why it can't.
 fn take_all(
-    book: &mut Book,
+    draft: &mut Draft,
     names: &PlanNames,
     fronts: &mut Fronts,
     bytes: &[u8],
 ) -> Result<(), LoadFault>
-    requires none { book.old.lines ≡ [] }
-    requires names { names.now ≡ names_of book.old.plan }
-    ensures ok { OnOk result (AreLoaded book.old.plan bytes.now book.new) }
-    ensures err { IfErr result (λ fault. IsRefused book.old.plan bytes.now fault) }
+    requires none { draft.old.lines ≡ [] }
+    requires names { names.now ≡ names_of draft.old.plan }
+    ensures ok { OnOk result (AreLoaded draft.old.plan bytes.now draft.new) }
+    ensures err { IfErr result (λ fault. IsRefused draft.old.plan bytes.now fault) }
 {
     let (is_format2, mut left) = match behind_header(bytes) {
         Some(lines) => (true, lines),
         None => (false, bytes),
     };
     'lines: while !left.is_empty() {
-        left = take_first(book, names, fronts, is_format2, left)?;
+        left = take_first(draft, names, fronts, is_format2, left)?;
     }
     Ok(())
 }
 
-// The same book with the lines of a trace.
+// The book with the lines of a trace, which a draft has none of yet.
 fn loaded(
-    mut book: Book,
+    alloc: Global,
+    mut draft: Draft,
     names: &PlanNames,
     mut fronts: Fronts,
     bytes: &[u8],
 ) -> Result<Book, LoadFault>
-    requires none { book.lines ≡ [] }
-    requires names { names.now ≡ names_of book.plan }
-    ensures ok { IfOk result (AreLoaded book.plan bytes.now) }
-    ensures err { IfErr result (IsRefused book.plan bytes.now) }
+    requires none { draft.lines ≡ [] }
+    requires names { names.now ≡ names_of draft.plan }
+    ensures ok { IfOk result (AreLoaded draft.plan bytes.now) }
+    ensures err { IfErr result (IsRefused draft.plan bytes.now) }
 {
-    take_all(&mut book, names, &mut fronts, bytes)?;
-    Ok(book)
+    take_all(&mut draft, names, &mut fronts, bytes)?;
+    match draft.finish(alloc) {
+        Ok(book) => Ok(book),
+        Err(_) => Err(LoadFault::NoMemory),
+    }
 }
 
 /// The book of a plan whose lines these bytes are the text of, in either format. Where they are the text
@@ -180,8 +184,8 @@ pub fn load_trace(alloc: Global, plan: Plan, bytes: &[u8]) -> Result<Book, LoadF
     let Ok(fronts) = Fronts::new(alloc, &plan) else {
         return Err(LoadFault::NoMemory);
     };
-    match Book::start(alloc, plan) {
-        Ok(book) => loaded(book, &names, fronts, bytes),
+    match Draft::start(alloc, plan) {
+        Ok(draft) => loaded(alloc, draft, &names, fronts, bytes),
         Err(_) => Err(LoadFault::NoMemory),
     }
 }

@@ -54,7 +54,7 @@ fn start_of(alloc: Global, plan: &Plan) -> Result<(State, Turns), NoMemory>
 {
     all_stand_well();
     let state = State::fresh(alloc, plan)?;
-    let turns = Turns::fresh(alloc, plan, &state)?;
+    let turns = Turns::after(alloc, plan, &state, &[])?;
     Ok((state, turns))
 }
 

@@ -2,6 +2,7 @@
 #![tactic(auto)]
 
 mod book;
+mod drafting;
 mod growing;
 mod laws;
 mod lines;
@@ -11,6 +12,7 @@ mod taking;
 mod writing;
 
 pub use book::Book;
+pub use drafting::Draft;
 pub use growing::ExtendFault;
 pub use steps::{EndStep, Step};
 pub use taking::TakeFault;

@@ -1,4 +1,4 @@
-//! The line that an actor may write next, and how a book takes it.
+//! The line that an actor may write next, and how a draft takes it.
 
 ghost use Rattle.std.specs.Prelude.{◌≡◌, ◌<◌, ◌^◌, Ok, IsOk, OnErr, OnOk, false, length, true};
 ghost use Rattle.pm_judge.specs.Judging.{IsAnswer};
@@ -9,14 +9,15 @@ ghost use Rattle.pm_model.specs.Lawful.{last_time};
 ghost use Rattle.pm_state.specs.Standing.{IsActor};
 ghost use Rattle.pm_book.specs.Pages.{Longer, world_of};
 
-use crate::book::Book;
-use crate::laws::all_stand_well;
+use crate::drafting::Draft;
+use crate::laws::{all_stand_well, each_line_is_taken, stacks_have_room};
+use crate::writing::begins_callback;
 use pm_base::{ActorId, NoMemory};
 use pm_bounds::lines_are_of_plan;
 use pm_judge::offered;
 use pm_model::{Change, Line, Move, Then};
 
-impl Book {
+impl Draft {
     /// Whether an actor of the plan may write a line at a time below 2^63 milliseconds of the run: there is one
     /// at most, and none where the list has all the lines that the plan allows. The move that writes it is put
     /// in `out`, which a caller keeps, since a move is large. It takes no memory.
@@ -57,9 +58,11 @@ impl Book {
         ensures room { 0 < self.old.spare → IsOk result }
         ensures err { OnErr result (self.new ≡ self.old) }
     {
-        let Some(stage) = self.state.stage_at(&self.plan, line.actor) else {
-            unreachable!();
-        };
-        self.write(&stage, line, change, next)
+        each_line_is_taken();
+        stacks_have_room();
+        self.lines.reserve(1)?;
+        self.state.go(&self.plan, change, line, next);
+        self.lines.push(*line, begins_callback(&line.event));
+        Ok(())
     }
 }

@@ -15,7 +15,7 @@ use pm_bounds::lines_are_of_plan;
 use pm_model::{Change, Event, Line, Move, Stage, Then};
 
 // Whether a line with this event begins a callback.
-fn begins_callback(event: &Event) -> bool
+pub(crate) fn begins_callback(event: &Event) -> bool
     ensures { result ≡ begins_callback event.now }
 {
     matches!(*event, Event::Begin { .. })

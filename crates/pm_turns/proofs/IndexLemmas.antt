@@ -1,5 +1,5 @@
 -- The index of turns, as actors are asked anew.
-use Rattle.std.proofs.Common.{◌≡◌, ◌≢◌, ◌+◌, ◌*◌, ◌<◌, ◌≤◌, ◌||◌, ◌⊎◌, ℕ, zero, suc, Bool, true, false, List, [], Option, Some, None, replicate, slice_index_or, ap, refl, sym, ◌∙◌, subst, arith, inl, inr}
+use Rattle.std.proofs.Common.{◌≡◌, ◌≢◌, ◌+◌, ◌*◌, ◌<◌, ◌≤◌, ◌||◌, ◌⊎◌, ℕ, Bool, true, false, List, [], Option, Some, None, slice_index_or, ap, refl, sym, ◌∙◌, subst, arith, inl, inr}
 use Rattle.std.proofs.lemmas.Bool.{cases_lt, false≢true}
 use Rattle.std.proofs.lemmas.Option.{none-some, same_Some}
 use Rattle.pm_base.specs.declared.ActorId.{ActorId}
@@ -10,14 +10,13 @@ use Rattle.pm_model.specs.declared.event.Line.{Line}
 use Rattle.pm_model.specs.declared.plan.Plan.{Plan}
 use Rattle.pm_model.specs.History.{History}
 use Rattle.pm_model.specs.Serial.{next_turn}
-use Rattle.pm_model.specs.World.{World, start, world}
+use Rattle.pm_model.specs.World.{world}
 use Rattle.pm_moments.specs.Moments.{moment_of}
 use Rattle.pm_order.specs.Told.{is_actor, wait_in}
 use Rattle.pm_order.proofs.Telling.{other_actor, same_actor}
-use Rattle.pm_order.proofs.Touching.{timer_rests, work_rests}
 use Rattle.pm_waking.specs.Wakes.{turn_by, wakes}
 use Rattle.pm_turns.specs.Seats.{AreMoments, Asks, IsSeated, Seating, Sets, actor_at, moment_by, place_of, round_of, seat_after}
-use Rattle.pm_turns.specs.Turning.{AreOf, Called, Index, IsIndex, Looked, Noted, Touched, TouchedAny, is_listed, is_near, queue}
+use Rattle.pm_turns.specs.Turning.{Index, IsIndex, Looked, Noted, Touched, TouchedAny, is_listed, is_near, queue}
 use Rattle.pm_turns.proofs.QueueLemmas.{at_place, at_seat, place_below, place_kept, places_apart}
 use Rattle.pm_turns.proofs.RoundLemmas.{turn_is_next}
 
@@ -65,7 +64,7 @@ pub stays_right : (wake : ActorId → Option ℕ) (s s' : Seating) (a : ActorId)
 stays_right wake s s' a p seated right = elim (p.each a seated) [ inl anew ↦ anew | inr same ↦ same ∙ right ]
 
 -- the moment of an actor that is itself asked anew
-right_at : (wake : ActorId → Option ℕ) (s : Seating) (a b : ActorId) → a ≡ b → moment_by s a ≡ wake a → moment_by s b ≡ wake b
+pub right_at : (wake : ActorId → Option ℕ) (s : Seating) (a b : ActorId) → a ≡ b → moment_by s a ≡ wake a → moment_by s b ≡ wake b
 right_at wake s a b same right = subst (λ c. moment_by s c ≡ wake c) same right
 
 -- those who are listed for a device, one by one
@@ -143,49 +142,6 @@ touched_all wake x x' x'' d but asks same work timer looked = record {
         ap (λ (qs : List (List Bool)). is_marked (slice_index_or qs d.0 []) (place_of x'.rows a)) same
         ∙ ap (is_marked (queue x d)) (place_kept x.rows x'.rows a asks.callers asks.devices) ∙ near in
         looked.right a (kept a seated) (place_below x'.rows a (kept a seated)) listed
-
--- the callers, one by one
-pub called_none : (wake : ActorId → Option ℕ) (x : Index) → Called wake x x 0
-called_none wake x = record { asks = asks_none wake x.rows; queues = refl; right = λ c less within. absurd (omega (arith, less)) }
-
-pub called_more : (wake : ActorId → Option ℕ) (x x' x'' : Index) (n : ℕ) → Called wake x x' n → Asks wake x'.rows x''.rows → x''.queues ≡ x'.queues
-    → moment_by x''.rows (Caller n) ≡ wake (Caller n) → Called wake x x'' (n + 1)
-called_more wake x x' x'' n before asks same last = record {
-  asks = asks_then wake x.rows x'.rows x''.rows before.asks asks;
-  queues = same ∙ before.queues;
-  right = λ c less within. elim (cases_lt c n) [
-    | inl earlier ↦ stays_right wake x'.rows x''.rows (Caller c) asks (omega (arith, within, before.asks.callers)) (before.right c earlier within)
-    | inr over ↦ let c_is : n ≡ c = omega (arith, less, over) in subst (λ m. moment_by x''.rows (Caller m) ≡ wake (Caller m)) c_is last
-  ];
-}
-
-nothing_at : (n i : ℕ) → moment_of (replicate n None) i ≡ None
-nothing_at zero i = refl
-nothing_at (suc n) zero = refl
-nothing_at (suc n) (suc i) = nothing_at n i
-
--- before any line nobody waits, and only callers may write
-pub first_index : (plan : Plan) (x x' : Index) (w : World) (n : ℕ) → w ≡ start plan → AreOf plan x.rows → x.rows.seat ≡ 0 → x.rows.time ≡ 0 → x.rows.moments ≡ replicate n None
-    → Called (wakes plan w) x x' x.rows.callers → IsIndex plan [] x'
-first_index plan x x' w n at seats seat time none called = record {
-  of_plan = record { callers = called.asks.callers ∙ seats.callers; devices = called.asks.devices ∙ seats.devices };
-  seat = called.asks.seat ∙ seat;
-  time = called.asks.time ∙ time;
-  moments = λ a is. each a is ∙ ap (λ (u : World). wakes plan u a) at;
-  waiting = λ a d seated within told. absurd (none-some d told);
-}
-  where
-    rests : (a : ActorId) → IsSeated x'.rows a → None ≡ wakes plan w a → moment_by x'.rows a ≡ wakes plan w a
-    rests a is asleep =
-        elim (called.asks.each a (seated_kept x'.rows x.rows a (sym called.asks.callers) (sym called.asks.devices) is)) [
-          | inl right ↦ right
-          | inr same ↦ same ∙ ap (λ l. moment_of l (place_of x.rows a)) none ∙ nothing_at n (place_of x.rows a) ∙ asleep
-        ]
-
-    each : (a : ActorId) → IsSeated x'.rows a → moment_by x'.rows a ≡ wakes plan w a
-    each (Caller c) is = let within : c < x.rows.callers = omega (arith, is, called.asks.callers) in called.right c within within
-    each (Work d) is = rests (Work d) is (sym (ap (λ (u : World). wakes plan u (Work d)) at ∙ work_rests plan d))
-    each (Timer d) is = rests (Timer d) is (sym (ap (λ (u : World). wakes plan u (Timer d)) at ∙ timer_rests plan d))
 
 -- a line is noted: its writer is listed no longer, and is listed anew where it waits, and then its seat and its time are
 -- written down

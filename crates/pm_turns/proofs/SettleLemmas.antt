@@ -30,6 +30,7 @@ use Rattle.pm_waking.specs.Wakes.{wakes}
 use Rattle.pm_turns.specs.Seats.{Asks, IsSeated, Seating, moment_by, place_of, seat_after}
 use Rattle.pm_turns.specs.Turning.{Index, IsIndex, Leads, Noted, TouchedAny, is_listed, is_near, queue}
 use Rattle.pm_turns.proofs.QueueLemmas.{place_kept}
+use Rattle.pm_turns.proofs.AfterLemmas.{seat_is}
 use Rattle.pm_turns.proofs.IndexLemmas.{asks_then, seated_kept, stays_right}
 
 -- a device that is waited for is one of the plan's
@@ -67,14 +68,6 @@ near_of x h a d waiting touched = go (is_actor a (Work d.0)) (is_actor a (Timer 
     go true q hit rest = refl
     go false true hit rest = refl
     go false false hit rest = rest hit
-
-seat_is : (plan : Plan) (h : History) (s : Seating) (line : Line) → s.callers ≡ length plan.callers → seat_after s line.actor ≡ seat plan (line ∷ h)
-seat_is plan h s line callers = go line.actor
-  where
-    go : (a : ActorId) → seat_after s a ≡ elim a [ Caller c ↦ c + 1 | Work d ↦ length plan.callers + d + 1 | Timer d ↦ 0 ]
-    go (Caller c) = refl
-    go (Work d) = ap (λ n. n + d + 1) callers
-    go (Timer d) = refl
 
 -- what was done to an index x after a line: noted, its writer asked anew, and all others near the device of its stage and
 -- near the device of its event

@@ -1,7 +1,7 @@
 -- What the index of turns is after a list of lines (this project's own).
 use Rattle.std.specs.Prelude.{◌≡◌, ◌+◌, ◌*◌, ◌<◌, ℕ, Bool, true, false, ◌||◌, List, [], ◌∷◌, Option, Some, length, slice_index_or}
 use Rattle.pm_base.specs.declared.ActorId.{ActorId}
-use Rattle.pm_base.specs.declared.ActorId.TheVariants.{Caller, Work, Timer}
+use Rattle.pm_base.specs.declared.ActorId.TheVariants.{Work, Timer}
 use Rattle.pm_base.specs.declared.DevId.{DevId}
 use Rattle.pm_bits.specs.Marks.{is_marked}
 use Rattle.pm_model.specs.declared.event.Line.{Line}
@@ -10,8 +10,8 @@ use Rattle.pm_model.specs.declared.stage.Stage.{Stage}
 use Rattle.pm_model.specs.History.{History}
 use Rattle.pm_model.specs.Lawful.{IsLawful, last_time}
 use Rattle.pm_model.specs.Serial.{seat}
-use Rattle.pm_model.specs.World.{World, world}
-use Rattle.pm_order.specs.Told.{is_actor, told_wait, wait_in}
+use Rattle.pm_model.specs.World.{World, place, world}
+use Rattle.pm_order.specs.Told.{is_actor, told_wait, top_looks, wait_in}
 use Rattle.pm_waking.specs.Wakes.{wakes}
 use Rattle.pm_turns.specs.Seats.{Asks, IsSeated, Seating, moment_by, place_of, seat_after}
 
@@ -47,11 +47,12 @@ pub record Looked (wake : ActorId → Option ℕ) (x x' : Index) (d : DevId) (be
   pub queues : x'.queues ≡ x.queues
   pub right : (a : ActorId) → IsSeated x.rows a → place_of x.rows a < below → is_listed x d a ≡ true → moment_by x'.rows a ≡ wake a
 
--- some actors are asked anew, and the first so many callers are
-pub record Called (wake : ActorId → Option ℕ) (x x' : Index) (n : ℕ) : Type 0 where
-  pub asks : Asks wake x.rows x'.rows
-  pub queues : x'.queues ≡ x.queues
-  pub right : (c : ℕ) → c < n → c < x.rows.callers → moment_by x'.rows (Caller c) ≡ wake (Caller c)
+-- where a run stands so, some actors are asked anew and nobody is listed no longer; all at seats below this one are asked,
+-- and are listed for the device that they look at
+pub record Seen (plan : Plan) (w : World) (x x' : Index) (below : ℕ) : Type 0 where
+  pub asks : Asks (wakes plan w) x.rows x'.rows
+  pub right : (a : ActorId) → IsSeated x.rows a → place_of x.rows a < below → moment_by x'.rows a ≡ wakes plan w a
+  pub listed : (a : ActorId) (d : DevId) → IsSeated x.rows a → place_of x.rows a < below → d.0 < x.rows.devices → top_looks (place w a) ≡ Some d → is_listed x' d a ≡ true
 
 -- all who are near a device are asked anew, but for this one
 pub record Touched (wake : ActorId → Option ℕ) (x x' : Index) (d : DevId) (but : ActorId) : Type 0 where

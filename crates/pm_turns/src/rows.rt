@@ -51,11 +51,11 @@ impl Rows {
         })
     }
 
-    /// How many callers there are.
-    pub fn callers(&self) -> usize
-        ensures { result ≡ self.now.callers }
+    /// How many seats there are.
+    pub fn seats(&self) -> usize
+        ensures { result ≡ self.now.callers + 2 * self.now.devices }
     {
-        self.callers
+        self.callers + 2 * self.devices
     }
 
     /// How many devices there are.

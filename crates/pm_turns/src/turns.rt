@@ -1,20 +1,26 @@
 //! The index of turns.
 
-ghost use Rattle.std.specs.Prelude.{◌≡◌, ◌+◌, ◌*◌, ◌<◌, ◌^◌, [], false, length, replicate, IfOk, IfSome};
+ghost use Rattle.std.specs.Prelude.{◌≡◌, ◌+◌, ◌*◌, ◌<◌, ◌^◌, ℕ, Some, false, true, length, replicate, reverse, slice_get, IfOk, IfSome};
+ghost use Rattle.std.specs.Option.{option_copied};
+ghost use Rattle.pm_base.specs.declared.DevId.{DevId as ADevice};
+ghost use Rattle.pm_bits.specs.Marks.{is_marked};
 ghost use Rattle.pm_model.specs.declared.plan.Plan.{Plan as APlan};
 ghost use Rattle.pm_model.specs.History.{History};
-ghost use Rattle.pm_model.specs.Serial.{next_turn};
-ghost use Rattle.pm_model.specs.World.{start};
+ghost use Rattle.pm_model.specs.Lawful.{IsLawful, last_time};
+ghost use Rattle.pm_model.specs.Serial.{next_turn, seat};
+ghost use Rattle.pm_model.specs.World.{place, world};
+ghost use Rattle.pm_order.specs.Told.{top_looks};
 ghost use Rattle.pm_state.specs.Standing.{AllStandWell, IsActor, IsOf};
 ghost use Rattle.pm_waking.specs.Wakes.{wakes};
-ghost use Rattle.pm_turns.specs.Seats.{Asks, IsSeated, moment_by};
-ghost use Rattle.pm_turns.specs.Turning.{AreOf, Called, IsIndex};
+ghost use Rattle.pm_turns.specs.Seats.{Asks, IsSeated, actor_at, moment_by};
+ghost use Rattle.pm_turns.specs.Turning.{AreOf, IsIndex, Seen, is_listed, queue};
 
 use crate::queue::Waiters;
 use crate::rows::Rows;
+use crate::waiting::looked_at;
 use crate::waking::{rests_or_wakes, wakes};
 use pm_base::{ActorId, NoMemory};
-use pm_model::Plan;
+use pm_model::{Line, Plan};
 use pm_state::State;
 use std::alloc::Global;
 use std::marker::Model;
@@ -56,6 +62,13 @@ fn no_waiters(alloc: Global, devices: usize, seats: usize) -> Result<Vec<Waiters
     Ok(waiters)
 }
 
+// The last of these lines, if there is one.
+fn newest(lines: &[Line]) -> Option<&Line>
+    ensures { option_copied result ≡ slice_get (reverse lines.now) 0 }
+{
+    lines.last()
+}
+
 impl Turns {
     /// Looks anew at an actor, as things stand now: for one who has more to start than before. It takes
     /// no memory.
@@ -88,26 +101,78 @@ impl Turns {
         self.rows.set(actor, moment);
     }
 
-    // Looks anew at all callers.
-    fn refresh_callers(&mut self, plan: &Plan, state: &State)
+    // The actor at a seat.
+    fn actor_at(&self, seat: usize) -> ActorId
+        requires { seat < self.now.rows.callers + 2 * self.now.rows.devices }
+        ensures is { result ≡ actor_at self.now.rows.callers self.now.rows.devices seat }
+        ensures seated { IsSeated self.now.rows result }
+    {
+        self.rows.actor_at(seat)
+    }
+
+    // Looks anew at an actor, and lists it where it waits for a device.
+    fn look_at(&mut self, plan: &Plan, state: &State, actor: ActorId)
         requires is_of { IsOf plan.now state.now }
         requires stand { AllStandWell plan.now state.now.world }
         requires seats { AreOf plan.now self.old.rows }
-        ensures { Called (wakes plan.now state.now.world) self.old self.new self.old.rows.callers }
+        requires in_range { IsActor plan.now actor }
+        ensures asks { Asks (wakes plan.now state.now.world) self.old.rows self.new.rows }
+        ensures right { moment_by self.new.rows actor ≡ wakes plan.now state.now.world actor }
+        ensures others { (d : ADevice) (i : ℕ) → is_marked (queue self.old d) i ≡ true → is_marked (queue self.new d) i ≡ true }
+        ensures listed { (d : ADevice) → top_looks (place state.now.world actor) ≡ Some d → d.0 < self.old.rows.devices → is_listed self.new d actor ≡ true }
     {
-        for caller in 0..self.rows.callers() {
-            self.refresh(plan, state, ActorId::Caller(caller as u32));
+        let seat = self.rows.place(actor);
+        self.refresh(plan, state, actor);
+        self.join_at(looked_at(plan, state, actor), seat);
+    }
+
+    // The same of all actors.
+    fn look_at_all(&mut self, plan: &Plan, state: &State)
+        requires is_of { IsOf plan.now state.now }
+        requires stand { AllStandWell plan.now state.now.world }
+        requires seats { AreOf plan.now self.old.rows }
+        ensures { Seen plan.now state.now.world self.old self.new (self.old.rows.callers + 2 * self.old.rows.devices) }
+    {
+        for seat in 0..self.rows.seats() {
+            let actor = self.actor_at(seat);
+            self.look_at(plan, state, actor);
         }
     }
 
-    /// The turns before any line: only callers have something to start. All memory is taken here, for
-    /// each device a bit for each actor among it. Fails where it runs out.
+    // Takes note of the writer and the time of the last of these lines, if there is one.
+    #[tactic(auto, using(crate::proofs::AfterLemmas::no_seat, crate::proofs::AfterLemmas::no_time))]
+    fn note_last(&mut self, plan: &Plan, lines: &[Line])
+        requires seats { AreOf plan.now self.old.rows }
+        requires begins { self.old.rows.seat ≡ 0 }
+        requires time { self.old.rows.time ≡ 0 }
+        requires lawful { IsLawful plan.now (reverse lines.now) }
+        requires in_time { last_time (reverse lines.now) < 2 ^ 63 }
+        ensures seats { AreOf plan.now self.new.rows }
+        ensures seat { self.new.rows.seat ≡ seat plan.now (reverse lines.now) }
+        ensures time { self.new.rows.time ≡ last_time (reverse lines.now) }
+    {
+        let _ = plan;
+        let Some(line) = newest(lines) else {
+            return;
+        };
+        self.write_down(line);
+    }
+
+    /// The turns after the lines of a run, which led to this state: each actor is looked at. All memory is
+    /// taken here, for each device a bit for each actor among it. Fails where it runs out.
     #[tactic(auto, using(crate::proofs::QueueLemmas::queues_none))]
-    pub fn fresh(alloc: Global, plan: &Plan, state: &State) -> Result<Turns, NoMemory>
+    pub fn after(
+        alloc: Global,
+        plan: &Plan,
+        state: &State,
+        lines: &[Line],
+    ) -> Result<Turns, NoMemory>
         requires is_of { IsOf plan.now state.now }
-        requires start { state.now.world ≡ start plan.now }
         requires stand { AllStandWell plan.now state.now.world }
-        ensures { IfOk result (IsIndex plan.now []) }
+        requires lawful { IsLawful plan.now (reverse lines.now) }
+        requires world_is { state.now.world ≡ world plan.now (reverse lines.now) }
+        requires in_time { last_time (reverse lines.now) < 2 ^ 63 }
+        ensures { IfOk result (IsIndex plan.now (reverse lines.now)) }
     {
         few(plan);
         let callers = plan.callers.len();
@@ -115,7 +180,8 @@ impl Turns {
         let rows = Rows::fresh(alloc, callers, devices)?;
         let waiters = no_waiters(alloc, devices, callers + 2 * devices)?;
         let mut turns = Turns { rows, waiters };
-        turns.refresh_callers(plan, state);
+        turns.note_last(plan, lines);
+        turns.look_at_all(plan, state);
         Ok(turns)
     }
 

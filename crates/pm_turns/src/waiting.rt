@@ -3,15 +3,17 @@
 ghost use Rattle.std.specs.Prelude.{◌≡◌, ◌≢◌, ◌+◌, ◌*◌, ◌<◌, ◌^◌, ℕ, false, true, slice_set, Some};
 ghost use Rattle.pm_base.specs.declared.DevId.{DevId as ADevice};
 ghost use Rattle.pm_bits.specs.Marks.{is_marked};
-ghost use Rattle.pm_order.specs.Looks.{device_at, device_in};
-ghost use Rattle.pm_order.specs.Told.{wait_in};
+ghost use Rattle.pm_model.specs.World.{place};
+ghost use Rattle.pm_order.specs.Looks.{device_at, device_in, looks};
+ghost use Rattle.pm_order.specs.Told.{top_looks, wait_in};
+ghost use Rattle.pm_state.specs.Standing.{IsActor, IsOf};
 ghost use Rattle.pm_turns.specs.Seats.{IsSeated, seat_after};
 ghost use Rattle.pm_turns.specs.Turning.{Noted, queue};
 
 use crate::turns::Turns;
-use pm_base::DevId;
-use pm_model::{Event, HelperStage, Line, Stage};
-use pm_state::device_of;
+use pm_base::{ActorId, DevId};
+use pm_model::{ControlStage, Event, HelperStage, Line, Plan, ResumeStage, Stage, SuspendStage};
+use pm_state::{State, device_of};
 
 // The device that a line at this stage may change; a call line only names one.
 pub(crate) fn device_at(stage: &Stage) -> Option<DevId>
@@ -44,6 +46,32 @@ pub(crate) fn device_in(event: &Event) -> Option<DevId>
         | Event::Domain { dev, .. }
         | Event::Work { dev, .. }
         | Event::Timer { dev, .. } => Some(*dev),
+    }
+}
+
+// The device on which it depends from when a line at this stage may be written, if there is one.
+fn looks(stage: &Stage) -> Option<DevId>
+    ensures { result ≡ looks stage.now }
+{
+    match stage {
+        Stage::Suspend(SuspendStage::Waiting { dev, .. })
+        | Stage::Control(ControlStage::Disabled { dev } | ControlStage::BarrierWait { dev, .. })
+        | Stage::Helper(HelperStage::Timer { dev }) => Some(*dev),
+        Stage::Resume(ResumeStage::Waiting { call, .. }) => Some(call.dev),
+        _ => None,
+    }
+}
+
+// The device that an actor waits for at its open stage, if there is one.
+#[tactic(auto, using(crate::proofs::AfterLemmas::looks_some, crate::proofs::AfterLemmas::looks_none))]
+pub(crate) fn looked_at(plan: &Plan, state: &State, actor: ActorId) -> Option<DevId>
+    requires is_of { IsOf plan.now state.now }
+    requires in_range { IsActor plan.now actor }
+    ensures { result ≡ top_looks (place state.now.world actor) }
+{
+    match state.top(plan, actor) {
+        Some(stage) => looks(stage),
+        None => None,
     }
 }
 
@@ -98,9 +126,22 @@ impl Turns {
         }
     }
 
+    // Who sits here waits from now on for this device, if it is one.
+    #[tactic(auto, using(crate::proofs::QueueLemmas::marks_kept))]
+    pub(crate) fn join_at(&mut self, at: Option<DevId>, seat: usize)
+        requires { seat < self.old.rows.callers + 2 * self.old.rows.devices }
+        ensures rows { self.new.rows ≡ self.old.rows }
+        ensures others { (d : ADevice) (i : ℕ) → is_marked (queue self.old d) i ≡ true → is_marked (queue self.new d) i ≡ true }
+        ensures joined { (d : ADevice) → at ≡ Some d → d.0 < self.old.rows.devices → is_marked (queue self.new d) seat ≡ true }
+    {
+        if let Some(dev) = at {
+            self.join(dev, seat);
+        }
+    }
+
     // Takes note of the writer and the time of a line.
     #[inline(always)]
-    fn write_down(&mut self, line: &Line)
+    pub(crate) fn write_down(&mut self, line: &Line)
         requires seated { IsSeated self.old.rows line.now.actor }
         requires in_time { line.now.time < 2 ^ 63 }
         ensures { self.new ≡ record self.old { rows = record self.old.rows { seat = seat_after self.old.rows line.now.actor; time = line.now.time } } }

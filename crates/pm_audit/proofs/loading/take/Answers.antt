@@ -1,11 +1,11 @@
--- By what the book answers.
+-- By what the draft answers.
 use Rattle.pm_model.specs.Lawful.{last_time}
 use Rattle.pm_audit.proofs.Lines.{spelled_as}
 use Rattle.pm_audit.proofs.loading.take.Goals as goal
 
 pub returns-in-Ok-clause-ok : goal.returns-in-Ok-clause-ok
 returns-in-Ok-clause-ok c =
-    let b = c.args.book.now in
+    let b = c.args.draft.now in
     let line = c.in-Some.line in
     let answer = c.in-Ok.ensures.answer in
     let longer = c.in-Ok.ensures.ok in

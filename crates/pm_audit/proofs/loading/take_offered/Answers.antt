@@ -11,7 +11,7 @@ use Rattle.pm_audit.proofs.loading.take_offered.Goals as goal
 
 pub returns-clause-taken : goal.returns-clause-taken
 returns-clause-taken c =
-    let b = c.args.book.now in
+    let b = c.args.draft.now in
     let j : Judged = record { plan = b.plan; world = world_of b; last = last_time b.lines; lines = length b.lines } in
     let f = c.args.is_format2 in
     let front = c.in-Some.front in

@@ -1,5 +1,5 @@
 use Rattle.std.proofs.Common.{[], arith}
 use Rattle.pm_book.proofs.book.start_of.Goals as goal
 
-pub fresh-requires-2-clause-stand : goal.fresh-requires-2-clause-stand
-fresh-requires-2-clause-stand c = c.all_stand_well.ensures c.args.plan.now [] c.in_ok-state.state.world tt (omega arith) c.in_ok-state.ensures.start
+pub after-requires-clause-stand : goal.after-requires-clause-stand
+after-requires-clause-stand c = c.all_stand_well.ensures c.args.plan.now [] c.in_ok-state.state.world tt (omega arith) c.in_ok-state.ensures.start

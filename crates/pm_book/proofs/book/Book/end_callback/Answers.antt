@@ -7,8 +7,8 @@ use Rattle.pm_book.proofs.EndLemmas.{move_ends, no_wait}
 use Rattle.pm_book.proofs.PageLemmas.{can_go}
 use Rattle.pm_book.proofs.book.Book.end_callback.Goals as goal
 
-pub next-requires-clause-stands : goal.next-requires-clause-stands
-next-requires-clause-stands c =
+pub write_next-requires-clause-stands : goal.write_next-requires-clause-stands
+write_next-requires-clause-stands c =
     let b = c.self.inside in
     can_go b.plan b.state.world c.args.actor c.in-Some.stage
     (c.all_stand_well.ensures b.plan (reverse b.lines.lines) b.state.world c.self.invariant.lawful c.self.invariant.in_time c.self.invariant.world_is c.args.actor) (sym c.stage_at.ensures ∙ c.in-Some.is)

@@ -6,8 +6,8 @@ use Rattle.pm_book.specs.Pages.{BeginsWithin, MayGo, MayWrite, Pages}
 use Rattle.pm_book.proofs.PageLemmas.{begins_within, can_go, may_write, permits}
 use Rattle.pm_book.proofs.book.Book.go_on.Goals as goal
 
-pub next-requires-clause-stands : goal.next-requires-clause-stands
-next-requires-clause-stands c =
+pub write_next-requires-clause-stands : goal.write_next-requires-clause-stands
+write_next-requires-clause-stands c =
     let b = c.self.inside in
     let may = subst (λ (p : Pages). MayGo p.plan p.lines c.args.actor c.args.stage.now c.args.time) (sym c.self.view_is) c.requires.may in
     can_go b.plan b.state.world c.args.actor c.args.stage.now

@@ -7,7 +7,7 @@ use Rattle.pm_judge.specs.Offering.{IsOfPlan, IsOffer}
 use Rattle.pm_judge.specs.Sometime.{MayCome}
 use Rattle.pm_book.specs.Pages.{Pages, world_of}
 use Rattle.pm_book.proofs.TakeLemmas.{none_offered, offer_writes}
-use Rattle.pm_book.proofs.book.Book.offer.Goals as goal
+use Rattle.pm_book.proofs.drafting.Draft.offer.Goals as goal
 
 pub offered-requires-clause-stands : goal.offered-requires-clause-stands
 offered-requires-clause-stands c =
