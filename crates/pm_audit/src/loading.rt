@@ -41,7 +41,12 @@ fn bad_line(draft: &Draft, why: NoWhy) -> LoadFault
 }
 
 // Takes the line of the plan whose text this is, in format 2 where that is true, or says why it is bad.
-fn take(draft: &mut Draft, names: &PlanNames, is_format2: bool, text: &[u8]) -> Result<(), LoadFault>
+fn take(
+    draft: &mut Draft,
+    names: &PlanNames,
+    is_format2: bool,
+    text: &[u8],
+) -> Result<(), LoadFault>
     ensures ok { OnOk result (HasTaken is_format2 draft.old.plan draft.old.lines draft.new text.now) }
     ensures err { IfErr result (λ fault. IsLineFault is_format2 draft.old text.now fault) }
 {
