@@ -6,7 +6,7 @@ use Rattle.pm_base.specs.declared.ActorId.TheVariants.{Caller, Work, Timer}
 use Rattle.pm_model.specs.declared.event.Line.{Line}
 use Rattle.pm_model.specs.declared.plan.Plan.{Plan}
 use Rattle.pm_model.specs.Lawful.{Permits, last_time}
-use Rattle.pm_model.specs.LineOf.{is_actor_of, is_event_of}
+use Rattle.pm_model.specs.LineOf.{is_actor_of, is_event_of, is_line}
 use Rattle.pm_model.specs.Text.{IsTextBehind}
 use Rattle.pm_texts.proofs.Formats.{line_is}
 use Rattle.pm_state.specs.Standing.{IsActor}
@@ -18,6 +18,10 @@ pub is_actor : (plan : Plan) (actor : ActorId) → is_actor_of (length plan.devi
 is_actor plan (Caller c) is = ltb-true c (length plan.callers) is
 is_actor plan (Work d) is = ltb-true d (length plan.devices) is
 is_actor plan (Timer d) is = ltb-true d (length plan.devices) is
+
+-- and its event is one of as many devices
+pub event_of_line : (devices callers : ℕ) (line : Line) → is_line devices callers line ≡ true → is_event_of devices line.event ≡ true
+event_of_line devices callers line is = (and_parts (nat_lt line.time (2 ^ 63) && is_actor_of devices callers line.actor) (is_event_of devices line.event) is).1
 
 pub can_judge : (f : Bool) (plan : Plan) (base : ℕ) (line : Line) (piece : List ℕ) → IsTextBehind f plan base line piece → IsActor plan line.actor × (line.time < 2 ^ 63)
 can_judge f plan base line piece spelled =

@@ -62,7 +62,8 @@ impl Draft {
 
     /// How many lines there are.
     pub fn len(&self) -> usize
-        ensures { result ≡ length self.now.lines }
+        ensures count { result ≡ length self.now.lines }
+        ensures fits { result < 2 ^ 63 }
     {
         self.lines.as_slice().len()
     }
