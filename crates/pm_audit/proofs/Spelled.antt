@@ -1,5 +1,5 @@
 -- A line that is offered, and its text.
-use Rattle.std.proofs.Common.{ℕ, ◌≡◌, ◌≢◌, ◌<◌, ◌≤◌, ◌-◌, Bool, Bor, true, false, List, [], ◌∷◌, ◌++◌, Option, Some, None, IfSome, refl, subst, sym, ◌∙◌, ap, if◌then◌else◌, arith, decimal}
+use Rattle.std.proofs.Common.{ℕ, ◌≡◌, ◌≢◌, ◌<◌, ◌≤◌, ◌-◌, Bool, Bor, true, false, List, ◌∷◌, ◌++◌, Option, Some, None, IfSome, refl, subst, sym, ◌∙◌, ap, if◌then◌else◌, arith, decimal}
 use Rattle.std.specs.Option.{MatchOption}
 use Rattle.std.proofs.lemmas.Grind.{common_steps}
 use Rattle.std.proofs.lemmas.List.{append_assoc}

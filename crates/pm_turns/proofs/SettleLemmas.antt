@@ -1,11 +1,11 @@
 -- An index that is right, and that takes note of a line and asks anew those whom the line touches, is right after it.
-use Rattle.std.proofs.Common.{◌≡◌, ◌+◌, ◌<◌, ◌||◌, ◌⊎◌, ℕ, Bool, true, false, List, [], ◌∷◌, Option, Some, None, length, nat_eq, nat_lt, slice_index_or, if◌then◌else◌, ap, refl, sym, ◌∙◌, subst, arith, inl, inr}
+use Rattle.std.proofs.Common.{◌≡◌, ◌<◌, ◌||◌, ◌⊎◌, ℕ, Bool, true, false, List, [], ◌∷◌, Option, Some, None, length, nat_eq, nat_lt, slice_index_or, if◌then◌else◌, ap, refl, sym, ◌∙◌, subst, arith, inl, inr}
 use Rattle.std.specs.Option.{option_map_or}
 use Rattle.std.proofs.lemmas.Bool.{false≢true}
 use Rattle.std.proofs.lemmas.Bool.Decides.{nat_tests}
 use Rattle.std.proofs.lemmas.Option.{none-some, same_Some}
 use Rattle.pm_base.specs.declared.ActorId.{ActorId}
-use Rattle.pm_base.specs.declared.ActorId.TheVariants.{Caller, Work, Timer}
+use Rattle.pm_base.specs.declared.ActorId.TheVariants.{Work, Timer}
 use Rattle.pm_base.specs.declared.DevId.{DevId}
 use Rattle.pm_bits.specs.Marks.{is_marked}
 use Rattle.pm_model.specs.declared.event.Line.{Line}
@@ -27,7 +27,7 @@ use Rattle.pm_order.proofs.Telling.{all_shown, same_actor}
 use Rattle.pm_order.proofs.Touching.{only_touched}
 use Rattle.pm_stacks.proofs.Fitting.{stands_fit}
 use Rattle.pm_waking.specs.Wakes.{wakes}
-use Rattle.pm_turns.specs.Seats.{Asks, IsSeated, Seating, moment_by, place_of, seat_after}
+use Rattle.pm_turns.specs.Seats.{Asks, IsSeated, Seating, moment_by, place_of}
 use Rattle.pm_turns.specs.Turning.{Index, IsIndex, Leads, Noted, TouchedAny, is_listed, is_near, queue}
 use Rattle.pm_turns.proofs.QueueLemmas.{place_kept}
 use Rattle.pm_turns.proofs.AfterLemmas.{seat_is}
