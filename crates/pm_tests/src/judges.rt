@@ -1,8 +1,9 @@
-//! A judge of a plan with one delay.
+//! A judge, and a book, of a plan with one delay.
 
 ghost use Rattle.std.specs.Prelude.{◌≡◌, ◌<◌, ◌^◌, IfOk, length};
 
 use pm_base::{ActorId, DevId, NoMemory};
+use pm_book::{Book, TakeFault};
 use pm_judge::{Bad, Judge};
 use pm_model::{CallerRow, Command, Event, Helper, Items, Line, Move, NamedList, Plan};
 use std::alloc::Global;
@@ -99,6 +100,29 @@ fn judge(alloc: Global) -> Result<Judge, NoMemory>
     }
 }
 
+// The book of that plan.
+fn book(alloc: Global) -> Result<Book, NoMemory>
+    ensures { IfOk result (λ book. length book.plan.callers ≡ 1) }
+{
+    match Book::start(alloc, plan(alloc)?) {
+        Ok(book) => Ok(book),
+        Err((_plan, error)) => Err(error),
+    }
+}
+
+// What is wrong with a line of the caller, which the book else takes.
+fn refused(book: &mut Book, line: &Line) -> Option<TakeFault>
+    requires callers { length book.old.plan.callers ≡ 1 }
+    requires actor { line.now.actor ≡ ActorId.Caller 0 }
+    requires in_time { line.now.time < 2 ^ 63 }
+    ensures plan { book.new.plan ≡ book.old.plan }
+{
+    match book.take_line(line) {
+        Ok(()) => None,
+        Err(fault) => Some(fault),
+    }
+}
+
 #[test]
 fn a_judge_takes_a_delay(rt: HostRuntime) -> Result<(), Fail> {
     let mut judge = judge(rt.alloc())?;
@@ -141,5 +165,29 @@ fn what_is_offered_is_taken(rt: HostRuntime) -> Result<(), Fail> {
         [Some(call(5).event), None, Some(ret(12).event), None]
     );
     assert_eq!(rt; (open, judge.finished()), (false, true));
+    Ok(())
+}
+
+#[test]
+fn a_book_takes_a_delay(rt: HostRuntime) -> Result<(), Fail> {
+    let mut book = book(rt.alloc())?;
+    let faults = [
+        refused(&mut book, &call(6)),
+        refused(&mut book, &call(5)),
+        refused(&mut book, &ret(11)),
+        refused(&mut book, &ret(12)),
+        refused(&mut book, &ret(12)),
+    ];
+    assert_eq!(rt;
+        faults,
+        [
+            Some(TakeFault::Step),
+            None,
+            Some(TakeFault::Time),
+            None,
+            Some(TakeFault::Limit)
+        ]
+    );
+    assert_eq!(rt; book.lines(), [call(5), ret(12)].as_slice());
     Ok(())
 }
