@@ -3,4 +3,3 @@ pub mod Spelled
 pub mod Newlines
 pub mod Taking
 pub mod Telling
-pub mod Loads

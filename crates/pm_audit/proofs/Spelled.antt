@@ -18,7 +18,7 @@ use Rattle.pm_texts.proofs.Formats.{in_line, spelled_is}
 use Rattle.pm_judge.specs.Offering.{IsWrite}
 use Rattle.pm_judge.specs.Judging.{Judged}
 use Rattle.pm_judge.specs.Sometime.{Writes}
-use Rattle.pm_audit.specs.Offers.{BeginsBy, IsOffered}
+use Rattle.pm_audit.specs.Offers.{BeginsBy, IsOffered, base_of}
 use Rattle.pm_audit.proofs.Lines.{can_judge}
 
 -- the text with the time since a base, which is 0 in format 1
@@ -34,12 +34,13 @@ text_behind false plan last base t line piece at is later same spelled =
 whole_text : (time actor event rest : List ℕ) → (time ++ space) ++ ((actor ++ space) ++ (event ++ rest)) ≡ (time ++ space ++ actor ++ space ++ event) ++ rest
 whole_text time actor event rest = grind (arith, common_steps, append_assoc)
 
-pub is_offered : (f : Bool) (j : Judged) (line : Line) (c : Change) (next : Then) (bytes behind : List ℕ) (names : Names) (base : ℕ) → names ≡ names_of j.plan → base ≡ (if f then j.last else 0) → base ≤ line.time
-    → is_line_of j.plan line ≡ true → j.lines < j.plan.lines → Writes j.plan j.world j.last line c next → bytes ≡ line_text names (record line { time = line.time - base }) ++ (10 ∷ behind)
+pub is_offered : (f : Bool) (j : Judged) (line : Line) (c : Change) (next : Then) (bytes behind : List ℕ) (names : Names) → names ≡ names_of j.plan → base_of f j.last ≤ line.time
+    → is_line_of j.plan line ≡ true → j.lines < j.plan.lines → Writes j.plan j.world j.last line c next → bytes ≡ line_text names (record line { time = line.time - base_of f j.last }) ++ (10 ∷ behind)
     → IsOffered f j line c next bytes behind
-is_offered f j line c next bytes behind names base same at later is room writes split =
+is_offered f j line c next bytes behind names same later is room writes split =
+    let base = base_of f j.last in
     let piece = line_text names (record line { time = line.time - base }) in
-    let spelled = text_behind f j.plan j.last base line.time line piece at is later refl (ap (λ (n : Names). line_text n (record line { time = line.time - base })) (sym same)) in
+    let spelled = text_behind f j.plan j.last base line.time line piece refl is later refl (ap (λ (n : Names). line_text n (record line { time = line.time - base })) (sym same)) in
     let can = can_judge f j.plan j.last line piece spelled in
     let within = subst (λ (p : List ℕ). is_within_line p ≡ true) (sym (spelled_is f j.plan j.last line piece spelled)) (in_line f j.plan j.last line) in
     record { piece = piece; begins = record { split = split; within = within }; spelled = spelled; in_range = can.0; in_time = can.1; room = room; writes = writes }

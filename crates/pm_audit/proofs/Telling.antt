@@ -13,8 +13,11 @@ use Rattle.pm_model.specs.World.{world}
 use Rattle.pm_texts.proofs.Behind.{cut_behind, format_kept, no_header}
 use Rattle.pm_texts.proofs.Bytes.{append_none}
 use Rattle.pm_texts.proofs.WhyBad.{reason_first}
-use Rattle.pm_judge.specs.Judging.{JudgeStandsFor, Judged}
-use Rattle.pm_audit.specs.Auditing.{AuditorStandsFor, HasRead, IsGood, IsGoodSoFar, IsRead, IsRest, IsTaken, IsToldBy, SaysOf, reason_of, rest_with, told_of}
+use Rattle.pm_judge.specs.Judging.{JudgeStandsFor}
+use Rattle.pm_book.specs.Takings.{TakerStandsFor, Takings}
+use Rattle.pm_audit.specs.Auditing.{AuditorStandsFor, HasRead, IsGood, IsGoodSoFar, IsRead, IsRest, IsTaken, IsToldBy, IsWhole, SaysOf, reason_of, rest_with, told_of}
+use Rattle.pm_book.specs.Pages.{Pages}
+use Rattle.pm_audit.specs.Loading.{AreLoaded}
 use Rattle.pm_audit.specs.Offers.{HasTakenFirst}
 use Rattle.pm_audit.specs.declared.auditor.Auditor.{Auditor}
 use Rattle.pm_audit.specs.declared.auditor.BadLine.{BadLine}
@@ -39,7 +42,7 @@ says_good a b none good = go a.bad none
     go (Some bad) is = cc is
 
 more_says : (a : Auditor) (b x : List ℕ) (bad : BadLine) → SaysOf a (Some bad) b → SaysOf a (Some bad) (b ++ x)
-more_says a b x bad says = λ more. subst (λ (bytes : List ℕ). IsWhy a.judge.plan bytes bad.line (reason_of bad.why)) (sym (append_assoc b x more)) (says (x ++ more))
+more_says a b x bad says = λ more. subst (λ (bytes : List ℕ). IsWhy a.reader.judge.plan bytes bad.line (reason_of bad.why)) (sym (append_assoc b x more)) (says (x ++ more))
 
 pub says_on : (a : Auditor) (b x : List ℕ) → is_some a.bad ≡ true → AuditorStandsFor a b → AuditorStandsFor a (b ++ x)
 says_on a b x some says = go a.bad some says
@@ -70,14 +73,14 @@ keep_says a b piece within says = go a.bad says
 -- a line ends
 abbrev pub Takes : Auditor → Auditor → List ℕ → Option NoWhy → Type 0
 Takes a new piece r =
-    (whole begun : List ℕ) (h : List Line) → IsRest a.rest begun → is_within_line begun ≡ true → IsGood a.judge.plan a.judge a.format whole h
-    → IsTaken a.judge.plan whole h (begun ++ piece) new.format new.judge r
+    (whole begun : List ℕ) (h : List Line) → IsRest a.rest begun → is_within_line begun ≡ true → IsGood a.reader.judge.plan a.reader a.format whole h
+    → IsTaken a.reader.judge.plan whole h (begun ++ piece) new.format new.reader r
 
 joined : (whole rest piece b : List ℕ) → b ≡ whole ++ rest → b ++ (piece ++ newline) ≡ whole ++ ((rest ++ piece) ++ newline)
 joined whole rest piece b is =
     ap (λ x. x ++ (piece ++ newline)) is ∙ (append_assoc whole rest (piece ++ newline) ∙ ap (λ x. whole ++ x) (sym (append_assoc rest piece newline)))
 
-pub line_good : (a new : Auditor) (b piece : List ℕ) → is_some a.bad ≡ false → Takes a new piece None → new.rest ≡ Some [] → new.judge.plan ≡ a.judge.plan → new.bad ≡ a.bad
+pub line_good : (a new : Auditor) (b piece : List ℕ) → is_some a.bad ≡ false → Takes a new piece None → new.rest ≡ Some [] → new.reader.judge.plan ≡ a.reader.judge.plan → new.bad ≡ a.bad
     → AuditorStandsFor a b → AuditorStandsFor new (b ++ (piece ++ newline))
 line_good a new b piece none takes empty plan same says =
     let g = good_of a b none says in
@@ -88,34 +91,34 @@ line_good a new b piece none takes empty plan same says =
       list = taken.0;
       rest = [];
       bytes_are = joined g.whole g.rest piece b g.bytes_are ∙ sym (append_none whole);
-      good = subst (λ (p : Plan). IsGood p new.judge new.format whole taken.0) (sym plan) taken.1;
+      good = subst (λ (p : Plan). IsGood p new.reader new.format whole taken.0) (sym plan) taken.1;
       within = refl;
       kept = subst (λ (o : Option (List ℕ)). IsRest o []) (sym empty) refl;
     })
 
-pub line_bad : (a new : Auditor) (b piece : List ℕ) (w : NoWhy) → is_some a.bad ≡ false → Takes a new piece (Some w) → new.judge.plan ≡ a.judge.plan
-    → new.bad ≡ Some (record { line = a.judge.lines + 1; why = w }) → AuditorStandsFor a b → AuditorStandsFor new (b ++ (piece ++ newline))
+pub line_bad : (a new : Auditor) (b piece : List ℕ) (w : NoWhy) → is_some a.bad ≡ false → Takes a new piece (Some w) → new.reader.judge.plan ≡ a.reader.judge.plan
+    → new.bad ≡ Some (record { line = a.reader.judge.lines + 1; why = w }) → AuditorStandsFor a b → AuditorStandsFor new (b ++ (piece ++ newline))
 line_bad a new b piece w none takes plan bad says =
     let g = good_of a b none says in
     let taken = takes g.whole g.rest g.list g.kept g.within g.good in
-    let lines : a.judge.lines ≡ length g.list = g.good.judged.lines_are in
-    let number : suc (length g.list) ≡ a.judge.lines + 1 = omega (arith, lines) in
+    let lines : a.reader.judge.lines ≡ length g.list = g.good.taken.judged.lines_are in
+    let number : suc (length g.list) ≡ a.reader.judge.lines + 1 = omega (arith, lines) in
     let whole = g.whole ++ ((g.rest ++ piece) ++ newline) in
     let bytes : (more : List ℕ) → g.whole ++ ((g.rest ++ piece) ++ (newline ++ more)) ≡ (b ++ (piece ++ newline)) ++ more = λ more.
     sym (ap (λ x. x ++ more) (joined g.whole g.rest piece b g.bytes_are)
     ∙ (append_assoc g.whole ((g.rest ++ piece) ++ newline) more ∙ ap (λ x. g.whole ++ x) (append_assoc (g.rest ++ piece) newline more))) in
-    let says_it : SaysOf new (Some (record { line = a.judge.lines + 1; why = w })) (b ++ (piece ++ newline)) = λ more.
-    subst (λ (p : Plan). IsWhy p ((b ++ (piece ++ newline)) ++ more) (a.judge.lines + 1) (reason_of w)) (sym plan)
-    (subst (λ n. IsWhy a.judge.plan ((b ++ (piece ++ newline)) ++ more) n (reason_of w)) number
-    (subst (λ (x : List ℕ). IsWhy a.judge.plan x (suc (length g.list)) (reason_of w)) (bytes more) (taken more))) in
+    let says_it : SaysOf new (Some (record { line = a.reader.judge.lines + 1; why = w })) (b ++ (piece ++ newline)) = λ more.
+    subst (λ (p : Plan). IsWhy p ((b ++ (piece ++ newline)) ++ more) (a.reader.judge.lines + 1) (reason_of w)) (sym plan)
+    (subst (λ n. IsWhy a.reader.judge.plan ((b ++ (piece ++ newline)) ++ more) n (reason_of w)) number
+    (subst (λ (x : List ℕ). IsWhy a.reader.judge.plan x (suc (length g.list)) (reason_of w)) (bytes more) (taken more))) in
     subst (λ (o : Option BadLine). SaysOf new o (b ++ (piece ++ newline))) (sym bad) says_it
 
 -- at the end
-pub end_bad : (a : Auditor) (b : List ℕ) (bad : BadLine) → Some bad ≡ a.bad → AuditorStandsFor a b → IsVerdict a.judge.plan b (No bad.line (reason_of bad.why))
+pub end_bad : (a : Auditor) (b : List ℕ) (bad : BadLine) → Some bad ≡ a.bad → AuditorStandsFor a b → IsVerdict a.reader.judge.plan b (No bad.line (reason_of bad.why))
 end_bad a b bad is says =
     let here : SaysOf a (Some bad) b = subst (λ (o : Option BadLine). SaysOf a o b) (sym is) says in
-    let reason = subst (λ (x : List ℕ). IsWhy a.judge.plan x bad.line (reason_of bad.why)) (append_none b) (here []) in
-    (reason_first a.judge.plan b bad.line (reason_of bad.why) reason, reason)
+    let reason = subst (λ (x : List ℕ). IsWhy a.reader.judge.plan x bad.line (reason_of bad.why)) (append_none b) (here []) in
+    (reason_first a.reader.judge.plan b bad.line (reason_of bad.why) reason, reason)
 
 none_kept : (kept : Option (List ℕ)) → IsRest kept [] → kept ≡ Some []
 none_kept None is = absurd (omega (arith, is))
@@ -135,51 +138,52 @@ cut_bad plan whole rest b h n lawful stands told within some is number =
     let reason = subst (λ k. IsWhy plan b k model.Cut) (sym number) (subst (λ (x : List ℕ). IsWhy plan x (suc (length h)) model.Cut) (sym is) there) in
     (reason_first plan b n model.Cut reason, reason)
 
-pub end_cut : (a : Auditor) (b : List ℕ) → is_some a.bad ≡ false → (a.rest ≡ Some [] → ⊥) → AuditorStandsFor a b → IsVerdict a.judge.plan b (No (a.judge.lines + 1) model.Cut)
+pub end_cut : (a : Auditor) (b : List ℕ) → is_some a.bad ≡ false → (a.rest ≡ Some [] → ⊥) → AuditorStandsFor a b → IsVerdict a.reader.judge.plan b (No (a.reader.judge.lines + 1) model.Cut)
 end_cut a b none some says =
     let g = good_of a b none says in
     let left : g.rest ≢ [] = λ empty. some (none_kept a.rest (subst (λ (x : List ℕ). IsRest a.rest x) empty g.kept)) in
-    let lines : a.judge.lines ≡ length g.list = g.good.judged.lines_are in
-    cut_bad a.judge.plan g.whole g.rest b g.list (a.judge.lines + 1) g.good.lawful g.good.stands (format_at_end a.judge.plan g.whole g.rest g.list a.format g.good.stands g.good.told g.within) g.within left
+    let lines : a.reader.judge.lines ≡ length g.list = g.good.taken.judged.lines_are in
+    cut_bad a.reader.judge.plan g.whole g.rest b g.list (a.reader.judge.lines + 1) g.good.lawful g.good.stands (format_at_end a.reader.judge.plan g.whole g.rest g.list a.format g.good.stands g.good.told g.within) g.within left
     g.bytes_are (omega (arith, lines))
 
 pub not_empty : (kept : Option (List ℕ)) (b : Bool) → (b ≡ true → kept ≡ Some []) × (kept ≡ Some [] → b ≡ true) → b ≡ false → kept ≡ Some [] → ⊥
 not_empty kept b told some is = let empty = told.1 is in cc (empty, some)
 
 -- the whole bytes are the text of the list
-record IsAll (a : Auditor) (b : List ℕ) : Type 0 where
-  good : IsGoodSoFar a b
-  stands : StandsFor a.judge.plan b good.list
-
-all_of : (a : Auditor) (b : List ℕ) → is_some a.bad ≡ false → a.rest ≡ Some [] → AuditorStandsFor a b → IsAll a b
-all_of a b none empty says =
+pub whole_of : (a : Auditor) (b : List ℕ) → is_some a.bad ≡ false → a.rest ≡ Some [] → AuditorStandsFor a b → IsWhole a.reader b
+whole_of a b none empty says =
     let g = good_of a b none says in
     let rest : g.rest ≡ [] = subst (λ (o : Option (List ℕ)). IsRest o g.rest) empty g.kept in
     let same : b ≡ g.whole = g.bytes_are ∙ (ap (λ x. g.whole ++ x) rest ∙ append_none g.whole) in
-    record { good = g; stands = subst (λ (x : List ℕ). StandsFor a.judge.plan x g.list) (sym same) g.good.stands }
+    record { list = g.list; lawful = g.good.lawful; stands = subst (λ (x : List ℕ). StandsFor a.reader.judge.plan x g.list) (sym same) g.good.stands; taken = g.good.taken }
 
-pub end_finished : (a : Auditor) (b : List ℕ) → is_some a.bad ≡ false → a.rest ≡ Some [] → ((h : List Line) → JudgeStandsFor a.judge h → true ≡ is_finished a.judge.plan (world a.judge.plan h))
-    → AuditorStandsFor a b → IsVerdict a.judge.plan b YesFinished
-end_finished a b none empty finished says =
-    let all = all_of a b none empty says in
-    (all.good.list, all.good.good.lawful, all.stands, sym (finished all.good.list all.good.good.judged))
+pub end_finished : (t : Takings) (b : List ℕ) → IsWhole t b → ((h : List Line) → JudgeStandsFor t.judge h → true ≡ is_finished t.judge.plan (world t.judge.plan h)) → IsVerdict t.judge.plan b YesFinished
+end_finished t b whole finished = (whole.list, whole.lawful, whole.stands, sym (finished whole.list whole.taken.judged))
 
-pub end_open : (a : Auditor) (b : List ℕ) → is_some a.bad ≡ false → a.rest ≡ Some [] → ((h : List Line) → JudgeStandsFor a.judge h → false ≡ is_finished a.judge.plan (world a.judge.plan h))
-    → AuditorStandsFor a b → IsVerdict a.judge.plan b YesOpen
-end_open a b none empty open_still says =
-    let all = all_of a b none empty says in
-    let still = open_still all.good.list all.good.good.judged in
-    (all.good.list, all.good.good.lawful, all.stands, λ finished. cc (still, finished))
+pub end_open : (t : Takings) (b : List ℕ) → IsWhole t b → ((h : List Line) → JudgeStandsFor t.judge h → false ≡ is_finished t.judge.plan (world t.judge.plan h)) → IsVerdict t.judge.plan b YesOpen
+end_open t b whole open_still =
+    let still = open_still whole.list whole.taken.judged in
+    (whole.list, whole.lawful, whole.stands, λ finished. cc (still, finished))
+
+-- a book of the lines that are kept
+pub loaded_as : (t : Takings) (b : List ℕ) (p : Pages) → IsWhole t b → p.plan ≡ t.judge.plan → t.kept ≡ Some p.lines → AreLoaded t.judge.plan b p
+loaded_as t b p whole plan kept =
+    let same : p.lines ≡ whole.list = subst (λ (o : Option (List Line)). IfSome o (λ lines. lines ≡ whole.list)) kept whole.taken.kept in
+    record {
+      plan_is = plan;
+      lawful = subst (λ (l : List Line). IsLawful t.judge.plan l) (sym same) whole.lawful;
+      stands = subst (λ (l : List Line). StandsFor t.judge.plan b l) (sym same) whole.stands;
+    }
 
 -- an auditor that was fed nothing
-pub starts : (a : Auditor) → a.bad ≡ None → a.rest ≡ Some [] → a.format ≡ format.Untold → JudgeStandsFor a.judge [] → AuditorStandsFor a []
-starts a none empty untold judged =
+pub starts : (a : Auditor) → a.bad ≡ None → a.rest ≡ Some [] → a.format ≡ format.Untold → TakerStandsFor a.reader [] → AuditorStandsFor a []
+starts a none empty untold taken =
     says_good a [] (ap (λ o. is_some o) none) (record {
       whole = [];
       list = [];
       rest = [];
       bytes_are = refl;
-      good = record { lawful = tt; judged = judged; stands = inl (refl, refl); told = subst (λ (f : Format). IsToldBy f []) (sym untold) refl };
+      good = record { lawful = tt; taken = taken; stands = inl (refl, refl); told = subst (λ (f : Format). IsToldBy f []) (sym untold) refl };
       within = refl;
       kept = subst (λ (o : Option (List ℕ)). IsRest o []) (sym empty) refl;
     })
@@ -193,43 +197,43 @@ shorter left line left' is = let all = ap length is ∙ length-append line (10 �
 
 -- a line, of this piece and a newline
 pub reads_line : (left line left' : List ℕ) (old new : Auditor) → left ≡ line ++ (10 ∷ left') → ((b : List ℕ) → AuditorStandsFor old b → AuditorStandsFor new (b ++ (line ++ newline)))
-    → new.judge.plan ≡ old.judge.plan → HasRead left left' old new
+    → new.reader.judge.plan ≡ old.reader.judge.plan → HasRead left left' old new
 reads_line left line left' old new is ends plan = record { done = line ++ newline; split = is ∙ sym (append_assoc line newline left'); stands = ends; plan = plan }
 
 -- the first line of the bytes is the one that may come next: no rest is before it, and the format is told
-told_takes : (a : Auditor) (judge : Judged) (f : Bool) (piece : List ℕ) → a.rest ≡ Some [] → Some f ≡ told_of a.format → is_within_line piece ≡ true
-    → ((h : List Line) → IsLawful a.judge.plan h → JudgeStandsFor a.judge h → IsRead f a.judge.plan h piece judge None) → Takes a (record a { judge = judge }) piece None
-told_takes a judge f piece empty told within read = λ whole begun h kept inside good.
+told_takes : (a : Auditor) (taker : Takings) (f : Bool) (piece : List ℕ) → a.rest ≡ Some [] → Some f ≡ told_of a.format → is_within_line piece ≡ true
+    → ((h : List Line) → IsLawful a.reader.judge.plan h → TakerStandsFor a.reader h → IsRead f a.reader.judge.plan h piece taker None) → Takes a (record a { reader = taker }) piece None
+told_takes a taker f piece empty told within read = λ whole begun h kept inside good.
     let none : begun ≡ [] = subst (λ (o : Option (List ℕ)). IsRest o begun) empty kept in
-    subst (λ (l : List ℕ). IsTaken a.judge.plan whole h (l ++ piece) a.format judge None) (sym none) (go whole h a.format refl told good)
+    subst (λ (l : List ℕ). IsTaken a.reader.judge.plan whole h (l ++ piece) a.format taker None) (sym none) (go whole h a.format refl told good)
   where
-    go : (whole : List ℕ) (h : List Line) (fm : Format) → a.format ≡ fm → Some f ≡ told_of fm → IsGood a.judge.plan a.judge a.format whole h → IsTaken a.judge.plan whole h piece a.format judge None
+    go : (whole : List ℕ) (h : List Line) (fm : Format) → a.format ≡ fm → Some f ≡ told_of fm → IsGood a.reader.judge.plan a.reader a.format whole h → IsTaken a.reader.judge.plan whole h piece a.format taker None
     go whole h format.Untold is says good = cc says
     go whole h format.One is says good =
         let one : f ≡ false = cc says in
-        let its = subst (λ (x : Bool). IsRead x a.judge.plan h piece judge None) one (read h good.lawful good.judged) in
-        subst (λ (x : Format). IsTaken a.judge.plan whole h piece x judge None) (sym is)
-        (take_one a.judge.plan whole piece h a.judge judge None (subst (λ (x : Format). IsGood a.judge.plan a.judge x whole h) is good) within its)
+        let its = subst (λ (x : Bool). IsRead x a.reader.judge.plan h piece taker None) one (read h good.lawful good.taken) in
+        subst (λ (x : Format). IsTaken a.reader.judge.plan whole h piece x taker None) (sym is)
+        (take_one a.reader.judge.plan whole piece h a.reader taker None (subst (λ (x : Format). IsGood a.reader.judge.plan a.reader x whole h) is good) within its)
     go whole h format.Two is says good =
         let two : f ≡ true = cc says in
-        let its = subst (λ (x : Bool). IsRead x a.judge.plan h piece judge None) two (read h good.lawful good.judged) in
-        subst (λ (x : Format). IsTaken a.judge.plan whole h piece x judge None) (sym is)
-        (take_two a.judge.plan whole piece h a.judge judge None (subst (λ (x : Format). IsGood a.judge.plan a.judge x whole h) is good) within its)
+        let its = subst (λ (x : Bool). IsRead x a.reader.judge.plan h piece taker None) two (read h good.lawful good.taken) in
+        subst (λ (x : Format). IsTaken a.reader.judge.plan whole h piece x taker None) (sym is)
+        (take_two a.reader.judge.plan whole piece h a.reader taker None (subst (λ (x : Format). IsGood a.reader.judge.plan a.reader x whole h) is good) within its)
 
-reads_offered : (a : Auditor) (judge : Judged) (f : Bool) (bytes behind : List ℕ) → is_some a.bad ≡ false → a.rest ≡ Some [] → Some f ≡ told_of a.format → HasTakenFirst f a.judge judge bytes behind
-    → HasRead bytes behind a (record a { judge = judge })
-reads_offered a judge f bytes behind none empty told first =
-    let new = record a { judge = judge } in
-    let takes = told_takes a judge f first.piece empty told first.begins.within first.read in
+reads_offered : (a : Auditor) (taker : Takings) (f : Bool) (bytes behind : List ℕ) → is_some a.bad ≡ false → a.rest ≡ Some [] → Some f ≡ told_of a.format → HasTakenFirst f a.reader taker bytes behind
+    → HasRead bytes behind a (record a { reader = taker })
+reads_offered a taker f bytes behind none empty told first =
+    let new = record a { reader = taker } in
+    let takes = told_takes a taker f first.piece empty told first.begins.within first.read in
     reads_line bytes first.piece behind a new first.begins.split (λ b says. line_good a new b first.piece none takes empty first.plan refl says) first.plan
 
-pub reads_if_offered : {A : Type 0} (a : Auditor) (judge : Judged) (f : Bool) (bytes : List ℕ) (of : A → List ℕ) (r : Option A) → is_some a.bad ≡ false → a.rest ≡ Some [] → Some f ≡ told_of a.format
-    → IfSome r (λ x. HasTakenFirst f a.judge judge bytes (of x)) → IfSome r (λ x. HasRead bytes (of x) a (record a { judge = judge }))
-reads_if_offered {A} a judge f bytes of None none empty told first = tt
-reads_if_offered {A} a judge f bytes of (Some x) none empty told first = reads_offered a judge f bytes (of x) none empty told first
+pub reads_if_offered : {A : Type 0} (a : Auditor) (taker : Takings) (f : Bool) (bytes : List ℕ) (of : A → List ℕ) (r : Option A) → is_some a.bad ≡ false → a.rest ≡ Some [] → Some f ≡ told_of a.format
+    → IfSome r (λ x. HasTakenFirst f a.reader taker bytes (of x)) → IfSome r (λ x. HasRead bytes (of x) a (record a { reader = taker }))
+reads_if_offered {A} a taker f bytes of None none empty told first = tt
+reads_if_offered {A} a taker f bytes of (Some x) none empty told first = reads_offered a taker f bytes (of x) none empty told first
 
 -- what is left is shorter
-pub shorter_if_offered : {A : Type 0} (old new : Judged) (f : Bool) (bytes : List ℕ) (of : A → List ℕ) (r : Option A) → IfSome r (λ x. HasTakenFirst f old new bytes (of x)) → IfSome r (λ x. length (of x) < length bytes)
+pub shorter_if_offered : {A : Type 0} (old new : Takings) (f : Bool) (bytes : List ℕ) (of : A → List ℕ) (r : Option A) → IfSome r (λ x. HasTakenFirst f old new bytes (of x)) → IfSome r (λ x. length (of x) < length bytes)
 shorter_if_offered {A} old new f bytes of None first = tt
 shorter_if_offered {A} old new f bytes of (Some x) first = shorter bytes first.piece (of x) first.begins.split
 

@@ -5,36 +5,31 @@ use Rattle.pm_model.specs.declared.event.Line.{Line}
 use Rattle.pm_model.specs.declared.stage.Change.{Change}
 use Rattle.pm_model.specs.declared.stage.Then.{Then}
 use Rattle.pm_model.specs.Lawful.{IsLawful}
-use Rattle.pm_model.specs.declared.plan.Plan.{Plan}
 use Rattle.pm_model.specs.NoWhy.{is_within_line}
 use Rattle.pm_model.specs.LineOf.{is_actor_of}
 use Rattle.pm_model.specs.Spelling.{Names, actor_text, space}
 use Rattle.pm_model.specs.Text.{IsTextBehind}
 use Rattle.pm_state.specs.Standing.{IsActor}
-use Rattle.pm_judge.specs.Judging.{JudgeStandsFor, Judged}
+use Rattle.pm_judge.specs.Judging.{Judged}
 use Rattle.pm_judge.specs.Sometime.{Writes}
-use Rattle.pm_book.specs.Pages.{Pages}
+use Rattle.pm_book.specs.Takings.{TakerStandsFor, Takings}
 use Rattle.pm_audit.specs.declared.offers.Front.{Front}
-use Rattle.pm_audit.specs.declared.offers.Named.{Named}
 use Rattle.pm_audit.specs.Auditing.{IsRead}
-use Rattle.pm_audit.specs.Loading.{HasTaken}
 
 -- the bytes begin with this time and this actor, and go on with these
 abbrev pub BeginsBy : Names → ℕ → ActorId → List ℕ → List ℕ → Type 0
 BeginsBy names time actor bytes behind = bytes ≡ (decimal time ++ space) ++ ((actor_text names actor ++ space) ++ behind)
 
--- the bytes begin with the name of this actor
-pub record IsNamed (names : Names) (bytes : List ℕ) (named : Named) : Type 0 where
-  pub begins : bytes ≡ (actor_text names named.actor ++ space) ++ named.behind.now
-  pub in_range : is_actor_of (length names.devices) (length names.callers) named.actor ≡ true
+-- the time from which the text of a line counts, in format 2 where that is true, behind one of time `last`
+abbrev pub base_of : Bool → ℕ → ℕ
+base_of f last = if f then last else 0
 
 -- this is the front of the line with which the bytes begin, in format 2 where that is true, behind one of time `last`
-pub record IsFront (f : Bool) (plan : Plan) (names : Names) (last : ℕ) (bytes : List ℕ) (front : Front) : Type 0 where
-  pub base : front.base ≡ (if f then last else 0)
-  pub later : front.base ≤ front.time
+pub record IsFront (f : Bool) (names : Names) (last : ℕ) (bytes : List ℕ) (front : Front) : Type 0 where
+  pub later : base_of f last ≤ front.time
   pub in_time : front.time < 2 ^ 63
-  pub in_range : IsActor plan front.actor
-  pub begins : BeginsBy names (front.time - front.base) front.actor bytes front.behind.now
+  pub in_range : is_actor_of (length names.devices) (length names.callers) front.actor ≡ true
+  pub begins : BeginsBy names (front.time - base_of f last) front.actor bytes front.behind.now
 
 -- the bytes begin with a line, of this piece and a newline, and go on with these
 pub record BeginsWith (bytes piece behind : List ℕ) : Type 0 where
@@ -53,14 +48,8 @@ pub record IsOffered (f : Bool) (j : Judged) (line : Line) (c : Change) (next : 
   pub writes : Writes j.plan j.world j.last line c next
 
 -- the line with which the bytes begin was taken
-pub record HasTakenFirst (f : Bool) (old new : Judged) (bytes behind : List ℕ) : Type 0 where
+pub record HasTakenFirst (f : Bool) (old new : Takings) (bytes behind : List ℕ) : Type 0 where
   pub piece : List ℕ
   pub begins : BeginsWith bytes piece behind
-  pub read : (h : List Line) → IsLawful old.plan h → JudgeStandsFor old h → IsRead f old.plan h piece new None
-  pub plan : new.plan ≡ old.plan
-
--- a draft took the line with which the bytes begin
-pub record HasTakenLine (f : Bool) (old new : Pages) (bytes behind : List ℕ) : Type 0 where
-  pub piece : List ℕ
-  pub begins : BeginsWith bytes piece behind
-  pub taken : HasTaken f old.plan old.lines new piece
+  pub read : (h : List Line) → IsLawful old.judge.plan h → TakerStandsFor old h → IsRead f old.judge.plan h piece new None
+  pub plan : new.judge.plan ≡ old.judge.plan

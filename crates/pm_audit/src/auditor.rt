@@ -1,10 +1,10 @@
 //! The auditor.
 
-ghost use Rattle.std.specs.Prelude.{◌≡◌, ◌<◌, ◌++◌, [], List, ℕ, IfErr, IfNone, IfOk, IfSome, None, length, true};
-ghost use Rattle.pm_audit.specs.Auditing.{AuditorStandsFor, HasRead, verdict_of};
+ghost use Rattle.std.specs.Prelude.{◌≡◌, ◌<◌, ◌++◌, [], List, ℕ, IfErr, IfNone, IfOk, IfSome, None, Some, if◌then◌else◌, length, true};
+ghost use Rattle.pm_audit.specs.Auditing.{AuditorStandsFor, HasRead, IsWhole, reason_of, verdict_of};
 ghost use Rattle.pm_model.specs.NoWhy.{is_within_line};
 ghost use Rattle.pm_model.specs.Spelling.{newline};
-ghost use Rattle.pm_model.specs.Verdict.{IsVerdict};
+ghost use Rattle.pm_model.specs.Verdict.{IsVerdict, No};
 
 use crate::reader::Reader;
 use crate::reading::{Format, NoWhy, end_line, told};
@@ -32,45 +32,57 @@ pub enum Verdict {
 /// The first bad line.
 #[derive(Clone, Copy)]
 pub struct BadLine {
-    line: u64,
-    why: NoWhy,
+    pub(crate) line: u64,
+    pub(crate) why: NoWhy,
 }
 
-// What is said where this line is the first bad one.
-fn verdict_of_bad(bad: BadLine) -> Verdict
-    ensures { result ≡ Verdict.No bad.line bad.why }
-{
-    Verdict::No {
-        line: bad.line,
-        why: bad.why,
-    }
-}
-
-/// Reads a trace as it comes, piece by piece, and judges it against a plan. Contracts say for which bytes it
-/// stands: all those that it was fed.
+/// Reads a trace as it comes, piece by piece, and judges it against a plan; it keeps the lines for a book if it is
+/// asked to. Contracts say for which bytes it stands: all those that it was fed.
 #[derive(Drop)]
 pub struct Auditor {
-    judge: Reader,
+    pub(crate) reader: Reader,
     format: Format,
     rest: Rest,
     bad: Option<BadLine>,
 }
 
 impl Auditor {
-    /// An auditor that was fed no bytes. All memory is taken here; where it runs out, the plan is handed
-    /// back.
+    /// An auditor that was fed no bytes, and keeps no lines. All memory is taken here; where it runs out, the plan
+    /// is handed back.
     pub fn new(alloc: Global, plan: Plan) -> Result<Auditor, (Plan, NoMemory)>
-        ensures plan { IfOk result (λ a. a.judge.plan ≡ plan) }
+        ensures plan { IfOk result (λ a. a.reader.judge.plan ≡ plan) }
         ensures stands { IfOk result (λ a. AuditorStandsFor a []) }
+        ensures kept { IfOk result (λ a. a.reader.kept ≡ None) }
+        ensures err { IfErr result (λ back. back.0 ≡ plan) }
+    {
+        Auditor::start(alloc, plan, false)
+    }
+
+    /// An auditor that was fed no bytes, and keeps the lines for a book. All memory but that of lines is taken here;
+    /// where it runs out, the plan is handed back.
+    pub fn keeping(alloc: Global, plan: Plan) -> Result<Auditor, (Plan, NoMemory)>
+        ensures plan { IfOk result (λ a. a.reader.judge.plan ≡ plan) }
+        ensures stands { IfOk result (λ a. AuditorStandsFor a []) }
+        ensures kept { IfOk result (λ a. a.reader.kept ≡ Some []) }
+        ensures err { IfErr result (λ back. back.0 ≡ plan) }
+    {
+        Auditor::start(alloc, plan, true)
+    }
+
+    // An auditor that was fed no bytes, and keeps lines where that is asked for.
+    fn start(alloc: Global, plan: Plan, keeps: bool) -> Result<Auditor, (Plan, NoMemory)>
+        ensures plan { IfOk result (λ a. a.reader.judge.plan ≡ plan) }
+        ensures stands { IfOk result (λ a. AuditorStandsFor a []) }
+        ensures kept { IfOk result (λ a. a.reader.kept ≡ (if keeps then Some [] else None)) }
         ensures err { IfErr result (λ back. back.0 ≡ plan) }
     {
         let rest = match Rest::none(alloc) {
             Ok(rest) => rest,
             Err(error) => return Err((plan, error)),
         };
-        match Reader::start(alloc, plan) {
-            Ok(judge) => Ok(Auditor {
-                judge,
+        match Reader::start(alloc, plan, keeps) {
+            Ok(reader) => Ok(Auditor {
+                reader,
                 format: Format::Untold,
                 rest,
                 bad: None,
@@ -83,13 +95,13 @@ impl Auditor {
     fn end_line(&mut self, piece: &[u8])
         requires { is_within_line piece.now ≡ true }
         ensures stands { (b : List ℕ) → AuditorStandsFor self.old b → AuditorStandsFor self.new (b ++ (piece.now ++ newline)) }
-        ensures plan { self.new.judge.plan ≡ self.old.judge.plan }
+        ensures plan { self.new.reader.judge.plan ≡ self.old.reader.judge.plan }
     {
         if self.bad.is_some() {
             return;
         }
-        let line = u64::from(self.judge.lines()) + 1;
-        if let Some(why) = end_line(&mut self.judge, &mut self.format, &mut self.rest, piece) {
+        let line = u64::from(self.reader.lines()) + 1;
+        if let Some(why) = end_line(&mut self.reader, &mut self.format, &mut self.rest, piece) {
             self.bad = Some(BadLine { line, why });
         }
     }
@@ -98,7 +110,7 @@ impl Auditor {
     fn keep(&mut self, piece: &[u8])
         requires { is_within_line piece.now ≡ true }
         ensures stands { (b : List ℕ) → AuditorStandsFor self.old b → AuditorStandsFor self.new (b ++ piece.now) }
-        ensures plan { self.new.judge.plan ≡ self.old.judge.plan }
+        ensures plan { self.new.reader.judge.plan ≡ self.old.reader.judge.plan }
     {
         self.rest.push(piece);
     }
@@ -114,7 +126,7 @@ impl Auditor {
             return None;
         }
         let is_format2 = told(self.format)?;
-        self.judge.take_offered(is_format2, bytes)
+        self.reader.take_offered(is_format2, bytes)
     }
 
     // The bytes go on with the first line of these and its newline, if there is one. Gives what is behind.
@@ -135,10 +147,10 @@ impl Auditor {
         Some(behind.split_at(1).1)
     }
 
-    /// The bytes go on with this piece. It takes no memory.
+    /// The bytes go on with this piece. It takes memory for lines alone, and none where none are kept.
     pub fn feed(&mut self, piece: &[u8])
         ensures stands { (b : List ℕ) → AuditorStandsFor self.old b → AuditorStandsFor self.new (b ++ piece.now) }
-        ensures plan { self.new.judge.plan ≡ self.old.judge.plan }
+        ensures plan { self.new.reader.judge.plan ≡ self.old.reader.judge.plan }
     {
         if self.bad.is_some() {
             return;
@@ -150,36 +162,39 @@ impl Auditor {
         self.keep(left);
     }
 
-    // What is said of the bytes, where no whole line is bad.
-    fn verdict_of_good(&self) -> Verdict
-        requires { self.now.bad ≡ None }
-        ensures { (b : List ℕ) → AuditorStandsFor self.now b → IsVerdict self.now.judge.plan b (verdict_of result) }
+    // The first bad line of the bytes, where one is; it is also one that lacks its newline.
+    pub(crate) fn first_bad(&self) -> Option<BadLine>
+        ensures some { IfSome result (λ bad. (b : List ℕ) → AuditorStandsFor self.now b → IsVerdict self.now.reader.judge.plan b (No bad.line (reason_of bad.why))) }
+        ensures none { IfNone result ((b : List ℕ) → AuditorStandsFor self.now b → IsWhole self.now.reader b) }
     {
-        if !self.rest.is_empty() {
-            return Verdict::No {
-                line: u64::from(self.judge.lines()) + 1,
-                why: NoWhy::Cut,
-            };
+        if let Some(bad) = self.bad {
+            return Some(bad);
         }
-        if self.judge.finished() {
+        if self.rest.is_empty() {
+            return None;
+        }
+        Some(BadLine {
+            line: u64::from(self.reader.lines()) + 1,
+            why: NoWhy::Cut,
+        })
+    }
+
+    // What is said of the bytes.
+    fn verdict(&self) -> Verdict
+        ensures { (b : List ℕ) → AuditorStandsFor self.now b → IsVerdict self.now.reader.judge.plan b (verdict_of result) }
+    {
+        if let Some(BadLine { line, why }) = self.first_bad() {
+            return Verdict::No { line, why };
+        }
+        if self.reader.finished() {
             return Verdict::YesFinished;
         }
         Verdict::YesOpen
     }
 
-    // What is said of the bytes.
-    fn verdict(&self) -> Verdict
-        ensures { (b : List ℕ) → AuditorStandsFor self.now b → IsVerdict self.now.judge.plan b (verdict_of result) }
-    {
-        match self.bad {
-            Some(bad) => verdict_of_bad(bad),
-            None => self.verdict_of_good(),
-        }
-    }
-
     /// What is said of the bytes that were fed. It takes no memory.
     pub fn end(self) -> Verdict
-        ensures { (b : List ℕ) → AuditorStandsFor self b → IsVerdict self.judge.plan b (verdict_of result) }
+        ensures { (b : List ℕ) → AuditorStandsFor self b → IsVerdict self.reader.judge.plan b (verdict_of result) }
     {
         self.verdict()
     }

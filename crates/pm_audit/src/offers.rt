@@ -1,9 +1,9 @@
 //! Lines that are read by the text of the one line that may come next.
 
 ghost use Rattle.std.specs.Prelude.{◌≡◌, ◌<◌, ◌^◌, ◌++◌, ◌∷◌, IfNone, IfOk, IfSome, decimal, if◌then◌else◌, length, true};
-ghost use Rattle.pm_audit.specs.Offers.{IsFront, IsNamed};
+ghost use Rattle.pm_audit.specs.Offers.{IsFront};
 ghost use Rattle.pm_model.specs.declared.event.Line.{Line as ALine};
-ghost use Rattle.pm_model.specs.LineOf.{is_actor_of, is_line};
+ghost use Rattle.pm_model.specs.LineOf.{is_actor_of, is_event_of};
 ghost use Rattle.pm_model.specs.Spelling.{actor_text, event_text, space};
 ghost use Rattle.pm_model.specs.Text.{IsTextBehind, names_of as its_names};
 
@@ -12,28 +12,19 @@ use crate::pieces::behind;
 use pm_base::{ActorId, NoMemory};
 use pm_lineread::{Finders, actor_start, line_start, read_line_by, read_line2_by};
 use pm_linetext::{LineText, NamesAtHand};
-use pm_model::{Line, Plan};
+use pm_model::{Event, Line, Plan};
 use std::alloc::Global;
 use std::marker::Model;
 
 /// The front of a line: who may have written it, and when, and what is behind.
 #[derive(Clone, Copy)]
 pub(crate) struct Front<'a> {
-    /// The time from which its text counts, in milliseconds of the run.
-    pub base: u64,
     /// Its time, in milliseconds of the run.
     pub time: u64,
     /// Its actor.
     pub actor: ActorId,
     /// The bytes behind its actor and a space.
     pub behind: &'a [u8],
-}
-
-/// An actor, and the bytes behind its name and a space.
-#[derive(Clone, Copy)]
-pub(crate) struct Named<'a> {
-    actor: ActorId,
-    behind: &'a [u8],
 }
 
 // What is behind the time of a line that is written at the time of the line before, where the bytes begin so.
@@ -101,32 +92,33 @@ impl PlanNames {
         behind(b" ", behind_name)
     }
 
-    // The actor whose name the bytes begin with, where it is found: by its name.
-    #[inline(never)]
-    fn named_apart<'a>(&self, plan: &Plan, bytes: &'a [u8]) -> Option<Named<'a>>
-        ensures { IfSome result (IsNamed self.now bytes.now) }
-    {
-        let actor = actor_start(plan, &self.finders, bytes)?;
-        let behind = self.behind_actor(actor, bytes)?;
-        Some(Named { actor, behind })
-    }
-
-    // The actor whose name the bytes begin with, where it is found: it is this one, or is found by its name.
+    /// The front of the line with which the bytes begin, in format 2 where that is true, behind one of that time,
+    /// where it is as it is likely: at the same time, by who wrote next the last time.
     #[inline(always)]
-    fn named<'a>(&self, plan: &Plan, likely: Option<ActorId>, bytes: &'a [u8]) -> Option<Named<'a>>
-        ensures { IfSome result (IsNamed self.now bytes.now) }
+    pub(crate) fn likely_front<'a>(
+        &self,
+        last: u64,
+        fronts: &Fronts,
+        is_format2: bool,
+        bytes: &'a [u8],
+    ) -> Option<Front<'a>>
+        requires { last < 2 ^ 63 }
+        ensures { IfSome result (IsFront is_format2 self.now last bytes.now) }
     {
-        if let Some(actor) = likely {
-            if let Some(behind) = self.behind_actor(actor, bytes) {
-                return Some(Named { actor, behind });
-            }
-        }
-        self.named_apart(plan, bytes)
+        let rest = behind_time(&fronts.time, is_format2, last, bytes)?;
+        let actor = fronts.follower()?;
+        let behind = self.behind_actor(actor, rest)?;
+        Some(Front {
+            time: last,
+            actor,
+            behind,
+        })
     }
 
-    // The front of the line with which the bytes begin behind one of that time.
+    /// The front of the line with which the bytes begin, in format 2 where that is true, behind one of that time,
+    /// where it is found: by the name of its actor. No clause says that it is found where the bytes begin so.
     #[inline(never)]
-    fn front_apart<'a>(
+    pub(crate) fn front_apart<'a>(
         &self,
         plan: &Plan,
         last: u64,
@@ -136,60 +128,45 @@ impl PlanNames {
     ) -> Option<Front<'a>>
         requires names { self.now ≡ its_names plan.now }
         requires in_time { last < 2 ^ 63 }
-        ensures { IfSome result (IsFront is_format2 plan.now self.now last bytes.now) }
+        ensures { IfSome result (IsFront is_format2 self.now last bytes.now) }
     {
         let base = if is_format2 { last } else { 0 };
+        if let Some(rest) = behind_time(time_text, is_format2, last, bytes) {
+            let actor = actor_start(plan, &self.finders, rest)?;
+            let behind = self.behind_actor(actor, rest)?;
+            return Some(Front {
+                time: last,
+                actor,
+                behind,
+            });
+        }
         let (time, actor) = line_start(plan, &self.finders, base, bytes)?;
         time_text.set(time - base);
         let behind = self.behind_actor(actor, time_text.behind(bytes)?)?;
         Some(Front {
-            base,
             time,
             actor,
             behind,
         })
     }
 
-    /// The front of the line with which the bytes begin, in format 2 where that is true, behind one of that
-    /// time, where it is found. No clause says that it is found where the bytes begin so.
-    #[inline(always)]
-    pub(crate) fn front<'a>(
-        &self,
-        plan: &Plan,
-        last: u64,
-        fronts: &mut Fronts,
-        is_format2: bool,
-        bytes: &'a [u8],
-    ) -> Option<Front<'a>>
-        requires names { self.now ≡ its_names plan.now }
-        requires in_time { last < 2 ^ 63 }
-        ensures { IfSome result (IsFront is_format2 plan.now self.now last bytes.now) }
-    {
-        let Some(rest) = behind_time(&fronts.time, is_format2, last, bytes) else {
-            return self.front_apart(plan, last, &mut fronts.time, is_format2, bytes);
-        };
-        let Named { actor, behind } = self.named(plan, fronts.follower(), rest)?;
-        Some(Front {
-            base: if is_format2 { last } else { 0 },
-            time: last,
-            actor,
-            behind,
-        })
-    }
-
-    /// What is behind the text of this line's event and its newline, where the bytes begin with these. The text
-    /// is put in place of what `text` held.
+    /// What is behind the text of this event and its newline, where the bytes begin with these. The text is put in
+    /// place of what `text` held.
     pub(crate) fn behind<'a>(
         &self,
-        line: &Line,
+        event: &Event,
         text: &mut LineText,
         bytes: &'a [u8],
     ) -> Option<&'a [u8]>
-        requires { is_line (length self.now.devices) (length self.now.callers) line.now ≡ true }
-        ensures { IfSome result (λ left. bytes.now ≡ event_text self.now line.now.event ++ (10 ∷ left.now)) }
+        requires { is_event_of (length self.now.devices) event.now ≡ true }
+        ensures { IfSome result (λ left. bytes.now ≡ event_text self.now event.now ++ (10 ∷ left.now)) }
     {
-        self.at_hand.spell_event(&line.event, text);
-        behind(b"\n", behind(text.as_slice(), bytes)?)
+        self.at_hand.spell_event(event, text);
+        let (first, left) = behind(text.as_slice(), bytes)?.split_first()?;
+        if *first != b'\n' {
+            return None;
+        }
+        Some(left)
     }
 
     /// The line of the plan whose text this is behind a line of that time, in format 2 where that is true.

@@ -1,49 +1,53 @@
-//! A judge that reads lines.
+//! A taker that reads lines.
 
-ghost use Rattle.std.specs.Prelude.{◌≡◌, [], List, IfErr, IfNone, IfOk, IfSome};
+ghost use Rattle.std.specs.Prelude.{◌≡◌, ◌<◌, ◌^◌, [], List, ℕ, Bool, None, Some, IfErr, IfNone, IfOk, IfSome, if◌then◌else◌, length, true};
 ghost use Rattle.pm_audit.specs.Auditing.{IsRead};
-ghost use Rattle.pm_audit.specs.Offers.{HasTakenFirst};
+ghost use Rattle.pm_audit.specs.Offers.{HasTakenFirst, IsFront};
+ghost use Rattle.pm_book.specs.Takings.{TakerStandsFor};
 ghost use Rattle.pm_judge.specs.Judging.{JudgeStandsFor};
 ghost use Rattle.pm_model.specs.declared.event.Line.{Line as ALine};
 ghost use Rattle.pm_model.specs.Lawful.{IsLawful, is_finished};
+ghost use Rattle.pm_model.specs.LineOf.{is_actor_of};
 ghost use Rattle.pm_model.specs.Text.{names_of};
 ghost use Rattle.pm_model.specs.World.{world};
 
 use crate::fronts::Fronts;
-use crate::offers::PlanNames;
+use crate::offers::{Front, PlanNames};
 use crate::reading::NoWhy;
 use pm_base::NoMemory;
-use pm_judge::{Bad, Judge};
+use pm_book::{Book, Taker};
+use pm_judge::Bad;
 use pm_model::{Line, Move, Plan};
 use std::alloc::Global;
 use std::marker::Model;
 
-/// A judge with the names of its plan. Contracts see the judge.
+/// A taker with the names of its plan. Contracts see the taker.
 #[derive(Drop)]
 pub struct Reader {
-    judge: Judge,
+    taker: Taker,
     names: PlanNames,
     fronts: Fronts,
 }
 
 impl Model for Reader {
     ghost use Rattle.std.specs.Prelude.{◌≡◌};
-    ghost use Rattle.pm_judge.specs.Judging.{Judged};
+    ghost use Rattle.pm_book.specs.Takings.{Takings};
     ghost use Rattle.pm_model.specs.Text.{names_of};
 
-    ghost Value = { Judged };
+    ghost Value = { Takings };
 
-    ghost view = { λ r. r.judge };
+    ghost view = { λ r. r.taker };
 
-    ghost invariant = { λ r. r.names ≡ names_of r.judge.plan };
+    ghost invariant = { λ r. r.names ≡ names_of r.taker.judge.plan };
 }
 
 impl Reader {
-    /// A judge of a plan, which stands for no lines. All memory is taken here; where it runs out, the plan is
-    /// handed back.
-    pub fn start(alloc: Global, plan: Plan) -> Result<Reader, (Plan, NoMemory)>
-        ensures plan { IfOk result (λ reader. reader.plan ≡ plan) }
-        ensures stands { IfOk result (λ reader. JudgeStandsFor reader []) }
+    /// A taker of a plan's lines, which has taken none, and keeps lines where that is asked for. All memory but that
+    /// of lines is taken here; where it runs out, the plan is handed back.
+    pub fn start(alloc: Global, plan: Plan, keeps: bool) -> Result<Reader, (Plan, NoMemory)>
+        ensures plan { IfOk result (λ reader. reader.judge.plan ≡ plan) }
+        ensures stands { IfOk result (λ reader. TakerStandsFor reader []) }
+        ensures kept { IfOk result (λ reader. reader.kept ≡ (if keeps then Some [] else None)) }
         ensures err { IfErr result (λ back. back.0 ≡ plan) }
     {
         let names = match PlanNames::new(alloc, &plan) {
@@ -54,9 +58,9 @@ impl Reader {
             Ok(fronts) => fronts,
             Err(error) => return Err((plan, error)),
         };
-        match Judge::start(alloc, plan) {
-            Ok(judge) => Ok(Reader {
-                judge,
+        match Taker::start(alloc, plan, keeps) {
+            Ok(taker) => Ok(Reader {
+                taker,
                 names,
                 fronts,
             }),
@@ -66,16 +70,16 @@ impl Reader {
 
     /// How many lines there are.
     pub fn lines(&self) -> u32
-        ensures { result ≡ self.now.lines }
+        ensures { result ≡ self.now.judge.lines }
     {
-        self.judge.lines()
+        self.taker.judge().lines()
     }
 
     /// Whether the run is finished.
     pub fn finished(&self) -> bool
-        ensures { (h : List ALine) → JudgeStandsFor self.now h → result ≡ is_finished self.now.plan (world self.now.plan h) }
+        ensures { (h : List ALine) → JudgeStandsFor self.now.judge h → result ≡ is_finished self.now.judge.plan (world self.now.judge.plan h) }
     {
-        self.judge.finished()
+        self.taker.judge().finished()
     }
 
     /// Takes the line that may come next with whose text, in format 2 where that is true, and newline the
@@ -85,7 +89,7 @@ impl Reader {
         ensures left { IfNone result (self.new ≡ self.old) }
     {
         take_offered(
-            &mut self.judge,
+            &mut self.taker,
             &self.names,
             &mut self.fronts,
             is_format2,
@@ -95,54 +99,89 @@ impl Reader {
 
     /// Takes the line whose text this is, in format 2 where that is true, or says why it is bad.
     pub fn read(&mut self, is_format2: bool, text: &[u8]) -> Option<NoWhy>
-        ensures read { (h : List ALine) → IsLawful self.old.plan h → JudgeStandsFor self.old h → IsRead is_format2 self.old.plan h text.now self.new result }
-        ensures plan { self.new.plan ≡ self.old.plan }
+        ensures read { (h : List ALine) → IsLawful self.old.judge.plan h → TakerStandsFor self.old h → IsRead is_format2 self.old.judge.plan h text.now self.new result }
+        ensures plan { self.new.judge.plan ≡ self.old.judge.plan }
     {
-        read(&mut self.judge, &self.names, is_format2, text)
+        read(&mut self.taker, &self.names, is_format2, text)
+    }
+
+    /// The book of the lines that are kept. Memory is taken for whose turn it is; fails where it runs out, and
+    /// where no lines are kept.
+    pub fn finish(self, alloc: Global) -> Result<Book, NoMemory>
+        ensures plan { IfOk result (λ book. book.plan ≡ self.judge.plan) }
+        ensures lines { IfOk result (λ book. self.kept ≡ Some book.lines) }
+    {
+        self.taker.finish(alloc)
     }
 }
 
-// Takes the line that may come next with whose text, in format 2 where that is true, and newline the bytes
-// begin, where it is found by its time and its actor. Gives what is behind these.
-fn take_offered<'a>(
-    judge: &mut Judge,
+// Takes the line that this front's actor may write at its time, where the bytes behind the front are the text of
+// its event and begin with a newline behind that. Gives what is behind the newline.
+#[inline(always)]
+fn take_by<'a>(
+    taker: &mut Taker,
     names: &PlanNames,
     fronts: &mut Fronts,
-    is_format2: bool,
-    bytes: &'a [u8],
+    front: &Front<'a>,
 ) -> Option<&'a [u8]>
-    requires { names.now ≡ names_of judge.old.plan }
-    ensures taken { IfSome result (λ behind. HasTakenFirst is_format2 judge.old judge.new bytes.now behind.now) }
-    ensures left { IfNone result (judge.new ≡ judge.old) }
+    requires names { names.now ≡ names_of taker.old.judge.plan }
+    requires in_range { is_actor_of (length names.now.devices) (length names.now.callers) front.now.actor ≡ true }
+    requires in_time { front.now.time < 2 ^ 63 }
+    ensures taken { IfSome result (λ behind. (f : Bool) (bytes : List ℕ) → IsFront f names.now taker.old.judge.last bytes front.now → HasTakenFirst f taker.old taker.new bytes behind.now) }
+    ensures left { IfNone result (taker.new ≡ taker.old) }
 {
-    let last = judge.last_time();
-    let front = names.front(judge.plan(), last, fronts, is_format2, bytes)?;
-    if !judge.offer(front.actor, front.time, &mut fronts.row) {
+    if !taker
+        .judge()
+        .offer(front.actor, front.time, &mut fronts.row)
+    {
         return None;
     }
     let Move::Write(event, change, next) = &fronts.row else {
         return None;
     };
+    let behind = names.behind(event, &mut fronts.text, front.behind)?;
     let line = Line {
         time: front.time,
         actor: front.actor,
         event: *event,
     };
-    let behind = names.behind(&line, &mut fronts.text, front.behind)?;
-    judge.accept(&line, *change, next);
+    taker.accept(&line, *change, next);
     fronts.note(front.actor);
     Some(behind)
 }
 
-// Takes the line whose text this is, in format 2 where that is true, or says why it is bad.
-fn read(judge: &mut Judge, names: &PlanNames, is_format2: bool, text: &[u8]) -> Option<NoWhy>
-    ensures read { (h : List ALine) → IsLawful judge.old.plan h → JudgeStandsFor judge.old h → IsRead is_format2 judge.old.plan h text.now judge.new result }
-    ensures plan { judge.new.plan ≡ judge.old.plan }
+// Takes the line that may come next with whose text, in format 2 where that is true, and newline the bytes
+// begin, where it is found by its time and its actor. Gives what is behind these.
+fn take_offered<'a>(
+    taker: &mut Taker,
+    names: &PlanNames,
+    fronts: &mut Fronts,
+    is_format2: bool,
+    bytes: &'a [u8],
+) -> Option<&'a [u8]>
+    requires { names.now ≡ names_of taker.old.judge.plan }
+    ensures taken { IfSome result (λ behind. HasTakenFirst is_format2 taker.old taker.new bytes.now behind.now) }
+    ensures left { IfNone result (taker.new ≡ taker.old) }
 {
+    let last = taker.judge().last_time();
+    if let Some(front) = names.likely_front(last, fronts, is_format2, bytes) {
+        return take_by(taker, names, fronts, &front);
+    }
+    let plan = taker.judge().plan();
+    let front = names.front_apart(plan, last, &mut fronts.time, is_format2, bytes)?;
+    take_by(taker, names, fronts, &front)
+}
+
+// Takes the line whose text this is, in format 2 where that is true, or says why it is bad.
+fn read(taker: &mut Taker, names: &PlanNames, is_format2: bool, text: &[u8]) -> Option<NoWhy>
+    ensures read { (h : List ALine) → IsLawful taker.old.judge.plan h → TakerStandsFor taker.old h → IsRead is_format2 taker.old.judge.plan h text.now taker.new result }
+    ensures plan { taker.new.judge.plan ≡ taker.old.judge.plan }
+{
+    let judge = taker.judge();
     let Some(line) = names.line_of(judge.plan(), judge.last_time(), is_format2, text) else {
         return Some(NoWhy::Text);
     };
-    match judge.judge(&line) {
+    match taker.take_line(&line) {
         Ok(()) => None,
         Err(Bad::Limit) => Some(NoWhy::Limit),
         Err(Bad::Step) => Some(NoWhy::Step),

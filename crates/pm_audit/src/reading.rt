@@ -47,9 +47,9 @@ pub(crate) fn told(format: Format) -> Option<bool>
 }
 
 // Takes one more whole line, without its newline, or says why it is bad.
-fn take(judge: &mut Reader, format: &mut Format, text: &[u8]) -> Option<NoWhy>
-    ensures taken { (whole : List ℕ) (h : List ALine) → is_within_line text.now ≡ true → IsGood judge.old.plan judge.old format.old whole h → IsTaken judge.old.plan whole h text.now format.new judge.new result }
-    ensures plan { judge.new.plan ≡ judge.old.plan }
+fn take(reader: &mut Reader, format: &mut Format, text: &[u8]) -> Option<NoWhy>
+    ensures taken { (whole : List ℕ) (h : List ALine) → is_within_line text.now ≡ true → IsGood reader.old.judge.plan reader.old format.old whole h → IsTaken reader.old.judge.plan whole h text.now format.new reader.new result }
+    ensures plan { reader.new.judge.plan ≡ reader.old.judge.plan }
 {
     match *format {
         Format::Untold => {
@@ -58,21 +58,21 @@ fn take(judge: &mut Reader, format: &mut Format, text: &[u8]) -> Option<NoWhy>
                 return None;
             }
             *format = Format::One;
-            judge.read(false, text)
+            reader.read(false, text)
         }
-        Format::One => judge.read(false, text),
-        Format::Two => judge.read(true, text),
+        Format::One => reader.read(false, text),
+        Format::Two => reader.read(true, text),
     }
 }
 
 // Takes a whole line that is the rest, or says why it is bad.
-fn take_rest(judge: &mut Reader, format: &mut Format, rest: &Rest) -> Option<NoWhy>
-    ensures taken { (whole line : List ℕ) (h : List ALine) → IsRest rest.now line → is_within_line line ≡ true → IsGood judge.old.plan judge.old format.old whole h
-        → IsTaken judge.old.plan whole h line format.new judge.new result }
-    ensures plan { judge.new.plan ≡ judge.old.plan }
+fn take_rest(reader: &mut Reader, format: &mut Format, rest: &Rest) -> Option<NoWhy>
+    ensures taken { (whole line : List ℕ) (h : List ALine) → IsRest rest.now line → is_within_line line ≡ true → IsGood reader.old.judge.plan reader.old format.old whole h
+        → IsTaken reader.old.judge.plan whole h line format.new reader.new result }
+    ensures plan { reader.new.judge.plan ≡ reader.old.judge.plan }
 {
     match rest.bytes() {
-        Some(text) => take(judge, format, text),
+        Some(text) => take(reader, format, text),
         None => Some(NoWhy::Text),
     }
 }
@@ -80,22 +80,22 @@ fn take_rest(judge: &mut Reader, format: &mut Format, rest: &Rest) -> Option<NoW
 /// Takes the whole line that the rest begins and this piece ends, or says why it is bad. Nothing is left of
 /// the rest.
 pub(crate) fn end_line(
-    judge: &mut Reader,
+    reader: &mut Reader,
     format: &mut Format,
     rest: &mut Rest,
     piece: &[u8],
 ) -> Option<NoWhy>
     requires { is_within_line piece.now ≡ true }
-    ensures taken { (whole begun : List ℕ) (h : List ALine) → IsRest rest.old begun → is_within_line begun ≡ true → IsGood judge.old.plan judge.old format.old whole h
-        → IsTaken judge.old.plan whole h (begun ++ piece.now) format.new judge.new result }
+    ensures taken { (whole begun : List ℕ) (h : List ALine) → IsRest rest.old begun → is_within_line begun ≡ true → IsGood reader.old.judge.plan reader.old format.old whole h
+        → IsTaken reader.old.judge.plan whole h (begun ++ piece.now) format.new reader.new result }
     ensures rest { rest.new ≡ Some [] }
-    ensures plan { judge.new.plan ≡ judge.old.plan }
+    ensures plan { reader.new.judge.plan ≡ reader.old.judge.plan }
 {
     if rest.is_empty() {
-        return take(judge, format, piece);
+        return take(reader, format, piece);
     }
     rest.push(piece);
-    let bad = take_rest(judge, format, rest);
+    let bad = take_rest(reader, format, rest);
     rest.clear();
     bad
 }

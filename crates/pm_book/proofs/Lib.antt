@@ -4,3 +4,4 @@ pub mod PageLemmas
 pub mod ScriptLemmas
 pub mod GrowLemmas
 pub mod TakeLemmas
+pub mod TakerLemmas

@@ -20,7 +20,7 @@ use Rattle.pm_model.specs.World.{World, move, stage_at, start, world}
 use Rattle.pm_state.specs.Standing.{IsOf, Standing, StandsWell, after_write, can_go_on}
 use Rattle.pm_state.specs.Turns.{running_due}
 use Rattle.pm_turns.specs.Turning.{Index, IsIndex, Leads}
-use Rattle.pm_book.specs.Pages.{Adds, BeginsWithin, IsDrafted, IsKept, Longer, MayGo, MayWrite, Pages, by_move, moment_from, running, step_answer, world_of}
+use Rattle.pm_book.specs.Pages.{Adds, BeginsWithin, IsKept, Longer, MayGo, MayWrite, Pages, by_move, moment_from, running, step_answer, world_of}
 use Rattle.pm_book.specs.declared.steps.Step.{Step}
 use Rattle.pm_book.specs.declared.steps.Step.TheVariants as step
 use Rattle.pm_judge.specs.Sometime.{Writes}
@@ -60,43 +60,22 @@ leads plan h w s line c next lawful same may = record {
   world_is = after plan h w s line c next same may;
 }
 
--- a line that may come next may be written at the stage where its actor stands
-pub may_of : (p q : Pages) (line : Line) (c : Change) (next : Then) → q ≡ p → Writes p.plan (world_of p) (last_time p.lines) line c next → line.time < 2 ^ 63 → length p.lines < p.plan.lines
-    → (s : Stage) × MayWrite q.plan q.lines s line c next
-may_of p q line c next same may in_time room =
-    subst (λ (x : Pages). (s : Stage) × MayWrite x.plan x.lines s line c next) (sym same)
-    (may.stage, record { may = record { stands = may.stands; later = may.in_time; in_time = in_time; room = room }; gives = may.gives })
-
--- a book keeps what a draft keeps, and the turns
-pub drafted_of : (plan : Plan) (state : Standing) (turns : Index) (ends limit : ℕ) (h : List Line) → IsKept plan state turns ends limit h → IsDrafted plan state ends limit h
-drafted_of plan state turns ends limit h kept =
-    record { lawful = kept.lawful; world_is = kept.world_is; is_of = kept.is_of; in_time = kept.in_time; limit_is = kept.limit_is; each = kept.each }
-
-pub kept_of : (plan : Plan) (state : Standing) (turns : Index) (ends limit : ℕ) (h : List Line) → IsDrafted plan state ends limit h → IsIndex plan h turns → IsKept plan state turns ends limit h
-kept_of plan state turns ends limit h kept are =
-    record { lawful = kept.lawful; world_is = kept.world_is; is_of = kept.is_of; turns_are = are; in_time = kept.in_time; limit_is = kept.limit_is; each = kept.each }
-
--- a line that may be written keeps what a draft keeps, where places are kept for the callbacks that run then
-pub drafted_step : (plan : Plan) (state : Standing) (ends ends' limit : ℕ) (h : List Line) (s : Stage) (line : Line) (c : Change) (next : Then) → IsDrafted plan state ends limit h
-    → MayWrite plan h s line c next → running (after_write plan (world plan h) c line next) ≤ ends' → IsDrafted plan (record state { world = after_write plan state.world c line next }) ends' limit (line ∷ h)
-drafted_step plan state ends ends' limit h s line c next kept may room =
+-- a line that may be written keeps what a book keeps, where places are kept for the callbacks that run then, and the turns
+-- are those after it
+pub kept_step : (plan : Plan) (state : Standing) (turns turns' : Index) (ends ends' limit : ℕ) (h : List Line) (s : Stage) (line : Line) (c : Change) (next : Then)
+    → IsKept plan state turns ends limit h → MayWrite plan h s line c next → running (after_write plan (world plan h) c line next) ≤ ends' → IsIndex plan (line ∷ h) turns'
+    → IsKept plan (record state { world = after_write plan state.world c line next }) turns' ends' limit (line ∷ h)
+kept_step plan state turns turns' ends ends' limit h s line c next kept may room are =
     let led = leads plan h state.world s line c next kept.lawful kept.world_is may in
     record {
       lawful = led.lawful;
       world_is = led.world_is;
       is_of = stays_of plan state c line next kept.is_of;
+      turns_are = are;
       in_time = may.may.in_time;
       limit_is = kept.limit_is;
       each = subst (λ (x : World). running (after_write plan x c line next) ≤ ends') (sym kept.world_is) room;
     }
-
--- and what a book keeps, where the turns are those after it
-pub kept_step : (plan : Plan) (state : Standing) (turns turns' : Index) (ends ends' limit : ℕ) (h : List Line) (s : Stage) (line : Line) (c : Change) (next : Then)
-    → IsKept plan state turns ends limit h → MayWrite plan h s line c next → running (after_write plan (world plan h) c line next) ≤ ends' → IsIndex plan (line ∷ h) turns'
-    → IsKept plan (record state { world = after_write plan state.world c line next }) turns' ends' limit (line ∷ h)
-kept_step plan state turns turns' ends ends' limit h s line c next kept may room are =
-    kept_of plan (record state { world = after_write plan state.world c line next }) turns' ends' limit (line ∷ h)
-    (drafted_step plan state ends ends' limit h s line c next (drafted_of plan state turns ends limit h kept) may room) are
 
 -- more room for lines changes nothing of it
 pub kept_lines : (plan : Plan) (state : Standing) (turns : Index) (ends ends' limit limit' : ℕ) (lines lines' : List Line) → IsKept plan state turns ends limit (reverse lines)
@@ -104,12 +83,6 @@ pub kept_lines : (plan : Plan) (state : Standing) (turns : Index) (ends ends' li
 kept_lines plan state turns ends ends' limit limit' lines lines' kept count most all =
     subst (λ (l : List Line). IsKept plan state turns ends' limit' (reverse l)) (sym all)
     (subst (λ n. IsKept plan state turns n limit' (reverse lines)) (sym count) (subst (λ n. IsKept plan state turns ends n (reverse lines)) (sym most) kept))
-
-pub drafted_lines : (plan : Plan) (state : Standing) (ends ends' limit limit' : ℕ) (lines lines' : List Line) → IsDrafted plan state ends limit (reverse lines) → ends' ≡ ends → limit' ≡ limit
-    → lines' ≡ lines → IsDrafted plan state ends' limit' (reverse lines')
-drafted_lines plan state ends ends' limit limit' lines lines' kept count most all =
-    subst (λ (l : List Line). IsDrafted plan state ends' limit' (reverse l)) (sym all)
-    (subst (λ n. IsDrafted plan state n limit' (reverse lines)) (sym count) (subst (λ n. IsDrafted plan state ends n (reverse lines)) (sym most) kept))
 
 later_than : (h : List Line) (now : ℕ) → last_time h ≤ moment_from h now
 later_than h now = grind (arith, common_steps)
@@ -152,17 +125,20 @@ pub moves_answer : (p : Pages) (actor : ActorId) (now t : ℕ) (s : Stage) (x : 
     → stage_at p.plan (world_of p) actor ≡ Some s → running_due p.plan s ≡ None → x ≡ by_move (world_of p).views (move p.plan (world_of p).views s t) → x ≡ step_answer p actor now
 moves_answer p actor now t s x free at stands rests is = rw (free, stands, rests, ← at) is
 
--- an empty draft and an empty book
-pub drafted_start : (plan : Plan) (state : Standing) (ends limit : ℕ) (lines : List Line) → IsOf plan state → state.world ≡ start plan → limit ≡ plan.lines → lines ≡ [] → IsDrafted plan state ends limit (reverse lines)
-drafted_start plan state ends limit lines is_of same most empty =
-    subst (λ (l : List Line). IsDrafted plan state ends limit (reverse l)) (sym empty)
-    (record { lawful = tt; world_is = same; is_of = is_of; in_time = omega arith; limit_is = most; each = subst (λ (w : World). running w ≤ ends) (sym same) (omega (arith, start_running plan)) })
-
+-- an empty book
 pub kept_start : (plan : Plan) (state : Standing) (turns : Index) (ends limit : ℕ) (lines : List Line) → IsOf plan state → state.world ≡ start plan → IsIndex plan [] turns
     → limit ≡ plan.lines → lines ≡ [] → IsKept plan state turns ends limit (reverse lines)
 kept_start plan state turns ends limit lines is_of same are most empty =
-    kept_of plan state turns ends limit (reverse lines) (drafted_start plan state ends limit lines is_of same most empty)
-    (subst (λ (l : List Line). IsIndex plan (reverse l) turns) (sym empty) are)
+    subst (λ (l : List Line). IsKept plan state turns ends limit (reverse l)) (sym empty)
+    (record {
+      lawful = tt;
+      world_is = same;
+      is_of = is_of;
+      turns_are = are;
+      in_time = omega arith;
+      limit_is = most;
+      each = subst (λ (w : World). running w ≤ ends) (sym same) (omega (arith, start_running plan));
+    })
 
 -- a callback that begins is one of the plan's devices
 pub begins_within : (n : ℕ) (e : Event) → is_event_of n e ≡ true → BeginsWithin n e

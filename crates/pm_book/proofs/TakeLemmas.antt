@@ -1,20 +1,13 @@
 -- What a judge says of a line, said by a book.
-use Rattle.std.proofs.Common.{ℕ, ◌≡◌, ◌<◌, false, Result, Ok, Err, length, refl, subst, sym}
+use Rattle.std.proofs.Common.{◌≡◌, ◌<◌, false, Result, Ok, Err, length, refl, subst, sym}
 use Rattle.std.specs.Result.{IsErrAnd}
 use Rattle.std.proofs.lemmas.Result.{err_from_is_err_and}
-use Rattle.pm_base.specs.declared.ActorId.{ActorId}
-use Rattle.pm_model.specs.declared.event.Event.{Event}
 use Rattle.pm_model.specs.declared.event.Line.{Line}
 use Rattle.pm_model.specs.declared.plan.Plan.{Plan}
-use Rattle.pm_model.specs.declared.stage.Move.{Move}
 use Rattle.pm_model.specs.History.{History}
-use Rattle.pm_model.specs.Lawful.{last_time}
-use Rattle.pm_model.specs.World.{World, world}
 use Rattle.pm_judge.specs.declared.judge.Bad.{Bad}
 use Rattle.pm_judge.specs.declared.judge.Bad.TheVariants as bad
 use Rattle.pm_judge.specs.Judging.{IsAnswer}
-use Rattle.pm_judge.specs.Offering.{IsOffer}
-use Rattle.pm_judge.specs.Sometime.{MayCome}
 use Rattle.pm_book.specs.Pages.{Pages, is_full}
 use Rattle.pm_book.specs.Takes.{fault_of, judged_as}
 use Rattle.pm_book.specs.declared.taking.TakeFault.{TakeFault}
@@ -42,15 +35,3 @@ pub lacks : (plan : Plan) (h : History) (line : Line) (r : Result (Unit {0}) Tak
 lacks plan h line r is taken =
     let p = err_from_is_err_and r is in
     subst (λ x. IsAnswer plan h line (judged_as x)) (sym p.1) (subst (λ f. IsAnswer plan h line (judged_as (Err f))) (sym p.2) taken)
-
--- what a judge offers of a state is offered of the list that leads to it
-pub offer_writes : (plan : Plan) (w : World) (last t : ℕ) (actor : ActorId) (h : History) (m : Move) → w ≡ world plan h → last ≡ last_time h → IsOffer plan w last actor t m
-    → IsOffer plan (world plan h) (last_time h) actor t m
-offer_writes plan w last t actor h m same at may = subst (λ (x : World). IsOffer plan x (last_time h) actor t m) same (subst (λ n. IsOffer plan w n actor t m) at may)
-
-pub none_offered : (plan : Plan) (w : World) (last t : ℕ) (actor : ActorId) (h : History) → w ≡ world plan h → last ≡ last_time h
-    → ((event : Event) → MayCome plan w last (record { time = t; actor = actor; event = event }) → ⊥)
-    → (event : Event) → MayCome plan (world plan h) (last_time h) (record { time = t; actor = actor; event = event }) → ⊥
-none_offered plan w last t actor h same at none =
-    subst (λ (x : World). (event : Event) → MayCome plan x (last_time h) (record { time = t; actor = actor; event = event }) → ⊥) same
-    (subst (λ n. (event : Event) → MayCome plan w n (record { time = t; actor = actor; event = event }) → ⊥) at none)

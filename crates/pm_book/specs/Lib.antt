@@ -2,3 +2,4 @@ pub mod Growing
 pub mod Pages
 pub mod Sheets
 pub mod Takes
+pub mod Takings

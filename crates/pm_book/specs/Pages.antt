@@ -135,16 +135,6 @@ runs_here s = one (runs_callback s)
 abbrev pub running : World → ℕ
 running w = tally runs_here (places w)
 
--- the list is lawful, the state is that after it, there may be as many lines as the plan allows, and for the end line of
--- each callback that runs a place is kept
-pub record IsDrafted (plan : Plan) (state : Standing) (ends limit : ℕ) (h : List Line) : Type 0 where
-  pub lawful : IsLawful plan h
-  pub world_is : state.world ≡ world plan h
-  pub is_of : IsOf plan state
-  pub in_time : last_time h < 2 ^ 63
-  pub limit_is : limit ≡ plan.lines
-  pub each : running state.world ≤ ends
-
 -- the list is lawful, the state and the turns are those after it, there may be as many lines as the plan allows, and for
 -- the end line of each callback that runs a place is kept
 pub record IsKept (plan : Plan) (state : Standing) (turns : Index) (ends limit : ℕ) (h : List Line) : Type 0 where

@@ -1,5 +1,5 @@
 -- The lines of a book, and the places for more (this project's own).
-use Rattle.std.specs.Prelude.{◌+◌, ◌-◌, ◌/◌, ◌<◌, ◌≤◌, ◌^◌, ℕ, Bool, true, false, List, min, nat_le, if◌then◌else◌}
+use Rattle.std.specs.Prelude.{◌≡◌, ◌+◌, ◌-◌, ◌/◌, ◌<◌, ◌≤◌, ◌^◌, ◌++◌, ◌∷◌, ℕ, Bool, true, false, List, [], Option, Some, None, min, nat_le, if◌then◌else◌}
 use Rattle.pm_model.specs.declared.event.Event.{Event}
 use Rattle.pm_model.specs.declared.event.Event.TheVariants as event
 use Rattle.pm_model.specs.declared.event.Line.{Line}
@@ -29,3 +29,15 @@ pub record AreEnough (limit places lines ends : ℕ) : Type 0 where
   pub few : lines ≤ limit
   pub begun : ends ≤ lines
   pub kept : min (lines + ends) limit ≤ places
+
+-- one line more, for whose callback, where it begins one, a place is kept
+pub record HasLine (old new : Sheet) (line : Line) (begins : ℕ) : Type 0 where
+  pub lines : new.lines ≡ old.lines ++ line ∷ []
+  pub ends : new.ends ≡ old.ends + begins
+  pub limit : new.limit ≡ old.limit
+
+-- lines that are kept are so with one more, or they are no longer kept; those that aren't kept stay so
+abbrev pub KeepsLine : Option Sheet → Option Sheet → Line → ℕ → Type 0
+KeepsLine (Some old) (Some new) line begins = HasLine old new line begins
+KeepsLine None (Some new) line begins = ⊥
+KeepsLine _ None line begins = Unit {0}

@@ -2,17 +2,16 @@
 #![tactic(auto)]
 
 mod book;
-mod drafting;
 mod growing;
 mod laws;
 mod lines;
-mod offering;
 mod steps;
+mod taker;
 mod taking;
 mod writing;
 
 pub use book::Book;
-pub use drafting::Draft;
 pub use growing::ExtendFault;
 pub use steps::{EndStep, Step};
+pub use taker::Taker;
 pub use taking::TakeFault;

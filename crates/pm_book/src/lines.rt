@@ -1,7 +1,7 @@
 //! The lines of a book, and the places that are kept for more.
 
 ghost use Rattle.std.specs.Prelude.{◌≡◌, ◌+◌, ◌-◌, ◌*◌, ◌<◌, ◌≤◌, ◌^◌, ◌++◌, ◌∷◌, [], length, min, reverse, IsOk, OnErr, OnOk};
-ghost use Rattle.pm_book.specs.Sheets.{Sheet};
+ghost use Rattle.pm_book.specs.Sheets.{HasLine, Sheet};
 ghost use Rattle.pm_model.specs.Lawful.{last_time};
 ghost use Rattle.pm_sums.specs.Sums.{one};
 
@@ -113,6 +113,18 @@ impl Lines {
     {
         self.ends += usize::from(begins);
         self.lines.push_reserved(line);
+    }
+
+    /// Writes a line that there may be, and takes memory for it where it has none. After `NoMemory` nothing is
+    /// changed.
+    pub fn write(&mut self, line: Line, begins: bool) -> Result<(), NoMemory>
+        requires { length self.old.lines < self.old.limit }
+        ensures ok { OnOk result (HasLine self.old self.new line (one begins)) }
+        ensures err { OnErr result (self.new ≡ self.old) }
+    {
+        self.reserve(1)?;
+        self.push(line, begins);
+        Ok(())
     }
 
     /// Writes an end line at a place that is kept for it.

@@ -1,4 +1,4 @@
-//! How a book and a draft take a line that was written elsewhere.
+//! How a book takes a line that was written elsewhere.
 
 ghost use Rattle.std.specs.Prelude.{◌≡◌, ◌≢◌, ◌<◌, ◌^◌, Err, OnErr, OnOk};
 ghost use Rattle.pm_judge.specs.Judging.{IsAnswer};
@@ -7,7 +7,6 @@ ghost use Rattle.pm_book.specs.Pages.{Longer};
 ghost use Rattle.pm_book.specs.Takes.{judged_as};
 
 use crate::book::Book;
-use crate::drafting::Draft;
 use crate::laws::all_stand_well;
 use pm_base::NoMemory;
 use pm_judge::{Bad, decide};
@@ -70,26 +69,6 @@ impl Book {
         all_stand_well();
         let coming = decide(&self.plan, &self.state, self.lines.last_time(), line)?;
         self.write(&coming.stage, line, coming.change, &coming.next)?;
-        Ok(())
-    }
-}
-
-impl Draft {
-    /// The same of a draft.
-    pub fn take_line(&mut self, line: &Line) -> Result<(), TakeFault>
-        requires in_range { IsActor self.old.plan line.now.actor }
-        requires in_time { line.now.time < 2 ^ 63 }
-        ensures answer { IsAnswer self.old.plan self.old.lines line.now (judged_as result) }
-        ensures ok { OnOk result (Longer self.old self.new line.now) }
-        ensures room { 0 < self.old.spare → result ≢ Err TakeFault.NoMemory }
-        ensures err { OnErr result (self.new ≡ self.old) }
-    {
-        if self.is_full() {
-            return Err(TakeFault::Limit);
-        }
-        all_stand_well();
-        let coming = decide(&self.plan, &self.state, self.lines.last_time(), line)?;
-        self.accept(line, coming.change, &coming.next)?;
         Ok(())
     }
 }

@@ -8,7 +8,7 @@ ghost use Rattle.pm_model.specs.declared.event.Event.{Event};
 ghost use Rattle.pm_model.specs.declared.event.Line.{Line};
 ghost use Rattle.pm_model.specs.Lawful.{IsLawful, is_finished};
 ghost use Rattle.pm_model.specs.World.{world};
-ghost use Rattle.pm_state.specs.Standing.{IsActor};
+ghost use Rattle.pm_state.specs.Standing.{IsActor, IsOf};
 
 use crate::deciding::decide;
 use crate::laws::{all_stand_well, each_line_fits, each_line_is_taken};
@@ -149,6 +149,16 @@ impl Judge {
         self.state.go(&self.plan, change, line, next);
         self.last = line.time;
         self.lines += 1;
+    }
+
+    /// The plan, and the counters and places after the lines.
+    pub fn into_parts(self) -> (Plan, State)
+        ensures plan { result.0 ≡ self.plan }
+        ensures world { result.1.world ≡ self.world }
+        ensures is_of { IsOf result.0 result.1 }
+        ensures in_time { self.last < 2 ^ 63 }
+    {
+        (self.plan, self.state)
     }
 
     /// Whether the run is finished: each script has ended, each place is empty, no device is queued and no

@@ -8,7 +8,7 @@ use Rattle.pm_base.specs.declared.limits.TheConstants.{TRACE_BYTES}
 use Rattle.pm_io.proofs.Unread.{prepend_known_append}
 use Rattle.pm_model.specs.declared.plan.Plan.{Plan}
 use Rattle.pm_model.specs.Verdict.{IsVerdict, Verdict}
-use Rattle.pm_endings.specs.Reading.{Holds, IsTooLong}
+use Rattle.pm_endings.specs.Reading.{IsTooLong}
 use Rattle.pm_traces.specs.Feeding.{IsFed, IsJudged, IsTold}
 
 -- an auditor that was fed one piece more
@@ -61,8 +61,8 @@ pub fed_too_long : (told unread : Option (List ℕ)) (auditor : Auditor) (count 
 fed_too_long told unread auditor count fed long = longer told unread fed.bytes TRACE_BYTES fed.known (omega (arith, fed.count_is, long))
 
 -- what is said of the whole file
-pub judged_of : (all : Bool) (told : Option (List ℕ)) (auditor : Auditor) (plan : Plan) (v : Verdict) → auditor.judge.plan ≡ plan → IsTold all told auditor
-    → ((b : List ℕ) → AuditorStandsFor auditor b → IsVerdict auditor.judge.plan b v) → IsJudged all told plan v
+pub judged_of : (all : Bool) (told : Option (List ℕ)) (auditor : Auditor) (plan : Plan) (v : Verdict) → auditor.reader.judge.plan ≡ plan → IsTold all told auditor
+    → ((b : List ℕ) → AuditorStandsFor auditor b → IsVerdict auditor.reader.judge.plan b v) → IsJudged all told plan v
 judged_of all told auditor plan v plan_is fed says = record {
   bytes = fed.bytes;
   holds = fed.holds;

@@ -1,14 +1,13 @@
 -- What comes of a trace.
-use Rattle.std.proofs.Common.{◌≡◌, ℕ, Bool, List, Option, Some, Ok, Err, IfErr, IfOk, map, refl, slice_get}
+use Rattle.std.proofs.Common.{◌≡◌, ℕ, Bool, List, Option, Some, Ok, Err, IfErr, map, refl, slice_get, subst}
 use Rattle.std.specs.Prelude.{Result}
-use Rattle.pm_audit.specs.Auditing.{reason_of}
+use Rattle.pm_audit.specs.Auditing.{AuditorStandsFor, reason_of}
+use Rattle.pm_audit.specs.declared.auditor.Auditor.{Auditor}
 use Rattle.pm_base.specs.declared.DevId.{DevId}
 use Rattle.pm_base.specs.declared.limits.TheConstants.{TRACE_BYTES}
 use Rattle.pm_io.specs.declared.reading.FileFault.{FileFault}
 use Rattle.pm_io.specs.declared.reading.FileFault.TheVariants as file
-use Rattle.pm_book.specs.Pages.{Pages}
 use Rattle.pm_model.specs.declared.plan.Plan.{Plan}
-use Rattle.pm_model.specs.FirstBad.{StandsFor}
 use Rattle.pm_model.specs.History.{History}
 use Rattle.pm_model.specs.Lawful.{IsLawful}
 use Rattle.pm_model.specs.Verdict.{No, Verdict, YesFinished, YesOpen}
@@ -20,8 +19,8 @@ use Rattle.pm_endings.specs.Reading.{Holds, IsTooLong}
 use Rattle.pm_endings.specs.Said.{finished_line, no_line, open_line, verdict_line}
 use Rattle.pm_endings.specs.declared.ending.Fault.{Fault}
 use Rattle.pm_endings.specs.declared.ending.Fault.TheVariants as fault
-use Rattle.pm_traces.specs.Commands.{AuditEnds, OfAudit, OfDevice, OfWhy, is_finished, is_open, named, verdict_work}
-use Rattle.pm_traces.specs.Feeding.{IsJudged}
+use Rattle.pm_traces.specs.Commands.{OfAudit, OfDevice, OfWhy, is_finished, is_open, named, verdict_work}
+use Rattle.pm_traces.specs.Feeding.{IsJudged, IsTold}
 use Rattle.pm_traces.specs.Traces.{IsLoaded, IsNoBook, IsTraceUnread, IsUnloaded, OfTrace, bad, stands, too_many, trace_fault}
 
 -- a trace that isn't read whole
@@ -60,11 +59,7 @@ said_part all told plan YesOpen Unread out kept judged part failed =
     (Done open_line, stands judged.bytes judged.holds judged.is.0 judged.is.1 judged.is.2 _ (is_open (kept plan judged.is.0 judged.is.1) judged.is.3), part, failed)
 said_part all told plan (No n why) Unread out kept judged part failed = (SaidNo (no_line n why), bad judged.bytes judged.holds n why judged.is, part, failed)
 
--- bytes that are a book's text, or no book's
-pub loaded_of : (all : Bool) (told : Option (List ℕ)) (plan : Plan) (bytes : List ℕ) (r : Result Pages Fault) → Holds all told TRACE_BYTES bytes → IfOk r (λ book. IsLawful plan book.lines) → IfOk r (λ book. StandsFor plan bytes book.lines) → IfOk r (λ book. IsLoaded all told plan book.lines)
-loaded_of all told plan bytes (Ok book) holds lawful stands_for = record { bytes = bytes; holds = holds; lawful = lawful; stands_for = stands_for }
-loaded_of all told plan bytes (Err f) holds lawful stands_for = tt
-
+-- what the auditor was fed is no book's text
 no_book : (all : Bool) (told : Option (List ℕ)) (plan : Plan) (bytes : List ℕ) (Unread : Type 0) (f : Fault) → Holds all told TRACE_BYTES bytes → IsNoBook plan bytes f → IsUnloaded all told plan Unread f
 no_book all told plan bytes Unread (fault.Refused why section item part) holds none = absurd none
 no_book all told plan bytes Unread fault.TraceTooLong holds none = absurd none
@@ -76,14 +71,11 @@ no_book all told plan bytes Unread fault.WriteFailed holds none = absurd none
 no_book all told plan bytes Unread fault.AtLimit holds none = absurd none
 no_book all told plan bytes Unread fault.NoMemory holds none = tt
 
-pub unloaded_of : {B : Type 0} (all : Bool) (told : Option (List ℕ)) (plan : Plan) (bytes : List ℕ) (Unread : Type 0) (r : Result B Fault) → Holds all told TRACE_BYTES bytes → IfErr r (IsNoBook plan bytes) → IfErr r (IsUnloaded all told plan Unread)
-unloaded_of all told plan bytes Unread (Ok book) holds none = tt
-unloaded_of all told plan bytes Unread (Err f) holds none = no_book all told plan bytes Unread f holds none
-
-pub not_loaded : (all : Bool) (told : Option (List ℕ)) (plan : Plan) (Unread : Type 0) (f : FileFault) → IsTraceUnread told Unread (trace_fault f) → IsUnloaded all told plan Unread (trace_fault f)
-not_loaded all told plan Unread file.Failed unread = unread
-not_loaded all told plan Unread file.TooLong unread = unread
-not_loaded all told plan Unread file.NoMemory unread = unread
+pub unloaded_of : {B : Type 0} (all : Bool) (told : Option (List ℕ)) (plan : Plan) (auditor : Auditor) (Unread : Type 0) (r : Result B Fault) → auditor.reader.judge.plan ≡ plan → IsTold all told auditor
+    → IfErr r (λ f. (b : List ℕ) → AuditorStandsFor auditor b → IsNoBook auditor.reader.judge.plan b f) → IfErr r (IsUnloaded all told plan Unread)
+unloaded_of all told plan auditor Unread (Ok book) same fed none = tt
+unloaded_of all told plan auditor Unread (Err f) same fed none =
+    no_book all told plan fed.bytes Unread f fed.holds (subst (λ (p : Plan). IsNoBook p fed.bytes f) same (none fed.bytes fed.stands))
 
 -- a trace that stands for no list, or isn't read
 pub came_unloaded : (all : Bool) (told : Option (List ℕ)) (plan : Plan) (Ends : History → Ending → Type 0) (Unread : Type 0) (out : Taking) (f : Fault) → IsUnloaded all told plan Unread f → TookNothing out → Came (OfTrace all told plan NotLawful Ends) (Err f) Unread out

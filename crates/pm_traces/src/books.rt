@@ -1,21 +1,21 @@
 //! Traces that are read into books.
 
-ghost use Rattle.std.specs.Prelude.{◌≡◌, IfErr, IfOk};
+ghost use Rattle.std.specs.Prelude.{◌≡◌, List, ℕ, IfErr, IfOk};
+ghost use Rattle.pm_audit.specs.Auditing.{AuditorStandsFor};
+ghost use Rattle.pm_audit.specs.Loading.{AreLoaded};
 ghost use Rattle.pm_io.specs.Faults.{Rose};
-ghost use Rattle.pm_model.specs.FirstBad.{StandsFor};
-ghost use Rattle.pm_model.specs.Lawful.{IsLawful};
 ghost use Rattle.pm_traces.specs.Traces.{IsLoaded, IsNoBook, IsUnloaded};
 
-use crate::fault::trace_fault;
-use pm_audit::{LoadFault, load_trace};
-use pm_base::TRACE_BYTES;
+use crate::feeding::feed_trace;
+use pm_audit::{Auditor, LoadFault};
 use pm_book::Book;
 use pm_endings::Fault;
-use pm_io::{Files, read_all};
+use pm_io::Files;
 use pm_model::Plan;
 use std::alloc::Global;
 
-/// Reads the trace from its file, to its end, into a book of the plan.
+/// Reads the trace from its file, to its end, into a book of the plan. Its lines are kept, and no more of its bytes
+/// than a piece.
 pub(crate) fn load_book<F: Files>(
     alloc: Global,
     plan: Plan,
@@ -28,20 +28,21 @@ pub(crate) fn load_book<F: Files>(
     ensures unloaded { IfErr result (IsUnloaded F.tells_all (F.told files.old trace.now) plan
         (Rose (F.faults files.old) (F.faults files.new))) }
 {
-    match read_all(alloc, files, trace, TRACE_BYTES) {
-        Ok(bytes) => book_of(alloc, plan, &bytes),
-        Err(fault) => Err(trace_fault(fault)),
+    let Ok(mut auditor) = Auditor::keeping(alloc, plan) else {
+        return Err(Fault::NoMemory);
+    };
+    match feed_trace(alloc, files, trace, &mut auditor) {
+        Ok(()) => book_of(alloc, auditor),
+        Err(fault) => Err(fault),
     }
 }
 
-/// The book of the plan whose list the bytes stand for.
-fn book_of(alloc: Global, plan: Plan, bytes: &[u8]) -> Result<Book, Fault>
-    ensures plan { IfOk result (λ book. book.plan ≡ plan) }
-    ensures lawful { IfOk result (λ book. IsLawful plan book.lines) }
-    ensures stands { IfOk result (λ book. StandsFor plan bytes.now book.lines) }
-    ensures refused { IfErr result (IsNoBook plan bytes.now) }
+/// The book of the lines whose text the bytes are that the auditor was fed.
+fn book_of(alloc: Global, auditor: Auditor) -> Result<Book, Fault>
+    ensures loaded { IfOk result (λ book. (b : List ℕ) → AuditorStandsFor auditor b → AreLoaded auditor.reader.judge.plan b book) }
+    ensures refused { IfErr result (λ fault. (b : List ℕ) → AuditorStandsFor auditor b → IsNoBook auditor.reader.judge.plan b fault) }
 {
-    match load_trace(alloc, plan, bytes) {
+    match auditor.book(alloc) {
         Ok(book) => Ok(book),
         Err(LoadFault::No { line, why }) => Err(Fault::NotLawful { line, why }),
         Err(LoadFault::NoMemory) => Err(Fault::NoMemory),

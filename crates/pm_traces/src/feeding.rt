@@ -10,7 +10,7 @@ ghost use Rattle.pm_traces.specs.Traces.{IsTraceUnread};
 
 use crate::fault::trace_fault;
 use pm_audit::{Auditor, Verdict};
-use pm_base::{Failed, NoMemory, PIECE_BYTES, TRACE_BYTES};
+use pm_base::{Failed, PIECE_BYTES, TRACE_BYTES};
 use pm_endings::Fault;
 use pm_io::{FileFault, Files};
 use pm_model::Plan;
@@ -29,27 +29,38 @@ pub(crate) fn judge_trace<F: Files>(
     ensures unread { IfErr result (IsTraceUnread (F.told files.old trace.now)
         (Rose (F.faults files.old) (F.faults files.new))) }
 {
-    let mut piece = vec![in alloc; 0; PIECE_BYTES]?;
-    let mut auditor = start(alloc, plan)?;
-    match read_trace(files, trace, &mut piece, &mut auditor) {
+    let Ok(mut auditor) = Auditor::new(alloc, plan) else {
+        return Err(Fault::NoMemory);
+    };
+    match feed_trace(alloc, files, trace, &mut auditor) {
         Ok(()) => Ok(auditor.end()),
+        Err(fault) => Err(fault),
+    }
+}
+
+/// Feeds the auditor the bytes of the trace's file to its end, or says why it can't. The memory for a piece is
+/// taken before the file is started.
+pub(crate) fn feed_trace<F: Files>(
+    alloc: Global,
+    files: &mut F,
+    trace: &str,
+    auditor: &mut Auditor,
+) -> Result<(), Fault>
+    requires unfed { AuditorStandsFor auditor.old [] }
+    ensures told { OnOk result (IsTold F.tells_all (F.told files.old trace.now) auditor.new) }
+    ensures plan { auditor.new.reader.judge.plan ≡ auditor.old.reader.judge.plan }
+    ensures unread { IfErr result (IsTraceUnread (F.told files.old trace.now)
+        (Rose (F.faults files.old) (F.faults files.new))) }
+{
+    let mut piece = vec![in alloc; 0; PIECE_BYTES]?;
+    match read_trace(files, trace, &mut piece, auditor) {
+        Ok(()) => Ok(()),
         Err(fault) => Err(trace_fault(fault)),
     }
 }
 
-/// An auditor by the plan that was fed nothing.
-fn start(alloc: Global, plan: Plan) -> Result<Auditor, NoMemory>
-    ensures plan { IfOk result (λ auditor. auditor.judge.plan ≡ plan) }
-    ensures stands { IfOk result (λ auditor. AuditorStandsFor auditor []) }
-{
-    match Auditor::new(alloc, plan) {
-        Ok(auditor) => Ok(auditor),
-        Err((_plan, error)) => Err(error),
-    }
-}
-
 /// Feeds the auditor the bytes of the trace's file, in pieces, to its end. It is too long where one byte
-/// more than a trace may have was read. It takes no memory.
+/// more than a trace may have was read.
 fn read_trace<F: Files>(
     files: &mut F,
     trace: &str,
@@ -59,7 +70,7 @@ fn read_trace<F: Files>(
     requires piece { length piece.old ≡ PIECE_BYTES }
     requires unfed { AuditorStandsFor auditor.old [] }
     ensures told { OnOk result (IsTold F.tells_all (F.told files.old trace.now) auditor.new) }
-    ensures plan { auditor.new.judge.plan ≡ auditor.old.judge.plan }
+    ensures plan { auditor.new.reader.judge.plan ≡ auditor.old.reader.judge.plan }
     ensures too_long { IsErrOf result FileFault.TooLong → IsTooLong (F.told files.old trace.now) TRACE_BYTES }
     ensures failed { IsErrOf result FileFault.Failed → Rose (F.faults files.old) (F.faults files.new) }
     ensures never_falls { F.faults files.old ≤ F.faults files.new }
@@ -93,7 +104,7 @@ fn feed_piece<F: Files>(
         → IsFed told auditor.new (count + n) (F.unread files.new)) }
     ensures end { IfOk result (λ n. n ≡ 0 → IfSome (F.unread files.new) (λ more. more ≡ [])) }
     ensures moves { IfOk result (λ n. F.place files.new ≡ F.place files.old + n) }
-    ensures plan { auditor.new.judge.plan ≡ auditor.old.judge.plan }
+    ensures plan { auditor.new.reader.judge.plan ≡ auditor.old.reader.judge.plan }
     ensures failed { OnErr result (Rose (F.faults files.old) (F.faults files.new)) }
 
     ensures still_started { F.is_started files.new ≡ true }

@@ -1,9 +1,11 @@
--- By what the judge answers.
+-- By what the taker answers.
+use Rattle.std.proofs.Common.{◌∙◌, ap}
+use Rattle.pm_judge.specs.Judging.{Judged}
 use Rattle.pm_audit.proofs.Lines.{read_ok, spelled_as}
 use Rattle.pm_audit.proofs.reader.read.Goals as goal
 
 pub returns-in-Ok-clause-read : goal.returns-in-Ok-clause-read
 returns-in-Ok-clause-read c = λ h lawful stands.
-    let j = c.args.judge.now in
-    let spelled = spelled_as c.args.is_format2 c.plan.result.now j.plan c.last_time.result j.last c.in-Some.line c.args.text.now c.plan.ensures c.last_time.ensures.time c.in-Some.ensures.some in
-    read_ok c.args.is_format2 j c.judge.new.self h c.in-Some.line c.args.text.now stands spelled (c.in-Ok.ensures.answer h lawful stands) (c.in-Ok.ensures.taken h lawful stands)
+    let j = c.args.taker.now.judge in
+    let spelled = spelled_as c.args.is_format2 c.plan.result.now j.plan c.last_time.result j.last c.in-Some.line c.args.text.now (c.plan.ensures ∙ ap (λ (it : Judged). it.plan) c.judge-judge.ensures) (c.last_time.ensures.time ∙ ap (λ (it : Judged). it.last) c.judge-judge.ensures) c.in-Some.ensures.some in
+    read_ok c.args.is_format2 j c.take_line.new.self h c.in-Some.line c.args.text.now stands.judged spelled (c.in-Ok.ensures.answer h lawful stands.judged) (c.in-Ok.ensures.taken h lawful stands)

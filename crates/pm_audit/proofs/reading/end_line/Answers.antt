@@ -9,7 +9,7 @@ returns-then-is_empty-clause-taken c = λ whole begun h kept within good.
     let a = c.args in
     let empty : a.rest.now ≡ Some [] = c.is_empty.ensures.0 c.if-is_empty.true in
     let none : begun ≡ [] = subst (λ (o : Option (List ℕ)). IsRest o begun) empty kept in
-    subst (λ (l : List ℕ). IsTaken a.judge.now.plan whole h (l ++ a.piece.now) c.take.new.format c.take.new.judge c.take.result) (sym none) (c.take.ensures.taken whole h c.requires good)
+    subst (λ (l : List ℕ). IsTaken a.reader.now.judge.plan whole h (l ++ a.piece.now) c.take.new.format c.take.new.reader c.take.result) (sym none) (c.take.ensures.taken whole h c.requires good)
 
 pub returns-clause-taken : goal.returns-clause-taken
 returns-clause-taken c = λ whole begun h kept within good.

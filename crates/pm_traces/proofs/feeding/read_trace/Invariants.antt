@@ -11,7 +11,7 @@ invariant-loop-count g l = record {
   piece : length l.piece ≡ PIECE_BYTES;
   fed : IsFed (g.F.Files.told l.fn.files l.trace) l.auditor l.count (g.F.Files.unread l.files);
   there : IsTrue g.F.Files.tells_all → IsSome (g.F.Files.told l.fn.files l.trace);
-  plan : l.auditor.judge.plan ≡ l.fn.auditor.judge.plan;
+  plan : l.auditor.reader.judge.plan ≡ l.fn.auditor.reader.judge.plan;
   never_falls : g.F.Files.faults l.fn.files ≤ g.F.Files.faults l.files;
 }
 

@@ -1,7 +1,7 @@
 use Rattle.std.proofs.Common.{◌∙◌, arith}
 use Rattle.pm_model.specs.Text.{names_of}
 use Rattle.pm_endings.proofs.OutputLemmas.{behind_err}
-use Rattle.pm_endings.proofs.Writing.{under_way_first, under_way_last, under_way_more, under_way_part}
+use Rattle.pm_endings.proofs.Writing.{under_way_first, under_way_more, under_way_part}
 use Rattle.pm_traces.proofs.WriteLemmas.{items_more}
 use Rattle.pm_why.specs.Texts.{reason_line}
 use Rattle.pm_traces.proofs.why.write_each.Goals as goal

@@ -12,12 +12,12 @@ pub returns-in-Some-clause-stands : goal.returns-in-Some-clause-stands
 returns-in-Some-clause-stands c = λ b says.
     let a = c.args.self.now in
     let found : ℕ → BadLine = λ (n : ℕ). record { line = n; why = c.in-Some.why } in
-    let new : Auditor = record { judge = c.end_line.new.judge; format = c.end_line.new.format; rest = c.end_line.new.rest; bad = Some (found (c.from-line.result + 1)) } in
-    let bad : Some (found (c.from-line.result + 1)) ≡ Some (found (a.judge.lines + 1)) = ap (λ n. Some (found (n + 1))) (c.from-line.ensures ∙ c.lines.ensures) in
+    let new : Auditor = record { reader = c.end_line.new.reader; format = c.end_line.new.format; rest = c.end_line.new.rest; bad = Some (found (c.from-line.result + 1)) } in
+    let bad : Some (found (c.from-line.result + 1)) ≡ Some (found (a.reader.judge.lines + 1)) = ap (λ n. Some (found (n + 1))) (c.from-line.ensures ∙ c.lines.ensures) in
     line_bad a new b c.args.piece.now c.in-Some.why (sym c.is_some.ensures ∙ c.if-is_some.false) c.in-Some.ensures.taken c.in-Some.ensures.plan bad says
 
 pub returns-in_default-clause-stands : goal.returns-in_default-clause-stands
 returns-in_default-clause-stands c = λ b says.
     let a = c.args.self.now in
-    let new : Auditor = record { judge = c.end_line.new.judge; format = c.end_line.new.format; rest = c.end_line.new.rest; bad = a.bad } in
+    let new : Auditor = record { reader = c.end_line.new.reader; format = c.end_line.new.format; rest = c.end_line.new.rest; bad = a.bad } in
     line_good a new b c.args.piece.now (sym c.is_some.ensures ∙ c.if-is_some.false) c.in_default.ensures.taken c.in_default.ensures.rest c.in_default.ensures.plan refl says

@@ -12,4 +12,4 @@ returns-clause-read c =
 
 pub returns-clause-shorter : goal.returns-clause-shorter
 returns-clause-shorter c =
-    shorter_if_offered c.args.self.now.judge c.take_offered.new.self c.in_ok-is_format2.is_format2 c.args.bytes.now (λ (x : Bor (List ℕ)). x.now) c.take_offered.result c.take_offered.ensures.taken
+    shorter_if_offered c.args.self.now.reader c.take_offered.new.self c.in_ok-is_format2.is_format2 c.args.bytes.now (λ (x : Bor (List ℕ)). x.now) c.take_offered.result c.take_offered.ensures.taken

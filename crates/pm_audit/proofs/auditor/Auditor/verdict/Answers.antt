@@ -1,12 +1,20 @@
--- By the first bad line, if there is one.
-use Rattle.std.proofs.Common.{subst, sym}
-use Rattle.pm_model.specs.Verdict.{IsVerdict}
-use Rattle.pm_audit.specs.Auditing.{verdict_of}
-use Rattle.pm_audit.specs.declared.auditor.Verdict.{Verdict}
-use Rattle.pm_audit.proofs.Telling.{end_bad}
+-- By the first bad line, and by whether the run is finished.
+use Rattle.std.proofs.Common.{◌≡◌, List, subst}
+use Rattle.pm_model.specs.declared.event.Line.{Line}
+use Rattle.pm_model.specs.Lawful.{is_finished}
+use Rattle.pm_model.specs.World.{world}
+use Rattle.pm_judge.specs.Judging.{JudgeStandsFor}
+use Rattle.pm_audit.proofs.Telling.{end_finished, end_open}
 use Rattle.pm_audit.proofs.auditor.Auditor.verdict.Goals as goal
 
-pub returns-in-Some : goal.returns-in-Some
-returns-in-Some c = λ b says.
-    let a = c.args.self.now in
-    subst (λ (v : Verdict). IsVerdict a.judge.plan b (verdict_of v)) (sym c.verdict_of_bad.ensures) (end_bad a b c.in-Some.bad (sym c.in-Some.is) says)
+pub returns-then-finished : goal.returns-then-finished
+returns-then-finished c = λ b says.
+    let t = c.args.self.now.reader in
+    end_finished t b (c.in_default.ensures.none b says)
+    (λ (h : List Line) (judged : JudgeStandsFor t.judge h). subst (λ x. x ≡ is_finished t.judge.plan (world t.judge.plan h)) c.if-finished.true (c.finished.ensures h judged))
+
+pub returns : goal.returns
+returns c = λ b says.
+    let t = c.args.self.now.reader in
+    end_open t b (c.in_default.ensures.none b says)
+    (λ (h : List Line) (judged : JudgeStandsFor t.judge h). subst (λ x. x ≡ is_finished t.judge.plan (world t.judge.plan h)) c.if-finished.false (c.finished.ensures h judged))
