@@ -43,6 +43,7 @@ impl Model for Taker {
 }
 
 // Keeps one line more, where lines are kept. They are dropped where memory runs out.
+#[inline(always)]
 fn keep(lines: &mut Option<Lines>, line: &Line)
     requires { IfSome lines.old (λ sheet. length sheet.lines < sheet.limit) }
     ensures { KeepsLine lines.old lines.new line.now (one (begins_callback line.now.event)) }

@@ -5,6 +5,7 @@ ghost use Rattle.pm_model.specs.declared.event.Helper.TheVariants as helper;
 
 use pm_audit::{Auditor, LoadFault, NoWhy, Verdict, load_trace};
 use pm_base::{DevId, NoMemory};
+use pm_book::Book;
 use pm_model::{CallerRow, Command, DeviceRow, Helper, Items, NamedList, Plan};
 use std::alloc::Global;
 use std::test::Fail;
@@ -160,7 +161,25 @@ fn said(alloc: Global, run: Run, text: &[u8], len: usize) -> Result<Verdict, Fai
 
 // What is said of a text from which a book is loaded.
 fn loaded(alloc: Global, run: Run, text: &[u8]) -> Result<Verdict, Fail> {
-    match load_trace(alloc, plan_of(alloc, run)?, text) {
+    said_of(load_trace(alloc, plan_of(alloc, run)?, text))
+}
+
+// The same of a text that is fed in pieces of this length.
+fn loaded_by(alloc: Global, run: Run, text: &[u8], len: usize) -> Result<Verdict, Fail>
+    requires { 0 < len }
+{
+    let Ok(mut auditor) = Auditor::keeping(alloc, plan_of(alloc, run)?) else {
+        return Err("no memory".into());
+    };
+    for piece in text.chunks(len) {
+        auditor.feed(piece);
+    }
+    said_of(auditor.book(alloc))
+}
+
+// What is said where this comes of a trace.
+fn said_of(book: Result<Book, LoadFault>) -> Result<Verdict, Fail> {
+    match book {
         Ok(book) => Ok(if book.finished() {
             Verdict::YesFinished
         } else {
@@ -171,13 +190,15 @@ fn loaded(alloc: Global, run: Run, text: &[u8]) -> Result<Verdict, Fail> {
     }
 }
 
-// What is said of a text in one piece, in pieces of 7 bytes and of one, and loaded.
-fn said_each_way(alloc: Global, run: Run, text: &[u8]) -> Result<[Verdict; 4], Fail> {
+// What is said of a text in one piece, in pieces of 7 bytes and of one, and loaded, whole and in such pieces.
+fn said_each_way(alloc: Global, run: Run, text: &[u8]) -> Result<[Verdict; 6], Fail> {
     Ok([
         said(alloc, run, text, text.len().max(1))?,
         said(alloc, run, text, 7)?,
         said(alloc, run, text, 1)?,
         loaded(alloc, run, text)?,
+        loaded_by(alloc, run, text, 7)?,
+        loaded_by(alloc, run, text, 1)?,
     ])
 }
 
@@ -332,7 +353,7 @@ static SAID: [(&str, Verdict); 24] = [
 fn each_trace_is_judged_however_it_is_cut(rt: HostRuntime) -> Result<(), Fail> {
     for (text, wanted) in &SAID {
         let said = said_each_way(rt.alloc(), Run::Short, text.as_bytes())?;
-        assert_eq!(rt; said, [*wanted; 4], "{text:?}");
+        assert_eq!(rt; said, [*wanted; 6], "{text:?}");
     }
     Ok(())
 }
@@ -369,7 +390,7 @@ static WORKED: [(&str, Verdict); 4] = [
 fn a_worked_run_is_judged(rt: HostRuntime) -> Result<(), Fail> {
     for (text, wanted) in &WORKED {
         let said = said_each_way(rt.alloc(), Run::Worked, text.as_bytes())?;
-        assert_eq!(rt; said, [*wanted; 4], "{text:?}");
+        assert_eq!(rt; said, [*wanted; 6], "{text:?}");
     }
     Ok(())
 }
