@@ -1,5 +1,5 @@
 -- What an auditor says of bytes, as they go on and at their end.
-use Rattle.std.proofs.Common.{ℕ, suc, ◌≡◌, ◌≢◌, ◌+◌, ◌<◌, Bool, true, false, List, [], ◌∷◌, ◌++◌, Option, Some, None, IfSome, is_some, length, length-append, inl, refl, sym, subst, ap, ◌∙◌, arith}
+use Rattle.std.proofs.Common.{ℕ, suc, ◌≡◌, ◌≢◌, ◌+◌, ◌<◌, Bool, true, false, List, [], ◌∷◌, ◌++◌, Option, Some, None, IfNone, IfSome, is_some, length, length-append, inl, refl, sym, subst, ap, ◌∙◌, arith}
 use Rattle.std.proofs.lemmas.List.{append_assoc}
 use Rattle.pm_model.specs.declared.event.Line.{Line}
 use Rattle.pm_model.specs.declared.plan.Plan.{Plan}
@@ -188,17 +188,27 @@ starts a none empty untold taken =
       kept = subst (λ (o : Option (List ℕ)). IsRest o []) (sym empty) refl;
     })
 
+-- where no lines are kept none are
+same_unkept : {A : Type 0} (kept : Option A) → IfNone kept (kept ≡ None)
+same_unkept {A} None = refl
+same_unkept {A} (Some x) = tt
+
+pub still_unkept : {A : Type 0} (old mid new : Option A) → IfNone old (mid ≡ None) → IfNone mid (new ≡ None) → IfNone old (new ≡ None)
+still_unkept {A} (Some x) mid new first then_ = tt
+still_unkept {A} None None new first then_ = then_
+still_unkept {A} None (Some y) new first then_ = cc first
+
 -- a piece is read line by line: so much of it is done
 pub reads_none : (piece : List ℕ) (a : Auditor) → HasRead piece piece a a
-reads_none piece a = record { done = []; split = refl; stands = λ b says. subst (λ (x : List ℕ). AuditorStandsFor a x) (sym (append_none b)) says; plan = refl }
+reads_none piece a = record { done = []; split = refl; stands = λ b says. subst (λ (x : List ℕ). AuditorStandsFor a x) (sym (append_none b)) says; plan = refl; unkept = same_unkept a.reader.kept }
 
 pub shorter : (left line left' : List ℕ) → left ≡ line ++ (10 ∷ left') → length left' < length left
 shorter left line left' is = let all = ap length is ∙ length-append line (10 ∷ left') in omega (arith, all)
 
 -- a line, of this piece and a newline
 pub reads_line : (left line left' : List ℕ) (old new : Auditor) → left ≡ line ++ (10 ∷ left') → ((b : List ℕ) → AuditorStandsFor old b → AuditorStandsFor new (b ++ (line ++ newline)))
-    → new.reader.judge.plan ≡ old.reader.judge.plan → HasRead left left' old new
-reads_line left line left' old new is ends plan = record { done = line ++ newline; split = is ∙ sym (append_assoc line newline left'); stands = ends; plan = plan }
+    → new.reader.judge.plan ≡ old.reader.judge.plan → IfNone old.reader.kept (new.reader.kept ≡ None) → HasRead left left' old new
+reads_line left line left' old new is ends plan unkept = record { done = line ++ newline; split = is ∙ sym (append_assoc line newline left'); stands = ends; plan = plan; unkept = unkept }
 
 -- the first line of the bytes is the one that may come next: no rest is before it, and the format is told
 told_takes : (a : Auditor) (taker : Takings) (f : Bool) (piece : List ℕ) → a.rest ≡ Some [] → Some f ≡ told_of a.format → is_within_line piece ≡ true
@@ -225,7 +235,7 @@ reads_offered : (a : Auditor) (taker : Takings) (f : Bool) (bytes behind : List 
 reads_offered a taker f bytes behind none empty told first =
     let new = record a { reader = taker } in
     let takes = told_takes a taker f first.piece empty told first.begins.within first.read in
-    reads_line bytes first.piece behind a new first.begins.split (λ b says. line_good a new b first.piece none takes empty first.plan refl says) first.plan
+    reads_line bytes first.piece behind a new first.begins.split (λ b says. line_good a new b first.piece none takes empty first.plan refl says) first.plan first.unkept
 
 pub reads_if_offered : {A : Type 0} (a : Auditor) (taker : Takings) (f : Bool) (bytes : List ℕ) (of : A → List ℕ) (r : Option A) → is_some a.bad ≡ false → a.rest ≡ Some [] → Some f ≡ told_of a.format
     → IfSome r (λ x. HasTakenFirst f a.reader taker bytes (of x)) → IfSome r (λ x. HasRead bytes (of x) a (record a { reader = taker }))
@@ -243,6 +253,7 @@ reads_on piece left left' old mid new has more = record {
   split = has.split ∙ (ap (λ x. has.done ++ x) more.split ∙ sym (append_assoc has.done more.done left'));
   stands = λ b says. subst (λ (x : List ℕ). AuditorStandsFor new x) (append_assoc b has.done more.done) (more.stands (b ++ has.done) (has.stands b says));
   plan = more.plan ∙ has.plan;
+  unkept = still_unkept old.reader.kept mid.reader.kept new.reader.kept has.unkept more.unkept;
 }
 
 pub reads_all : (piece left : List ℕ) (old mid new : Auditor) → HasRead piece left old mid → ((b : List ℕ) → AuditorStandsFor mid b → AuditorStandsFor new (b ++ left))

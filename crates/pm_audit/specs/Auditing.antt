@@ -1,5 +1,5 @@
 -- For which bytes an auditor stands, and what it says of them (this project's own). Lists have the newest line first.
-use Rattle.std.specs.Prelude.{ℕ, suc, ◌≡◌, ◌≢◌, ◌<◌, ◌≤◌, Bool, true, false, List, [], ◌∷◌, ◌++◌, Option, Some, None, length, nat_le, if◌then◌else◌}
+use Rattle.std.specs.Prelude.{ℕ, suc, ◌≡◌, ◌≢◌, ◌<◌, ◌≤◌, Bool, true, false, List, [], ◌∷◌, ◌++◌, Option, Some, None, IfNone, length, nat_le, if◌then◌else◌}
 use Rattle.pm_model.specs.declared.event.Line.{Line}
 use Rattle.pm_model.specs.declared.plan.Plan.{Plan}
 use Rattle.pm_model.specs.FirstBad.{StandsFor, is_format2}
@@ -117,3 +117,4 @@ pub record HasRead (piece left : List ℕ) (old new : Auditor) : Type 0 where
   pub split : piece ≡ done ++ left
   pub stands : (b : List ℕ) → AuditorStandsFor old b → AuditorStandsFor new (b ++ done)
   pub plan : new.reader.judge.plan ≡ old.reader.judge.plan
+  pub unkept : IfNone old.reader.kept (new.reader.kept ≡ None)

@@ -1,5 +1,5 @@
 -- A line that may come next and is read by its text (this project's own). Lists have the newest line first.
-use Rattle.std.specs.Prelude.{ℕ, ◌≡◌, ◌<◌, ◌≤◌, ◌-◌, ◌^◌, ◌++◌, ◌∷◌, Bool, true, List, None, decimal, if◌then◌else◌, length}
+use Rattle.std.specs.Prelude.{ℕ, ◌≡◌, ◌<◌, ◌≤◌, ◌-◌, ◌^◌, ◌++◌, ◌∷◌, Bool, true, List, None, IfNone, decimal, if◌then◌else◌, length}
 use Rattle.pm_base.specs.declared.ActorId.{ActorId}
 use Rattle.pm_model.specs.declared.event.Line.{Line}
 use Rattle.pm_model.specs.declared.stage.Change.{Change}
@@ -53,3 +53,4 @@ pub record HasTakenFirst (f : Bool) (old new : Takings) (bytes behind : List ℕ
   pub begins : BeginsWith bytes piece behind
   pub read : (h : List Line) → IsLawful old.judge.plan h → TakerStandsFor old h → IsRead f old.judge.plan h piece new None
   pub plan : new.judge.plan ≡ old.judge.plan
+  pub unkept : IfNone old.kept (new.kept ≡ None)

@@ -96,6 +96,7 @@ impl Auditor {
         requires { is_within_line piece.now ≡ true }
         ensures stands { (b : List ℕ) → AuditorStandsFor self.old b → AuditorStandsFor self.new (b ++ (piece.now ++ newline)) }
         ensures plan { self.new.reader.judge.plan ≡ self.old.reader.judge.plan }
+        ensures unkept { IfNone self.old.reader.kept (self.new.reader.kept ≡ None) }
     {
         if self.bad.is_some() {
             return;
@@ -111,6 +112,7 @@ impl Auditor {
         requires { is_within_line piece.now ≡ true }
         ensures stands { (b : List ℕ) → AuditorStandsFor self.old b → AuditorStandsFor self.new (b ++ piece.now) }
         ensures plan { self.new.reader.judge.plan ≡ self.old.reader.judge.plan }
+        ensures unkept { IfNone self.old.reader.kept (self.new.reader.kept ≡ None) }
     {
         self.rest.push(piece);
     }
@@ -151,6 +153,7 @@ impl Auditor {
     pub fn feed(&mut self, piece: &[u8])
         ensures stands { (b : List ℕ) → AuditorStandsFor self.old b → AuditorStandsFor self.new (b ++ piece.now) }
         ensures plan { self.new.reader.judge.plan ≡ self.old.reader.judge.plan }
+        ensures unkept { IfNone self.old.reader.kept (self.new.reader.kept ≡ None) }
     {
         if self.bad.is_some() {
             return;

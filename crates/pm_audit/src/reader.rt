@@ -101,6 +101,7 @@ impl Reader {
     pub fn read(&mut self, is_format2: bool, text: &[u8]) -> Option<NoWhy>
         ensures read { (h : List ALine) → IsLawful self.old.judge.plan h → TakerStandsFor self.old h → IsRead is_format2 self.old.judge.plan h text.now self.new result }
         ensures plan { self.new.judge.plan ≡ self.old.judge.plan }
+        ensures unkept { IfNone self.old.kept (self.new.kept ≡ None) }
     {
         read(&mut self.taker, &self.names, is_format2, text)
     }
@@ -176,6 +177,7 @@ fn take_offered<'a>(
 fn read(taker: &mut Taker, names: &PlanNames, is_format2: bool, text: &[u8]) -> Option<NoWhy>
     ensures read { (h : List ALine) → IsLawful taker.old.judge.plan h → TakerStandsFor taker.old h → IsRead is_format2 taker.old.judge.plan h text.now taker.new result }
     ensures plan { taker.new.judge.plan ≡ taker.old.judge.plan }
+    ensures unkept { IfNone taker.old.kept (taker.new.kept ≡ None) }
 {
     let judge = taker.judge();
     let Some(line) = names.line_of(judge.plan(), judge.last_time(), is_format2, text) else {

@@ -1,6 +1,6 @@
 //! Reads whole lines of a trace.
 
-ghost use Rattle.std.specs.Prelude.{◌≡◌, ◌++◌, List, ℕ, Some, [], true};
+ghost use Rattle.std.specs.Prelude.{◌≡◌, ◌++◌, List, ℕ, IfNone, None, Some, [], true};
 ghost use Rattle.pm_audit.specs.Auditing.{IsGood, IsRest, IsTaken, told_of};
 ghost use Rattle.pm_model.specs.declared.event.Line.{Line as ALine};
 ghost use Rattle.pm_model.specs.NoWhy.{is_within_line};
@@ -50,6 +50,7 @@ pub(crate) fn told(format: Format) -> Option<bool>
 fn take(reader: &mut Reader, format: &mut Format, text: &[u8]) -> Option<NoWhy>
     ensures taken { (whole : List ℕ) (h : List ALine) → is_within_line text.now ≡ true → IsGood reader.old.judge.plan reader.old format.old whole h → IsTaken reader.old.judge.plan whole h text.now format.new reader.new result }
     ensures plan { reader.new.judge.plan ≡ reader.old.judge.plan }
+    ensures unkept { IfNone reader.old.kept (reader.new.kept ≡ None) }
 {
     match *format {
         Format::Untold => {
@@ -70,6 +71,7 @@ fn take_rest(reader: &mut Reader, format: &mut Format, rest: &Rest) -> Option<No
     ensures taken { (whole line : List ℕ) (h : List ALine) → IsRest rest.now line → is_within_line line ≡ true → IsGood reader.old.judge.plan reader.old format.old whole h
         → IsTaken reader.old.judge.plan whole h line format.new reader.new result }
     ensures plan { reader.new.judge.plan ≡ reader.old.judge.plan }
+    ensures unkept { IfNone reader.old.kept (reader.new.kept ≡ None) }
 {
     match rest.bytes() {
         Some(text) => take(reader, format, text),
@@ -90,6 +92,7 @@ pub(crate) fn end_line(
         → IsTaken reader.old.judge.plan whole h (begun ++ piece.now) format.new reader.new result }
     ensures rest { rest.new ≡ Some [] }
     ensures plan { reader.new.judge.plan ≡ reader.old.judge.plan }
+    ensures unkept { IfNone reader.old.kept (reader.new.kept ≡ None) }
 {
     if rest.is_empty() {
         return take(reader, format, piece);

@@ -30,4 +30,5 @@ returns-clause-taken c = λ f bytes is.
       begins = found.begins;
       read = λ h lawful stands. read_ok f j c.accept.new.self h line found.piece stands.judged found.spelled (c.accept.ensures.answer h lawful stands.judged) (c.accept.ensures.taken h lawful stands);
       plan = c.accept.ensures.plan;
+      unkept = c.accept.ensures.unkept;
     }

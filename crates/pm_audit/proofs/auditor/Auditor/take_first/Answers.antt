@@ -25,4 +25,4 @@ returns-clause-read c =
     let is : bytes ≡ line ++ (10 ∷ behind) =
     s.all ∙ (ap (λ (l : List ℕ). l ++ (10 ∷ drop 1 (drop at bytes))) (sym c.split_at.ensures.front) ∙ ap (λ (l : List ℕ). line ++ (10 ∷ l)) (sym rest)) in
     subst (λ (a : Auditor). HasRead bytes behind a c.end_line.new.self) c.in_default.ensures.left
-    (reads_line bytes line behind c.take_offered.new.self c.end_line.new.self is c.end_line.ensures.stands c.end_line.ensures.plan)
+    (reads_line bytes line behind c.take_offered.new.self c.end_line.new.self is c.end_line.ensures.stands c.end_line.ensures.plan c.end_line.ensures.unkept)
