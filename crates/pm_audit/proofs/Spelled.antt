@@ -1,6 +1,5 @@
 -- A line that is offered, and its text.
-use Rattle.std.proofs.Common.{ℕ, ◌≡◌, ◌≢◌, ◌<◌, ◌≤◌, ◌-◌, Bool, Bor, true, false, List, ◌∷◌, ◌++◌, Option, Some, None, IfSome, refl, subst, sym, ◌∙◌, ap, if◌then◌else◌, arith, decimal}
-use Rattle.std.specs.Option.{MatchOption}
+use Rattle.std.proofs.Common.{ℕ, ◌≡◌, ◌<◌, ◌≤◌, ◌-◌, Bool, true, false, List, ◌∷◌, ◌++◌, refl, subst, sym, ◌∙◌, ap, if◌then◌else◌, arith, decimal}
 use Rattle.std.proofs.lemmas.Grind.{common_steps}
 use Rattle.std.proofs.lemmas.List.{append_assoc}
 use Rattle.pm_model.specs.declared.event.Event.{Event}
@@ -44,11 +43,6 @@ is_offered f j line c next bytes behind names same later is room writes split =
     let can = can_judge f j.plan j.last line piece spelled in
     let within = subst (λ (p : List ℕ). is_within_line p ≡ true) (sym (spelled_is f j.plan j.last line piece spelled)) (in_line f j.plan j.last line) in
     record { piece = piece; begins = record { split = split; within = within }; spelled = spelled; in_range = can.0; in_time = can.1; room = room; writes = writes }
-
--- a prefix that was found
-pub if_found : (s p : List ℕ) (r : Option (Bor (List ℕ))) → MatchOption r ((rest : List ℕ) → s ≢ p ++ rest) (λ y. s ≡ p ++ y.now) → IfSome r (λ y. s ≡ p ++ y.now)
-if_found s p None found = tt
-if_found s p (Some x) found = found
 
 -- the front of a line, its event and its newline
 pub whole_line : (names : Names) (line : Line) (time : ℕ) (bytes event left : List ℕ) → BeginsBy names time line.actor bytes event → event ≡ event_text names line.event ++ (10 ∷ left)

@@ -1,8 +1,12 @@
 -- By the prefix.
+use Rattle.std.proofs.Common.{◌∙◌, ◌++◌, ap, length, sym}
 use Rattle.std.proofs.lemmas.Bool.Decides.{Decides-eqb}
-use Rattle.std.proofs.lemmas.Slice.Eq.{strip_prefix_is}
-use Rattle.pm_audit.proofs.Spelled.{if_found}
+use Rattle.std.proofs.lemmas.List.{take_rest}
+use Rattle.std.proofs.lemmas.Slice.Eq.{starts_is}
 use Rattle.pm_audit.proofs.pieces.behind.Goals as goal
 
 pub returns : goal.returns
-returns c = if_found c.args.bytes.now c.args.piece.now c.strip_prefix.result (strip_prefix_is Decides-eqb c.args.bytes.now c.args.piece.now c.strip_prefix.result c.strip_prefix.ensures.cases)
+returns c =
+    let s = c.args.bytes.now in
+    let p = c.args.piece.now in
+    (starts_is Decides-eqb s p c.starts_with.result c.starts_with.ensures.value).0 c.if-not-starts_with.false ∙ ap (λ l. p ++ l) (sym (take_rest s (length p)))
