@@ -1,5 +1,5 @@
 -- What an auditor says of bytes, as they go on and at their end.
-use Rattle.std.proofs.Common.{ℕ, suc, ◌≡◌, ◌≢◌, ◌+◌, ◌<◌, Bool, true, false, List, [], ◌∷◌, ◌++◌, Option, Some, None, IfNone, IfSome, is_some, length, length-append, inl, refl, sym, subst, ap, ◌∙◌, arith}
+use Rattle.std.proofs.Common.{ℕ, suc, ◌≡◌, ◌≢◌, ◌+◌, ◌<◌, ◌≤◌, Bool, true, false, List, [], ◌∷◌, ◌++◌, Option, Some, None, IfNone, IfSome, is_some, length, length-append, inl, refl, sym, subst, ap, ◌∙◌, arith}
 use Rattle.std.proofs.lemmas.List.{append_assoc}
 use Rattle.pm_model.specs.declared.event.Line.{Line}
 use Rattle.pm_model.specs.declared.plan.Plan.{Plan}
@@ -230,22 +230,16 @@ told_takes a taker f piece empty told within read = λ whole begun h kept inside
         subst (λ (x : Format). IsTaken a.reader.judge.plan whole h piece x taker None) (sym is)
         (take_two a.reader.judge.plan whole piece h a.reader taker None (subst (λ (x : Format). IsGood a.reader.judge.plan a.reader x whole h) is good) within its)
 
-reads_offered : (a : Auditor) (taker : Takings) (f : Bool) (bytes behind : List ℕ) → is_some a.bad ≡ false → a.rest ≡ Some [] → Some f ≡ told_of a.format → HasTakenFirst f a.reader taker bytes behind
+pub reads_offered : (a : Auditor) (taker : Takings) (f : Bool) (bytes behind : List ℕ) → is_some a.bad ≡ false → a.rest ≡ Some [] → Some f ≡ told_of a.format → HasTakenFirst f a.reader taker bytes behind
     → HasRead bytes behind a (record a { reader = taker })
 reads_offered a taker f bytes behind none empty told first =
     let new = record a { reader = taker } in
     let takes = told_takes a taker f first.piece empty told first.begins.within first.read in
     reads_line bytes first.piece behind a new first.begins.split (λ b says. line_good a new b first.piece none takes empty first.plan refl says) first.plan first.unkept
 
-pub reads_if_offered : {A : Type 0} (a : Auditor) (taker : Takings) (f : Bool) (bytes : List ℕ) (of : A → List ℕ) (r : Option A) → is_some a.bad ≡ false → a.rest ≡ Some [] → Some f ≡ told_of a.format
-    → IfSome r (λ x. HasTakenFirst f a.reader taker bytes (of x)) → IfSome r (λ x. HasRead bytes (of x) a (record a { reader = taker }))
-reads_if_offered {A} a taker f bytes of None none empty told first = tt
-reads_if_offered {A} a taker f bytes of (Some x) none empty told first = reads_offered a taker f bytes (of x) none empty told first
-
--- what is left is shorter
-pub shorter_if_offered : {A : Type 0} (old new : Takings) (f : Bool) (bytes : List ℕ) (of : A → List ℕ) (r : Option A) → IfSome r (λ x. HasTakenFirst f old new bytes (of x)) → IfSome r (λ x. length (of x) < length bytes)
-shorter_if_offered {A} old new f bytes of None first = tt
-shorter_if_offered {A} old new f bytes of (Some x) first = shorter bytes first.piece (of x) first.begins.split
+-- what is left is no longer than the piece
+pub no_longer : (piece left : List ℕ) (old new : Auditor) → HasRead piece left old new → length left ≤ length piece
+no_longer piece left old new has = let all = ap length has.split ∙ length-append has.done left in omega (arith, all)
 
 pub reads_on : (piece left left' : List ℕ) (old mid new : Auditor) → HasRead piece left old mid → HasRead left left' mid new → HasRead piece left' old new
 reads_on piece left left' old mid new has more = record {

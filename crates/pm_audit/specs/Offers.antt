@@ -1,35 +1,32 @@
 -- A line that may come next and is read by its text (this project's own). Lists have the newest line first.
-use Rattle.std.specs.Prelude.{ℕ, ◌≡◌, ◌<◌, ◌≤◌, ◌-◌, ◌^◌, ◌++◌, ◌∷◌, Bool, true, List, None, IfNone, decimal, if◌then◌else◌, length}
-use Rattle.pm_base.specs.declared.ActorId.{ActorId}
+use Rattle.std.specs.Prelude.{ℕ, ◌≡◌, ◌<◌, ◌≤◌, ◌-◌, ◌^◌, ◌++◌, ◌∷◌, Bool, true, List, None, IfNone, if◌then◌else◌, length}
 use Rattle.pm_model.specs.declared.event.Line.{Line}
 use Rattle.pm_model.specs.declared.stage.Change.{Change}
 use Rattle.pm_model.specs.declared.stage.Then.{Then}
 use Rattle.pm_model.specs.Lawful.{IsLawful}
 use Rattle.pm_model.specs.NoWhy.{is_within_line}
 use Rattle.pm_model.specs.LineOf.{is_actor_of}
-use Rattle.pm_model.specs.Spelling.{Names, actor_text, space}
+use Rattle.pm_linetext.specs.Fronts.{front_text}
+use Rattle.pm_model.specs.Spelling.{Names}
 use Rattle.pm_model.specs.Text.{IsTextBehind}
 use Rattle.pm_state.specs.Standing.{IsActor}
 use Rattle.pm_judge.specs.Judging.{Judged}
 use Rattle.pm_judge.specs.Sometime.{Writes}
 use Rattle.pm_book.specs.Takings.{TakerStandsFor, Takings}
-use Rattle.pm_audit.specs.declared.offers.Front.{Front}
+use Rattle.pm_audit.specs.declared.offers.Start.{Start}
 use Rattle.pm_audit.specs.Auditing.{IsRead}
-
--- the bytes begin with this time and this actor, and go on with these
-abbrev pub BeginsBy : Names → ℕ → ActorId → List ℕ → List ℕ → Type 0
-BeginsBy names time actor bytes behind = bytes ≡ (decimal time ++ space) ++ ((actor_text names actor ++ space) ++ behind)
 
 -- the time from which the text of a line counts, in format 2 where that is true, behind one of time `last`
 abbrev pub base_of : Bool → ℕ → ℕ
 base_of f last = if f then last else 0
 
--- this is the front of the line with which the bytes begin, in format 2 where that is true, behind one of time `last`
-pub record IsFront (f : Bool) (names : Names) (last : ℕ) (bytes : List ℕ) (front : Front) : Type 0 where
-  pub later : base_of f last ≤ front.time
-  pub in_time : front.time < 2 ^ 63
-  pub in_range : is_actor_of (length names.devices) (length names.callers) front.actor ≡ true
-  pub begins : BeginsBy names (front.time - base_of f last) front.actor bytes front.behind.now
+-- this is when a line may be written, in format 2 where that is true, behind one of time `last`, and by whom, and this is the
+-- front of its text
+pub record IsStart (f : Bool) (names : Names) (last : ℕ) (text : List ℕ) (start : Start) : Type 0 where
+  pub later : base_of f last ≤ start.time
+  pub in_time : start.time < 2 ^ 63
+  pub in_range : is_actor_of (length names.devices) (length names.callers) start.actor ≡ true
+  pub front : text ≡ front_text names (start.time - base_of f last) start.actor
 
 -- the bytes begin with a line, of this piece and a newline, and go on with these
 pub record BeginsWith (bytes piece behind : List ℕ) : Type 0 where

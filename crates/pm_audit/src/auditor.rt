@@ -117,18 +117,22 @@ impl Auditor {
         self.rest.push(piece);
     }
 
-    // The bytes go on with the first line of these and its newline, where no line before is bad or cut, and
-    // the line is found by its time and its actor. Gives what is behind.
-    fn take_offered<'a>(&mut self, bytes: &'a [u8]) -> Option<&'a [u8]>
-        ensures read { IfSome result (λ behind. HasRead bytes.now behind.now self.old self.new) }
-        ensures shorter { IfSome result (λ behind. length behind.now < length bytes.now) }
-        ensures left { IfNone result (self.new ≡ self.old) }
+    // The bytes go on with the first lines of these and their newlines, as far as each is found by its time and its
+    // actor, where no line before is bad or cut. Gives what is behind.
+    fn take_offered<'a>(&mut self, bytes: &'a [u8]) -> &'a [u8]
+        ensures { HasRead bytes.now result.now self.old self.new }
     {
         if self.bad.is_some() || !self.rest.is_empty() {
-            return None;
+            return bytes;
         }
-        let is_format2 = told(self.format)?;
-        self.reader.take_offered(is_format2, bytes)
+        let Some(is_format2) = told(self.format) else {
+            return bytes;
+        };
+        let mut left = bytes;
+        'lines: while let Some(behind) = self.reader.take_offered(is_format2, left) {
+            left = behind;
+        }
+        left
     }
 
     // The bytes go on with the first line of these and its newline, if there is one. Gives what is behind.
@@ -138,9 +142,6 @@ impl Auditor {
         ensures none { IfNone result (is_within_line bytes.now ≡ true) }
         ensures left { IfNone result (self.new ≡ self.old) }
     {
-        if let Some(behind) = self.take_offered(bytes) {
-            return Some(behind);
-        }
         let Some(at) = bytes.find_byte(b'\n') else {
             return None;
         };
@@ -158,9 +159,9 @@ impl Auditor {
         if self.bad.is_some() {
             return;
         }
-        let mut left = piece;
+        let mut left = self.take_offered(piece);
         'lines: while let Some(behind) = self.take_first(left) {
-            left = behind;
+            left = self.take_offered(behind);
         }
         self.keep(left);
     }

@@ -1,49 +1,38 @@
 //! Lines that are read by the text of the one line that may come next.
 
-ghost use Rattle.std.specs.Prelude.{◌≡◌, ◌<◌, ◌^◌, ◌++◌, ◌∷◌, IfNone, IfOk, IfSome, decimal, if◌then◌else◌, length, true};
-ghost use Rattle.pm_audit.specs.Offers.{IsFront};
+ghost use Rattle.std.specs.Prelude.{◌≡◌, ◌<◌, ◌≤◌, ◌^◌, ◌++◌, ◌∷◌, IfNone, IfOk, IfSome, length, true};
+ghost use Rattle.pm_audit.specs.Offers.{IsStart, base_of as its_base};
+ghost use Rattle.pm_linetext.specs.Fronts.{IsFront, front_text};
 ghost use Rattle.pm_model.specs.declared.event.Line.{Line as ALine};
 ghost use Rattle.pm_model.specs.LineOf.{is_actor_of, is_event_of};
-ghost use Rattle.pm_model.specs.Spelling.{actor_text, event_text, space};
+ghost use Rattle.pm_model.specs.Spelling.{event_text};
 ghost use Rattle.pm_model.specs.Text.{IsTextBehind, names_of as its_names};
 
-use crate::fronts::{Fronts, TimeText};
-use crate::pieces::behind;
+use crate::fronts::Fronts;
+use crate::pieces::{behind, seem_to_begin};
 use pm_base::{ActorId, NoMemory};
 use pm_lineread::{Finders, actor_start, line_start, read_line_by, read_line2_by};
-use pm_linetext::{LineText, NamesAtHand};
+use pm_linetext::{NamesAtHand, TimedText};
 use pm_model::{Event, Line, Plan};
 use std::alloc::Global;
 use std::marker::Model;
 
-/// The front of a line: who may have written it, and when, and what is behind.
+/// When the next line may be written, and by whom.
 #[derive(Clone, Copy)]
-pub(crate) struct Front<'a> {
+pub(crate) struct Start {
     /// Its time, in milliseconds of the run.
     pub time: u64,
     /// Its actor.
     pub actor: ActorId,
-    /// The bytes behind its actor and a space.
-    pub behind: &'a [u8],
 }
 
-// What is behind the time of a line that is written at the time of the line before, where the bytes begin so.
-#[inline(always)]
-fn behind_time<'a>(
-    text: &TimeText,
-    is_format2: bool,
-    last: u64,
-    bytes: &'a [u8],
-) -> Option<&'a [u8]>
-    ensures { IfSome result (λ rest. bytes.now ≡ (decimal (if is_format2 then 0 else last) ++ space) ++ rest.now) }
+// The time from which the text of a line counts, in format 2 where that is true, behind one of that time.
+#[inline]
+fn base_of(is_format2: bool, last: u64) -> u64
+    ensures base { result ≡ its_base is_format2 last }
+    ensures not_later { result ≤ last }
 {
-    if is_format2 {
-        return behind(b"0 ", bytes);
-    }
-    if text.time() == last {
-        return text.behind(bytes);
-    }
-    None
+    if is_format2 { last } else { 0 }
 }
 
 /// The names of a plan, to be found and to be spelled. Contracts see the names.
@@ -72,101 +61,94 @@ impl PlanNames {
         })
     }
 
-    // What is behind the name of this actor and a space, where it is one of the plan and the bytes begin so.
+    // Puts the front of a line in place of what `text` held, where its actor is one of the plan, and tells whether the
+    // bytes are likely to begin with it.
     #[inline(always)]
-    fn behind_actor<'a>(&self, actor: ActorId, bytes: &'a [u8]) -> Option<&'a [u8]>
-        ensures begins { IfSome result (λ rest. bytes.now ≡ (actor_text self.now actor ++ space) ++ rest.now) }
-        ensures in_range { IfSome result (λ _. is_actor_of (length self.now.devices) (length self.now.callers) actor ≡ true) }
+    fn seems(&self, since: u64, actor: ActorId, text: &mut TimedText, bytes: &[u8]) -> bool
+        requires { since < 2 ^ 63 }
+        ensures in_range { result ≡ true → is_actor_of (length self.now.devices) (length self.now.callers) actor ≡ true }
+        ensures front { result ≡ true → text.new ≡ front_text self.now since actor }
     {
-        let behind_name = match actor {
-            ActorId::Caller(place) => behind(self.at_hand.caller_name(place as usize)?, bytes)?,
-            ActorId::Work(place) => behind(
-                self.at_hand.device_name(place as usize)?,
-                behind(b"work.", bytes)?,
-            )?,
-            ActorId::Timer(place) => behind(
-                self.at_hand.device_name(place as usize)?,
-                behind(b"timer.", bytes)?,
-            )?,
-        };
-        behind(b" ", behind_name)
+        if !self.at_hand.has_actor(actor) {
+            return false;
+        }
+        self.at_hand.start_line(since, actor, text);
+        seem_to_begin(text.as_slice(), bytes)
     }
 
-    /// The front of the line with which the bytes begin, in format 2 where that is true, behind one of that time,
-    /// where it is as it is likely: at the same time, by who wrote next the last time.
+    /// When the line with which the bytes begin may be written, in format 2 where that is true, behind one of that
+    /// time, and by whom, where it is as it is likely: at the same time, by who wrote behind the last line's actor the
+    /// time before, or by that actor again. Its front is put in place of the text. No clause says that the bytes begin
+    /// so, and mostly they do.
     #[inline(always)]
-    pub(crate) fn likely_front<'a>(
+    pub(crate) fn likely_start(
         &self,
         last: u64,
-        fronts: &Fronts,
+        fronts: &mut Fronts,
         is_format2: bool,
-        bytes: &'a [u8],
-    ) -> Option<Front<'a>>
+        bytes: &[u8],
+    ) -> Option<Start>
         requires { last < 2 ^ 63 }
-        ensures { IfSome result (IsFront is_format2 self.now last bytes.now) }
+        ensures { IfSome result (IsStart is_format2 self.now last fronts.new.text) }
     {
-        let rest = behind_time(&fronts.time, is_format2, last, bytes)?;
-        let actor = fronts.follower()?;
-        let behind = self.behind_actor(actor, rest)?;
-        Some(Front {
-            time: last,
-            actor,
-            behind,
-        })
+        let since = last - base_of(is_format2, last);
+        let follower = fronts.follower()?;
+        if self.seems(since, follower, &mut fronts.text, bytes) {
+            return Some(Start {
+                time: last,
+                actor: follower,
+            });
+        }
+        let again = fronts.last();
+        if self.seems(since, again, &mut fronts.text, bytes) {
+            return Some(Start {
+                time: last,
+                actor: again,
+            });
+        }
+        None
     }
 
-    /// The front of the line with which the bytes begin, in format 2 where that is true, behind one of that time,
-    /// where it is found: by the name of its actor. No clause says that it is found where the bytes begin so.
+    /// When the line with which the bytes begin may be written, in format 2 where that is true, behind one of that
+    /// time, and by whom, by its time and the name of its actor. Its front is put in place of the text. No clause says
+    /// that it is found, nor that the bytes begin so.
     #[inline(never)]
-    pub(crate) fn front_apart<'a>(
+    pub(crate) fn start_apart(
         &self,
         plan: &Plan,
         last: u64,
-        time_text: &mut TimeText,
+        text: &mut TimedText,
         is_format2: bool,
-        bytes: &'a [u8],
-    ) -> Option<Front<'a>>
+        bytes: &[u8],
+    ) -> Option<Start>
         requires names { self.now ≡ its_names plan.now }
         requires in_time { last < 2 ^ 63 }
-        ensures { IfSome result (IsFront is_format2 self.now last bytes.now) }
+        ensures { IfSome result (IsStart is_format2 self.now last text.new) }
     {
-        let base = if is_format2 { last } else { 0 };
-        if let Some(rest) = behind_time(time_text, is_format2, last, bytes) {
-            let actor = actor_start(plan, &self.finders, rest)?;
-            let behind = self.behind_actor(actor, rest)?;
-            return Some(Front {
-                time: last,
-                actor,
-                behind,
-            });
-        }
-        let (time, actor) = line_start(plan, &self.finders, base, bytes)?;
-        time_text.set(time - base);
-        let behind = self.behind_actor(actor, time_text.behind(bytes)?)?;
-        Some(Front {
-            time,
-            actor,
-            behind,
-        })
+        let base = base_of(is_format2, last);
+        text.put_time(last - base);
+        let (time, actor) = match behind(text.as_slice(), bytes) {
+            Some(rest) => (last, actor_start(plan, &self.finders, rest)?),
+            None => line_start(plan, &self.finders, base, bytes)?,
+        };
+        self.at_hand.start_line(time - base, actor, text);
+        Some(Start { time, actor })
     }
 
-    /// What is behind the text of this event and its newline, where the bytes begin with these. The text is put in
-    /// place of what `text` held.
+    /// What is behind the line of this event whose front the text is, and its newline, where the bytes begin with
+    /// these. The line and its newline are put in place of the text.
     pub(crate) fn behind<'a>(
         &self,
         event: &Event,
-        text: &mut LineText,
+        text: &mut TimedText,
         bytes: &'a [u8],
     ) -> Option<&'a [u8]>
-        requires { is_event_of (length self.now.devices) event.now ≡ true }
-        ensures { IfSome result (λ left. bytes.now ≡ event_text self.now event.now ++ (10 ∷ left.now)) }
+        requires front { IsFront self.now text.old }
+        requires event_of_names { is_event_of (length self.now.devices) event.now ≡ true }
+        ensures { IfSome result (λ left. bytes.now ≡ (text.old ++ event_text self.now event.now) ++ (10 ∷ left.now)) }
     {
-        self.at_hand.spell_event(event, text);
-        let (first, left) = behind(text.as_slice(), bytes)?.split_first()?;
-        if *first != b'\n' {
-            return None;
-        }
-        Some(left)
+        self.at_hand.end_line(event, text);
+        behind(text.as_slice(), bytes)
     }
 
     /// The line of the plan whose text this is behind a line of that time, in format 2 where that is true.

@@ -2,9 +2,10 @@
 
 ghost use Rattle.std.specs.Prelude.{◌≡◌, ◌<◌, ◌^◌, [], List, ℕ, Bool, None, Some, IfErr, IfNone, IfOk, IfSome, if◌then◌else◌, length, true};
 ghost use Rattle.pm_audit.specs.Auditing.{IsRead};
-ghost use Rattle.pm_audit.specs.Offers.{HasTakenFirst, IsFront};
+ghost use Rattle.pm_audit.specs.Offers.{HasTakenFirst, IsStart};
 ghost use Rattle.pm_book.specs.Takings.{TakerStandsFor};
 ghost use Rattle.pm_judge.specs.Judging.{JudgeStandsFor};
+ghost use Rattle.pm_linetext.specs.Fronts.{IsFront};
 ghost use Rattle.pm_model.specs.declared.event.Line.{Line as ALine};
 ghost use Rattle.pm_model.specs.Lawful.{IsLawful, is_finished};
 ghost use Rattle.pm_model.specs.LineOf.{is_actor_of};
@@ -12,7 +13,7 @@ ghost use Rattle.pm_model.specs.Text.{names_of};
 ghost use Rattle.pm_model.specs.World.{world};
 
 use crate::fronts::Fronts;
-use crate::offers::{Front, PlanNames};
+use crate::offers::{PlanNames, Start};
 use crate::reading::NoWhy;
 use pm_base::NoMemory;
 use pm_book::{Book, Taker};
@@ -116,43 +117,47 @@ impl Reader {
     }
 }
 
-// Takes the line that this front's actor may write at its time, where the bytes behind the front are the text of
-// its event and begin with a newline behind that. Gives what is behind the newline.
+// Takes the line that may be written at this start, whose front the text is, where the bytes begin with its text and
+// a newline. Gives what is behind these.
 #[inline(always)]
 fn take_by<'a>(
     taker: &mut Taker,
     names: &PlanNames,
     fronts: &mut Fronts,
-    front: &Front<'a>,
+    start: Start,
+    bytes: &'a [u8],
 ) -> Option<&'a [u8]>
     requires names { names.now ≡ names_of taker.old.judge.plan }
-    requires in_range { is_actor_of (length names.now.devices) (length names.now.callers) front.now.actor ≡ true }
-    requires in_time { front.now.time < 2 ^ 63 }
-    ensures taken { IfSome result (λ behind. (f : Bool) (bytes : List ℕ) → IsFront f names.now taker.old.judge.last bytes front.now → HasTakenFirst f taker.old taker.new bytes behind.now) }
+    requires in_range { is_actor_of (length names.now.devices) (length names.now.callers) start.actor ≡ true }
+    requires in_time { start.time < 2 ^ 63 }
+    requires front { IsFront names.now fronts.old.text }
+    ensures taken { IfSome result (λ behind. (f : Bool) → IsStart f names.now taker.old.judge.last fronts.old.text start → HasTakenFirst f taker.old taker.new bytes.now behind.now) }
     ensures left { IfNone result (taker.new ≡ taker.old) }
 {
     if !taker
         .judge()
-        .offer(front.actor, front.time, &mut fronts.row)
+        .offer(start.actor, start.time, &mut fronts.row)
     {
         return None;
     }
     let Move::Write(event, change, next) = &fronts.row else {
         return None;
     };
-    let behind = names.behind(event, &mut fronts.text, front.behind)?;
+    let behind = names.behind(event, &mut fronts.text, bytes)?;
     let line = Line {
-        time: front.time,
-        actor: front.actor,
+        time: start.time,
+        actor: start.actor,
         event: *event,
     };
     taker.accept(&line, *change, next);
-    fronts.note(front.actor);
+    fronts.note(start.actor);
     Some(behind)
 }
 
 // Takes the line that may come next with whose text, in format 2 where that is true, and newline the bytes
 // begin, where it is found by its time and its actor. Gives what is behind these.
+#[tactic(auto, using(crate::proofs::Spelled::front_of))]
+#[inline(always)]
 fn take_offered<'a>(
     taker: &mut Taker,
     names: &PlanNames,
@@ -165,12 +170,14 @@ fn take_offered<'a>(
     ensures left { IfNone result (taker.new ≡ taker.old) }
 {
     let last = taker.judge().last_time();
-    if let Some(front) = names.likely_front(last, fronts, is_format2, bytes) {
-        return take_by(taker, names, fronts, &front);
-    }
-    let plan = taker.judge().plan();
-    let front = names.front_apart(plan, last, &mut fronts.time, is_format2, bytes)?;
-    take_by(taker, names, fronts, &front)
+    let start = match names.likely_start(last, fronts, is_format2, bytes) {
+        Some(start) => start,
+        None => {
+            let plan = taker.judge().plan();
+            names.start_apart(plan, last, &mut fronts.text, is_format2, bytes)?
+        }
+    };
+    take_by(taker, names, fronts, start, bytes)
 }
 
 // Takes the line whose text this is, in format 2 where that is true, or says why it is bad.

@@ -88,7 +88,7 @@ impl Taker {
     /// Takes a line by an actor of the plan, at a time below 2^63 milliseconds of the run, that may come next:
     /// its row changes this beside the line's event, and this takes the place of its actor's stage. It takes
     /// memory for lines alone, and none where none are kept; where it runs out, lines are no longer kept.
-    #[inline]
+    #[inline(always)]
     pub fn accept(&mut self, line: &Line, change: Change, next: &Then)
         requires in_range { IsActor self.old.judge.plan line.now.actor }
         requires in_time { line.now.time < 2 ^ 63 }

@@ -11,7 +11,7 @@ ghost use Rattle.pm_endings.specs.Pieces.{AreInTime, format_of, header_piece, li
 
 use pm_base::Failed;
 use pm_io::{Sink, write_whole};
-use pm_linetext::{LineSpeller, LineText};
+use pm_linetext::{LineSpeller, TimedText};
 use pm_model::{Line, Plan};
 
 /// A format of traces.
@@ -91,7 +91,7 @@ fn write_lines<O: Sink>(
         (TookPrefix (O.taken out.old) (O.taken out.new) (line_pieces format speller.now 0 lines.now)) }
     ensures failed { OnErr result (Rose (O.faults out.old) (O.faults out.new)) }
 {
-    let mut text = LineText::new();
+    let mut text = TimedText::new();
     let mut base = 0;
     for line in lines {
         spell(speller, format, base, line, &mut text);
@@ -102,7 +102,7 @@ fn write_lines<O: Sink>(
 }
 
 /// Puts the line's text behind a line of time `base`, with its newline, in place of what `text` held.
-fn spell(speller: &LineSpeller, format: Format, base: u64, line: &Line, text: &mut LineText)
+fn spell(speller: &LineSpeller, format: Format, base: u64, line: &Line, text: &mut TimedText)
     requires of_plan { is_line_of speller.now line.now ≡ true }
     requires in_time { base ≤ line.now.time }
     ensures { text.new ≡ line_piece format speller.now base line.now }

@@ -116,6 +116,7 @@ impl Files for MemFiles {
           calls = counted self.old.calls;
           faults = counted self.old.faults;
         }) }
+        ensures length { length buf.new ≡ length buf.old }
         ensures no_bytes { OnErr result (buf.new ≡ buf.old) }
         ensures never_falls { self.old.faults ≤ self.new.faults }
     {
@@ -137,6 +138,7 @@ fn copy_front(from: &[u8], to: &mut [u8]) -> usize
     ensures count { result ≡ min (length from.now) (length to.old) }
     ensures front { take result to.new ≡ take result from.now }
     ensures behind { drop result to.new ≡ drop result to.old }
+    ensures length { length to.new ≡ length to.old }
 {
     let count = from.len().min(to.len());
     to[..count].copy_from_slice(&from[..count]);

@@ -1,5 +1,5 @@
 //! Files that are read, one at a time.
-ghost use Rattle.std.specs.Prelude.{◌≡◌, ℕ, ◌+◌, ◌^◌, ◌<◌, ◌≤◌, ◌↔◌, List, [], length, take, drop, Bool, true, false, Option, IsTrue, IsSome, IfSome, IfOk, OnOk, OnErr, IsErrOf, vec_len, vec_capacity};
+ghost use Rattle.std.specs.Prelude.{◌≡◌, ℕ, ◌+◌, ◌^◌, ◌<◌, ◌≤◌, ◌↔◌, List, [], length, take, Bool, true, false, Option, IsTrue, IsSome, IfSome, IfOk, OnOk, OnErr, IsErrOf, vec_len, vec_capacity};
 ghost use Rattle.std.specs.Io.KnownBytes.{prepend_known};
 ghost use Rattle.pm_io.specs.Faults.{Rose};
 ghost use Rattle.pm_io.specs.declared.reading.FileFault.TheVariants.{Failed as FailedFault, NoMemory as NoMemoryFault};
@@ -45,9 +45,9 @@ pub trait Files {
         ensures same { told self.new ≡ told self.old };
 
     /// Puts the next bytes of the started file at the front of `buf` and answers how many. 0 is the
-    /// end of the file.
+    /// end of the file. As with a read of `std`, nothing is said of what `buf` has behind them.
     ///
-    /// After `Failed` the file is still started, at the same place.
+    /// After `Failed` the file is still started, at the same place, and nothing is said of what `buf` has.
     fn read(&mut self, buf: &mut [u8]) -> Result<usize, Failed>
         requires started { is_started self.old ≡ true }
         requires room { 0 < length buf.old }
@@ -59,9 +59,8 @@ pub trait Files {
         ensures end { IfOk result
             (λ n. IfSome (unread self.old) (λ bytes. (n ≡ 0) ↔ (bytes ≡ []))) }
         ensures moves { IfOk result (λ n. place self.new ≡ place self.old + n) }
-        ensures behind { IfOk result (λ n. drop n buf.new ≡ drop n buf.old) }
+        ensures length { length buf.new ≡ length buf.old }
 
-        ensures no_bytes { OnErr result (buf.new ≡ buf.old) }
         ensures none_read { OnErr result (unread self.new ≡ unread self.old) }
         ensures stays { OnErr result (place self.new ≡ place self.old) }
         ensures failed { OnErr result (Rose (faults self.old) (faults self.new)) }

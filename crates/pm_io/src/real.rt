@@ -5,7 +5,7 @@ ghost use Rattle.pm_io.specs.Faults.{Rose};
 use crate::faults::fault;
 use crate::reading::Files;
 use crate::writing::Sink;
-use pm_base::{Failed, PIECE_BYTES};
+use pm_base::Failed;
 use std::io::{ErrorKind, Print, Read, Stderr, Stdout};
 use std::marker::Model;
 use std::rt::Files as FileSystem;
@@ -73,16 +73,12 @@ impl<R: FileSystem + Drop> Files for DiskFiles<R> {
         }
     }
 
-    // `std` doesn't say that a read leaves the rest of its buffer alone, so it gets one of its own.
     fn read(&mut self, buf: &mut [u8]) -> Result<usize, Failed> {
-        let mut piece = [0; PIECE_BYTES];
-        let most = buf.len().min(PIECE_BYTES);
         let Some(file) = &mut self.file else {
             unreachable!()
         };
-        match read_some(file, &mut piece[..most]) {
+        match read_some(file, buf) {
             Some(count) => {
-                buf[..count].copy_from_slice(&piece[..count]);
                 self.place += count as u64;
                 Ok(count)
             }

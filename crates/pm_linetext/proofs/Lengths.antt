@@ -42,6 +42,7 @@ use Rattle.pm_model.specs.declared.rows.CallerRow.{CallerRow}
 use Rattle.pm_model.specs.declared.rows.DeviceRow.{DeviceRow}
 use Rattle.pm_model.specs.declared.rows.DomainRow.{DomainRow}
 use Rattle.pm_model.specs.declared.rows.LinkRow.{LinkRow}
+use Rattle.pm_linetext.specs.Fronts.{front_text}
 use Rattle.pm_linetext.specs.NamesFit.{NamesFit}
 use Rattle.pm_linetext.specs.ShortLine.{are_short_fields, is_short_event, is_short_line}
 
@@ -265,14 +266,23 @@ low_len true n low high chosen fits = fits
 low_len false n low high chosen fits = cc
 
 -- what is_line says of the time and of the event
-line_parts : (devices callers : ℕ) (line : Line) → is_line devices callers line ≡ true → (line.time < 2 ^ 63) × (is_event_of devices line.event ≡ true)
+pub line_parts : (devices callers : ℕ) (line : Line) → is_line devices callers line ≡ true → (line.time < 2 ^ 63) × (is_event_of devices line.event ≡ true)
 line_parts devices callers line h =
     let parts = and_parts (nat_lt line.time (2 ^ 63) && is_actor_of devices callers line.actor) (is_event_of devices line.event) h in
     (ltb-true line.time (2 ^ 63) (and_parts (nat_lt line.time (2 ^ 63)) (is_actor_of devices callers line.actor) parts.0).0, parts.1)
 
 -- the text of an event over names that fit
-pub named_event_len : (names : Names) → NamesFit names → (devices : ℕ) (e : Event) → is_event_of devices e ≡ true → length (event_text names e) ≤ TEXT_BYTES
-named_event_len names fit devices e h = omega (arith, either_len (is_short_event e) _ 103 118 (omega arith) (event_len names fit devices e h))
+pub named_event_len : (names : Names) → NamesFit names → (devices : ℕ) (e : Event) → is_event_of devices e ≡ true → length (event_text names e) ≤ 118
+named_event_len names fit devices e h = either_len (is_short_event e) _ 103 118 (omega arith) (event_len names fit devices e h)
+
+-- the front of a line over names that fit, as far as its time and its actor
+pub named_start_len : (names : Names) → NamesFit names → (time : ℕ) (a : ActorId) → time < 2 ^ 63 → length ((decimal time ++ space) ++ actor_text names a) ≤ 58
+named_start_len names fit time a small =
+    simp length-append (omega (arith, length-decimal-le 19 time (lit< tt) (omega arith) (omega arith), actor_len names fit a))
+
+pub named_front_len : (names : Names) → NamesFit names → (time : ℕ) (a : ActorId) → time < 2 ^ 63 → length (front_text names time a) ≤ 59
+named_front_len names fit time a small =
+    simp length-append (omega (arith, length-decimal-le 19 time (lit< tt) (omega arith) (omega arith), actor_len names fit a))
 
 -- the text of a line over names that fit, with an earlier time in its place
 pub named_text_len : (names : Names) → NamesFit names → (devices callers : ℕ) (line : Line) (time : ℕ) → is_line devices callers line ≡ true → time ≤ line.time → length (line_text names (record line { time = time })) ≤ TEXT_BYTES

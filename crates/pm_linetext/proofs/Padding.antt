@@ -1,14 +1,14 @@
 -- Names of a plan, of which none is longer than what it is padded to.
-use Rattle.std.proofs.Common.{◌≡◌, ℕ, ◌≤◌, zero, suc, List, [], ◌∷◌, ◌++◌, true, map, min, length, take, slice_index_or, refl, sym, subst, arith}
+use Rattle.std.proofs.Common.{◌≡◌, ℕ, ◌<◌, ◌≤◌, ◌^◌, zero, suc, List, [], ◌∷◌, ◌++◌, true, map, min, length, take, slice_index_or, refl, sym, subst, arith}
 use Rattle.std.proofs.lemmas.Grind.{common_steps}
 use Rattle.std.proofs.lemmas.List.{length-map, length-take, take_all, take-append-le}
-use Rattle.pm_model.specs.LineOf.{is_line, is_line_of}
+use Rattle.pm_model.specs.LineOf.{is_event_of, is_line, is_line_of}
 use Rattle.pm_model.specs.declared.event.Line.{Line}
 use Rattle.pm_model.specs.declared.plan.Plan.{Plan}
 use Rattle.pm_model.specs.Spelling.{Names}
 use Rattle.pm_model.specs.Text.{names_of}
 use Rattle.pm_linetext.specs.NamesFit.{NamesFit}
-use Rattle.pm_linetext.proofs.Lengths.{names_fit}
+use Rattle.pm_linetext.proofs.Lengths.{line_parts, names_fit}
 
 -- as much of a name as is kept is what stands before the padding
 pub cut_name : (name rest : List ℕ) (most len : ℕ) → len ≡ min (length name) most → take len (take len name ++ rest) ≡ take most name
@@ -33,6 +33,12 @@ callers_whole plan = kept_whole (λ row. row.name) plan.callers (names_fit plan)
 pub line_of_names : (plan : Plan) (names : Names) (line : Line) → names ≡ names_of plan → is_line_of plan line ≡ true → is_line (length names.devices) (length names.callers) line ≡ true
 line_of_names plan names line e h =
     rw (e, length-map plan.devices (λ row. row.name), length-map plan.callers (λ row. row.name)) h
+
+-- its time, or an earlier one, is below 2^63, and its event is one over its names
+pub parts_of_names : (plan : Plan) (names : Names) (line : Line) (time : ℕ) → names ≡ names_of plan → is_line_of plan line ≡ true → time ≤ line.time → (time < 2 ^ 63) × (is_event_of (length names.devices) line.event ≡ true)
+parts_of_names plan names line time e h earlier =
+    let parts = line_parts (length names.devices) (length names.callers) line (line_of_names plan names line e h) in
+    (omega (arith, parts.0, earlier), parts.1)
 
 abbrev names_of_both : List (List ℕ) → List (List ℕ) → Names
 names_of_both devices callers = record { devices = devices; callers = callers }

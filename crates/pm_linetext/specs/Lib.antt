@@ -1,3 +1,4 @@
+pub mod Fronts
 pub mod NamesFit
 pub mod Payload
 pub mod Room

@@ -1,23 +1,27 @@
 //! Names of a plan that are copied whole.
 
-ghost use Rattle.std.specs.Prelude.{◌≡◌, ◌<◌, ◌≤◌, ◌++◌, [], IfOk, IfSome, length, map, slice_index_or, take, true};
+ghost use Rattle.std.specs.Prelude.{◌≡◌, ◌<◌, ◌^◌, ◌++◌, [], IfOk, length, map, slice_index_or, take, true};
 ghost use Rattle.pm_base.specs.declared.limits.TheConstants.{MAX_NAME};
-ghost use Rattle.pm_model.specs.LineOf.{is_event_of, is_line};
-ghost use Rattle.pm_model.specs.Spelling.{caller_name, device_name, event_text, line_text};
+ghost use Rattle.pm_model.specs.LineOf.{is_actor_of, is_event_of};
+ghost use Rattle.pm_model.specs.Spelling.{event_text, newline};
 ghost use Rattle.pm_model.specs.Text.{names_of};
+ghost use Rattle.pm_linetext.specs.Fronts.{IsFront, front_text};
 ghost use Rattle.pm_linetext.specs.Room.{HasRoom};
 
-use crate::events::{push_event, push_line};
+use crate::events::push_event;
 use crate::names::NameSource;
 use crate::padded::PaddedName;
+use crate::pieces::push_actor;
 use crate::text::LineText;
-use pm_base::NoMemory;
-use pm_model::{Event, Line, Named, NamedList, Plan};
+use crate::timed::TimedText;
+use pm_base::{ActorId, NoMemory};
+use pm_model::{Event, Named, NamedList, Plan};
 use std::alloc::{AllocError, Global};
 use std::marker::Model;
 
 /// The names of a plan's devices and callers, each with what pads it, so that a line is spelled in one
-/// buffer, with no memory and without failure. It doesn't borrow the plan. Contracts see the names.
+/// buffer, with no memory and without failure: its front first, and then its event. It doesn't borrow the plan.
+/// Contracts see the names.
 #[derive(Drop)]
 pub struct NamesAtHand {
     devices: Vec<PaddedName>,
@@ -45,55 +49,41 @@ impl NamesAtHand {
         Ok(NamesAtHand { devices, callers })
     }
 
-    /// Puts the text of a line with this time in place of its own, in format 1 and without a newline, in
-    /// place of what `text` held. The line is one of a plan with as many devices and callers.
-    pub fn spell(&self, time: u64, line: &Line, text: &mut LineText)
-        requires line_of_names { is_line (length self.now.devices) (length self.now.callers) line.now ≡ true }
-        requires not_later { time ≤ line.now.time }
-        ensures { text.new ≡ line_text self.now (record line.now { time = time }) }
+    /// Whether the actor is one of a plan with as many devices and callers.
+    #[inline]
+    pub fn has_actor(&self, actor: ActorId) -> bool
+        ensures { result ≡ is_actor_of (length self.now.devices) (length self.now.callers) actor }
+    {
+        match actor {
+            ActorId::Caller(place) => (place as usize) < self.callers.len(),
+            ActorId::Work(place) | ActorId::Timer(place) => (place as usize) < self.devices.len(),
+        }
+    }
+
+    /// Puts the front of a line, its time and its actor, in place of what `text` held.
+    #[inline(always)]
+    pub fn start_line(&self, time: u64, actor: ActorId, text: &mut TimedText)
+        requires { time < 2 ^ 63 }
+        ensures { text.new ≡ front_text self.now time actor }
     {
         let _ = &self.devices; // so the proof knows that the names fit
-        text.clear();
-        push_line(text, self, time, line);
+        text.put_time(time);
+        push_actor(&mut text.text, self, actor);
+        text.text.push(b" ");
     }
 
-    /// Puts the text of an event in place of what `text` held. The event is one of a plan with as many devices.
-    pub fn spell_event(&self, event: &Event, text: &mut LineText)
-        requires { is_event_of (length self.now.devices) event.now ≡ true }
-        ensures { text.new ≡ event_text self.now event.now }
+    /// Puts the text of an event and the newline behind the front of its line. The event is one of a plan with as
+    /// many devices.
+    #[inline(always)]
+    pub fn end_line(&self, event: &Event, text: &mut TimedText)
+        requires front { IsFront self.now text.old }
+        requires event_of_names { is_event_of (length self.now.devices) event.now ≡ true }
+        ensures { text.new ≡ text.old ++ (event_text self.now event.now ++ newline) }
     {
         let _ = &self.devices; // so the proof knows that the names fit
-        text.clear();
-        push_event(text, self, event);
+        push_event(&mut text.text, self, event);
+        text.text.push(b"\n");
     }
-
-    /// The name of the device at a place, where there is one.
-    #[inline]
-    pub fn device_name(&self, place: usize) -> Option<&[u8]>
-        ensures name { IfSome result (λ name. name.now ≡ device_name self.now place) }
-        ensures in_range { IfSome result (λ _. place < length self.now.devices) }
-    {
-        name_at(&self.devices, place)
-    }
-
-    /// The name of the caller at a place, where there is one.
-    #[inline]
-    pub fn caller_name(&self, place: usize) -> Option<&[u8]>
-        ensures name { IfSome result (λ name. name.now ≡ caller_name self.now place) }
-        ensures in_range { IfSome result (λ _. place < length self.now.callers) }
-    {
-        name_at(&self.callers, place)
-    }
-}
-
-/// The name at a place, where there is one.
-#[inline]
-fn name_at(names: &[PaddedName], place: usize) -> Option<&[u8]>
-    ensures name { IfSome result (λ name. name.now ≡ slice_index_or names.now place []) }
-    ensures in_range { IfSome result (λ _. place < length names.now) }
-{
-    let name = names.get(place)?;
-    Some(name.as_slice())
 }
 
 /// The padded names are at hand.

@@ -1,8 +1,8 @@
 //! The text of a line, in both formats of a trace.
 //!
-//! A line of a plan has one text in each format. `LineSpeller` puts it with a newline into a `LineText`,
-//! with no memory and without failure, and `NamesAtHand` without one, and without the plan. `write_line`
-//! and `write_line2` append it to a `Vec`, without a newline, and take no memory but for that.
+//! A line of a plan has one text in each format. `LineSpeller` puts it with a newline into a `TimedText`, with no
+//! memory and without failure, and so does `NamesAtHand`, without the plan and in two steps. `write_line` and
+//! `write_line2` append it to a `Vec`, without a newline, and take no memory but for that.
 #![tactic(auto)]
 
 ghost use Rattle.std.specs.Prelude.{◌≡◌, ℕ, ◌+◌, ◌<◌, ◌≤◌, ◌++◌, true, length, IsOk, OnErr, OnOk, vec_capacity, vec_len};
@@ -23,12 +23,14 @@ mod speller;
 #[cfg(test)]
 mod tests;
 mod text;
+mod timed;
 mod words;
 
 pub use crate::at_hand::NamesAtHand;
 use crate::events::push_line;
 pub use crate::speller::LineSpeller;
-pub use crate::text::LineText;
+use crate::text::LineText;
+pub use crate::timed::TimedText;
 pub use crate::words::{
     cb_named, cb_of, cb_place, helper_named, helper_of, helper_place, operand_of, req_named,
     req_of, req_place, status_named, status_of, status_place, takes_device,

@@ -39,7 +39,7 @@ pub(crate) fn push_device<S: NameSource, const N: usize>(
 }
 
 /// Appends who writes the line.
-#[inline]
+#[inline(always)]
 pub(crate) fn push_actor<S: NameSource>(text: &mut LineText, names: &S, actor: ActorId)
     requires { HasRoom text.old (actor_text (S.names names.now) actor) }
     ensures { text.new ≡ text.old ++ actor_text (S.names names.now) actor }

@@ -6,7 +6,7 @@ ghost use Rattle.pm_model.specs.Spelling.{line_text, line_text2, newline};
 ghost use Rattle.pm_model.specs.Text.{names_of};
 
 use crate::at_hand::NamesAtHand;
-use crate::text::LineText;
+use crate::timed::TimedText;
 use pm_base::NoMemory;
 use pm_model::{Line, Plan};
 use std::alloc::Global;
@@ -44,7 +44,7 @@ impl<'p> LineSpeller<'p> {
 
     /// Puts the text of a line in format 1, with a newline, in place of what `text` held.
     #[inline]
-    pub fn spell_line(&self, line: &Line, text: &mut LineText)
+    pub fn spell_line(&self, line: &Line, text: &mut TimedText)
         requires { is_line_of self.now line.now ≡ true }
         ensures { text.new ≡ line_text (names_of self.now) line.now ++ newline }
     {
@@ -54,7 +54,7 @@ impl<'p> LineSpeller<'p> {
     /// Puts the text of a line in format 2 behind a line of time `base`, with a newline, in place of
     /// what `text` held: the text of format 1 with the time since `base` in place of the time.
     #[inline]
-    pub fn spell_line2(&self, base: u64, line: &Line, text: &mut LineText)
+    pub fn spell_line2(&self, base: u64, line: &Line, text: &mut TimedText)
         requires line_of_plan { is_line_of self.now line.now ≡ true }
         requires not_before { base ≤ line.now.time }
         ensures { text.new ≡ line_text2 (names_of self.now) base line.now ++ newline }
@@ -64,12 +64,12 @@ impl<'p> LineSpeller<'p> {
 
     /// Puts the text of a line with this time in place of its own, with a newline.
     #[inline]
-    fn spell_timed(&self, time: u64, line: &Line, text: &mut LineText)
+    fn spell_timed(&self, time: u64, line: &Line, text: &mut TimedText)
         requires line_of_plan { is_line_of self.now line.now ≡ true }
         requires not_later { time ≤ line.now.time }
         ensures { text.new ≡ line_text (names_of self.now) (record line.now { time = time }) ++ newline }
     {
-        self.names.spell(time, line, text);
-        text.push(b"\n");
+        self.names.start_line(time, line.actor, text);
+        self.names.end_line(&line.event, text);
     }
 }

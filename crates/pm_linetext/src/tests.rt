@@ -1,6 +1,6 @@
 //! Lines and their texts. The texts are written by hand.
 
-ghost use Rattle.std.specs.Prelude.{◌≡◌, [], None, IfOk, false, length, true};
+ghost use Rattle.std.specs.Prelude.{◌≡◌, ◌<◌, ◌^◌, [], None, IfOk, false, length, true};
 ghost use Rattle.std.specs.List.{list_all};
 ghost use Rattle.pm_model.specs.LineOf.{is_line};
 
@@ -348,7 +348,7 @@ fn speller_spells(rt: &(impl Abort + AllocGlobal), plan: &Plan) -> Result<(), Fa
     requires callers { length plan.now.callers ≡ 2 }
 {
     let speller = LineSpeller::new(rt.alloc(), plan)?;
-    let mut text = LineText::new();
+    let mut text = TimedText::new();
     speller.spell_line(&LONGEST, &mut text);
     assert_eq!(rt; text.as_slice().len(), 178);
     speller.spell_line2(9223372036854775806, &LONGEST_SHORT, &mut text);
@@ -365,25 +365,37 @@ fn a_speller_spells_in_place(rt: HostRuntime) -> Result<(), Fail> {
     speller_spells(&rt, &plan)
 }
 
+// The text of the line by the names, with this time in place of its own.
+fn named(names: &NamesAtHand, time: u64, line: &Line, text: &mut TimedText)
+    requires line_of_names { is_line (length names.now.devices) (length names.now.callers) line.now ≡ true }
+    requires in_time { time < 2 ^ 63 }
+{
+    names.start_line(time, line.actor, text);
+    names.end_line(&line.event, text);
+}
+
 fn names_spell(rt: &(impl Abort + AllocGlobal), plan: &Plan) -> Result<(), Fail>
     requires devices { length plan.now.devices ≡ 2 }
     requires callers { length plan.now.callers ≡ 2 }
 {
     let names = NamesAtHand::new(rt.alloc(), plan)?;
-    let mut text = LineText::new();
-    names.spell(LONGEST.time, &LONGEST, &mut text);
+    let mut text = TimedText::new();
+    named(&names, LONGEST.time, &LONGEST, &mut text);
     let longest = text.as_slice().len();
-    names.spell(10, &TIMED[4], &mut text);
+    named(&names, 10, &TIMED[4], &mut text);
     assert_eq!(rt;
         text.as_slice(),
-        b"10 timer.a pm_timer: a fire auto".as_slice()
+        b"10 timer.a pm_timer: a fire auto\n".as_slice()
     );
-    names.spell(1, &TIMED[4], &mut text);
+    named(&names, 1, &TIMED[4], &mut text);
+    named(&names, 1, &TIMED[4], &mut text);
     assert_eq!(rt;
         text.as_slice(),
-        b"1 timer.a pm_timer: a fire auto".as_slice()
+        b"1 timer.a pm_timer: a fire auto\n".as_slice()
     );
-    assert_eq!(rt; longest, 177);
+    assert_eq!(rt; longest, 178);
+    assert!(rt; names.has_actor(ActorId::Caller(1)) && !names.has_actor(ActorId::Caller(2)));
+    assert!(rt; names.has_actor(ActorId::Work(1)) && !names.has_actor(ActorId::Timer(2)));
     Ok(())
 }
 

@@ -1,6 +1,6 @@
 //! The text of one line while it is spelled.
 
-ghost use Rattle.std.specs.Prelude.{◌≡◌, ◌++◌, ◌<◌, ◌^◌, [], decimal};
+ghost use Rattle.std.specs.Prelude.{◌≡◌, ◌++◌, ◌<◌, ◌≤◌, ◌^◌, [], decimal, length, take};
 ghost use Rattle.std.specs.Fmt.{signed_decimal};
 ghost use Rattle.pm_model.specs.Spelling.{space};
 ghost use Rattle.pm_linetext.specs.Room.{HasRoom};
@@ -13,7 +13,7 @@ use std::marker::Model;
 /// The text of one line as far as it is spelled. It takes no memory, and has room for the longest
 /// line with its newline and for a padded name behind that. Contracts see its bytes.
 #[derive(Drop)]
-pub struct LineText {
+pub(crate) struct LineText {
     bytes: [u8; 256],
     len: usize,
 }
@@ -30,7 +30,7 @@ impl Model for LineText {
 
 impl LineText {
     /// No text.
-    pub fn new() -> LineText
+    pub(crate) fn new() -> LineText
         ensures { result ≡ [] }
     {
         LineText {
@@ -41,28 +41,37 @@ impl LineText {
 
     /// The bytes.
     #[inline]
-    pub fn as_slice(&self) -> &[u8]
+    pub(crate) fn as_slice(&self) -> &[u8]
         ensures { result.now ≡ self.now }
     {
         &self.bytes[..self.len]
     }
 
+    /// How many bytes there are.
+    #[inline]
+    pub(crate) fn len(&self) -> usize
+        ensures { result ≡ length self.now }
+    {
+        self.len
+    }
+
     /// Puts a time and the space behind it in place of what the text held.
-    pub fn put_time(&mut self, time: u64)
+    pub(crate) fn put_time(&mut self, time: u64)
         requires { time < 2 ^ 63 }
         ensures { self.new ≡ decimal time ++ space }
     {
-        self.clear();
+        self.cut(0);
         self.push_number(time);
         self.push(b" ");
     }
 
-    /// Leaves no text.
+    /// Leaves the first bytes, as many as this.
     #[inline]
-    pub(crate) fn clear(&mut self)
-        ensures { self.new ≡ [] }
+    pub(crate) fn cut(&mut self, len: usize)
+        requires { len ≤ length self.old }
+        ensures { self.new ≡ take len self.old }
     {
-        self.len = 0;
+        self.len = len;
     }
 
     /// Appends a piece.

@@ -10,21 +10,21 @@ use Rattle.pm_audit.proofs.Spelled.{at_write, is_offered, whole_line}
 use Rattle.pm_audit.proofs.reader.take_by.Goals as goal
 
 pub returns-clause-taken : goal.returns-clause-taken
-returns-clause-taken c = λ f bytes is.
+returns-clause-taken c = λ f is.
     let j = c.args.taker.now.judge in
-    let front = c.args.front.now in
+    let start = c.args.start in
     let it = c.in-Write in
     let yes = c.if-not-offer.false in
-    let line = line_by front.actor front.time it.event in
+    let line = line_by start.actor start.time it.event in
     let m = c.offer.new.out in
-    let its_plan : IsOfPlan j.plan front.actor front.time m = subst (λ (x : Judged). IsOfPlan x.plan front.actor front.time m) c.judge.ensures (c.offer.ensures.of_plan yes) in
-    let its : IsOffer j.plan j.world j.last front.actor front.time m = subst (λ (x : Judged). IsOffer x.plan x.world x.last front.actor front.time m) c.judge.ensures (c.offer.ensures.writes yes) in
+    let its_plan : IsOfPlan j.plan start.actor start.time m = subst (λ (x : Judged). IsOfPlan x.plan start.actor start.time m) c.judge.ensures (c.offer.ensures.of_plan yes) in
+    let its : IsOffer j.plan j.world j.last start.actor start.time m = subst (λ (x : Judged). IsOffer x.plan x.world x.last start.actor start.time m) c.judge.ensures (c.offer.ensures.writes yes) in
     let room = subst (λ (x : Judged). x.lines < x.plan.lines) c.judge.ensures (c.offer.ensures.room yes) in
-    let of_plan = at_write (λ e x n. is_line_of j.plan (line_by front.actor front.time e) ≡ true) m it.event it.change it.next it.is its_plan in
-    let writes = at_write (λ e x n. Writes j.plan j.world j.last (line_by front.actor front.time e) x n) m it.event it.change it.next it.is its in
+    let of_plan = at_write (λ e x n. is_line_of j.plan (line_by start.actor start.time e) ≡ true) m it.event it.change it.next it.is its_plan in
+    let writes = at_write (λ e x n. Writes j.plan j.world j.last (line_by start.actor start.time e) x n) m it.event it.change it.next it.is its in
     let found =
-    is_offered f j line it.change it.next bytes c.in_ok-behind.behind.now c.args.names.now c.requires.names is.later of_plan room writes
-    (whole_line c.args.names.now line (front.time - base_of f j.last) bytes front.behind.now c.in_ok-behind.behind.now is.begins c.in_ok-behind.ensures) in
+    is_offered f j line it.change it.next c.args.bytes.now c.in_ok-behind.behind.now c.args.names.now c.requires.names is.later of_plan room writes
+    (whole_line c.args.names.now line (start.time - base_of f j.last) c.args.bytes.now c.args.fronts.now.text c.in_ok-behind.behind.now is.front c.in_ok-behind.ensures) in
     record {
       piece = found.piece;
       begins = found.begins;

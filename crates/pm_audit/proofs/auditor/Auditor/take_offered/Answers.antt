@@ -1,15 +1,32 @@
 -- By what the judge was offered, in the format that is told.
-use Rattle.std.proofs.Common.{◌≡◌, ◌∙◌, Bor, List, ℕ, [], Some, sym}
-use Rattle.pm_audit.proofs.Telling.{reads_if_offered, shorter_if_offered}
+use Rattle.std.proofs.Common.{◌∙◌, subst, sym}
+use Rattle.pm_book.specs.Takings.{Takings}
+use Rattle.pm_audit.specs.Auditing.{HasRead}
+use Rattle.pm_audit.proofs.Telling.{reads_none, reads_offered, reads_on, shorter}
 use Rattle.pm_audit.proofs.auditor.Auditor.take_offered.Goals as goal
 
-pub returns-clause-read : goal.returns-clause-read
-returns-clause-read c =
-    let a = c.args.self.now in
-    let empty : a.rest ≡ Some [] = c.is_empty.ensures.0 c.if-not-is_empty.false in
-    reads_if_offered a c.take_offered.new.self c.in_ok-is_format2.is_format2 c.args.bytes.now (λ (x : Bor (List ℕ)). x.now) c.take_offered.result (sym c.is_some.ensures ∙ c.if-is_some.false) empty
-    c.in_ok-is_format2.ensures c.take_offered.ensures.taken
+pub returns-then-is_some : goal.returns-then-is_some
+returns-then-is_some c = reads_none c.args.bytes.now c.args.self.now
 
-pub returns-clause-shorter : goal.returns-clause-shorter
-returns-clause-shorter c =
-    shorter_if_offered c.args.self.now.reader c.take_offered.new.self c.in_ok-is_format2.is_format2 c.args.bytes.now (λ (x : Bor (List ℕ)). x.now) c.take_offered.result c.take_offered.ensures.taken
+pub returns-in_default : goal.returns-in_default
+returns-in_default c = reads_none c.args.bytes.now c.args.self.now
+
+pub lines-init : goal.lines-init
+lines-init c =
+    (reads_none c.args.bytes.now c.args.self.now, sym c.is_some.ensures ∙ c.if-is_some.false, c.is_empty.ensures.0 c.if-not-is_empty.false, sym c.in-Some.is ∙ c.told.ensures)
+
+pub lines-preserved : goal.lines-preserved
+lines-preserved c =
+    let inv = c.lines.invariant in
+    let behind = c.in-Some-take_offered.behind.now in
+    let step = reads_offered c.lines.self c.take_offered.new.self c.in-Some.is_format2 c.lines.left.now behind inv.1 inv.2 inv.3 c.in-Some-take_offered.ensures.taken in
+    (reads_on c.args.bytes.now c.lines.left.now behind c.args.self.now c.lines.self (record c.lines.self { reader = c.take_offered.new.self }) inv.0 step, inv.1, inv.2, inv.3)
+
+pub lines-smaller : goal.lines-smaller
+lines-smaller c =
+    let first = c.in-Some-take_offered.ensures.taken in
+    shorter c.lines.left.now first.piece c.in-Some-take_offered.behind.now first.begins.split
+
+pub returns : goal.returns
+returns c =
+    subst (λ (t : Takings). HasRead c.args.bytes.now c.lines.left.now c.args.self.now (record c.lines.self { reader = t })) (sym c.in_default-take_offered.ensures.left) c.lines.invariant.0
