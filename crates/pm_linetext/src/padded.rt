@@ -44,14 +44,6 @@ impl PaddedName {
         self.len
     }
 
-    /// The name.
-    #[inline]
-    pub(crate) fn as_slice(&self) -> &[u8]
-        ensures { result.now ≡ self.now }
-    {
-        &self.bytes[..self.len]
-    }
-
     /// The name and what pads it.
     #[inline]
     pub(crate) fn padded(&self) -> &[u8; MAX_NAME]
