@@ -1,20 +1,35 @@
 //! Who is likely to write the next line.
 
+ghost use Rattle.std.specs.Prelude.{◌≡◌, ◌<◌, ◌^◌};
+
+use crate::marks::Mark;
 use pm_base::{ActorId, NoMemory};
 use pm_linetext::TimedText;
 use pm_model::{Move, Plan};
 use std::alloc::Global;
 
-/// What the lines before tell of the next one: most are by who wrote behind the last line's actor the time before,
-/// or by that actor again. No clause says that a line is: its whole text is compared.
+/// An actor, as the lines before tell of it.
+#[derive(Clone, Copy)]
+struct Writer {
+    // What tells its name behind a line's time, once a line of its was found by its name.
+    name: Mark,
+    // Who wrote behind it the last time.
+    follower: ActorId,
+}
+
+/// What the lines before tell of the next one: most have the same time, and are by who wrote behind the last line's
+/// actor the time before, or by who wrote one of the last three lines. No clause says that a line is: its whole text
+/// is compared.
 #[derive(Drop)]
 pub(crate) struct Fronts {
-    // Who wrote behind each actor the last time, by the actor's seat.
-    followers: Vec<ActorId>,
-    // The seat of who wrote the last line.
-    seat: usize,
-    // Who wrote it.
-    last: ActorId,
+    // The actors, by their seats.
+    writers: Vec<Writer>,
+    // Who wrote the last lines, the newest first.
+    last: [ActorId; 3],
+    // The time in the text of a line, how many bytes it has with its space, and what tells it.
+    since: u64,
+    time_len: usize,
+    time: Mark,
     /// The text of a line, as far as it is spelled.
     pub text: TimedText,
     /// The last move that was offered. It is kept here, since it is large.
@@ -31,38 +46,94 @@ fn seat_of(actor: ActorId) -> usize {
 }
 
 impl Fronts {
-    /// Before any line of the plan. It takes 24 bytes for each device or each caller, whichever are more, and
+    /// Before any line of the plan. It takes 144 bytes for each device or each caller, whichever are more, and
     /// fails where memory runs out.
     pub(crate) fn new(alloc: Global, plan: &Plan) -> Result<Fronts, NoMemory> {
         let places = plan.devices.len().max(plan.callers.len());
+        let nobody = Writer {
+            name: Mark::NONE,
+            follower: ActorId::Caller(0),
+        };
+        let text = TimedText::new();
+        let time = Mark::of(text.as_slice());
+        let time_len = text.as_slice().len();
         Ok(Fronts {
-            followers: vec![in alloc; ActorId::Caller(0); places.saturating_mul(3)]?,
-            seat: 0,
-            last: ActorId::Caller(0),
-            text: TimedText::new(),
+            writers: vec![in alloc; nobody; places.saturating_mul(3)]?,
+            last: [ActorId::Caller(0); 3],
+            since: 0,
+            time_len,
+            time,
+            text,
             row: Move::Late(0),
         })
     }
 
-    /// Who wrote behind the last line's actor the time before.
-    #[inline]
-    pub(crate) fn follower(&self) -> Option<ActorId> {
-        self.followers.get(self.seat).copied()
+    // Lines are likely to begin with that time from now on.
+    #[inline(never)]
+    fn turn_to(&mut self, since: u64)
+        requires { since < 2 ^ 63 }
+    {
+        self.text.put_time(since);
+        self.since = since;
+        self.time_len = self.text.as_slice().len();
+        self.time = Mark::of(self.text.as_slice());
     }
 
-    /// Who wrote the last line.
-    #[inline]
-    pub(crate) fn last(&self) -> ActorId {
-        self.last
+    // Whether the bytes seem to begin with the name of this actor.
+    #[inline(always)]
+    fn is_named(&self, actor: ActorId, bytes: &[u8]) -> bool {
+        match self.writers.get(seat_of(actor)) {
+            Some(writer) => writer.name.begins(bytes),
+            None => false,
+        }
+    }
+
+    // Who of those that are likely to write seems to be named where these bytes begin.
+    #[inline(always)]
+    fn writer_named(&self, bytes: &[u8]) -> Option<ActorId> {
+        let follower = self.writers.get(seat_of(self.last[0]))?.follower;
+        if self.is_named(follower, bytes) {
+            return Some(follower);
+        }
+        let last = self.last;
+        last.iter()
+            .copied()
+            .find(|actor| self.is_named(*actor, bytes))
+    }
+
+    /// Who is likely to write the line with which the bytes begin, where its text has that time.
+    #[inline(always)]
+    pub(crate) fn likely_writer(&mut self, since: u64, bytes: &[u8]) -> Option<ActorId>
+        requires { since < 2 ^ 63 }
+    {
+        if self.since != since {
+            self.turn_to(since);
+        }
+        if !self.time.begins(bytes) {
+            return None;
+        }
+        self.writer_named(bytes.get(self.time_len..)?)
+    }
+
+    /// A line of this actor was found by its name, which the text has behind that many bytes: the next is likely to be
+    /// told by it.
+    pub(crate) fn learn(&mut self, actor: ActorId, behind: usize)
+        ensures { self.new.text ≡ self.old.text }
+    {
+        let Some(name) = self.text.as_slice().get(behind..) else {
+            return;
+        };
+        if let Some(writer) = self.writers.get_mut(seat_of(actor)) {
+            writer.name = Mark::of(name);
+        }
     }
 
     /// A line by this actor was taken.
     #[inline]
     pub(crate) fn note(&mut self, actor: ActorId) {
-        if let Some(follower) = self.followers.get_mut(self.seat) {
-            *follower = actor;
+        if let Some(writer) = self.writers.get_mut(seat_of(self.last[0])) {
+            writer.follower = actor;
         }
-        self.seat = seat_of(actor);
-        self.last = actor;
+        self.last = [actor, self.last[0], self.last[1]];
     }
 }

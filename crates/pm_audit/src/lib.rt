@@ -6,6 +6,7 @@
 mod auditor;
 mod fronts;
 mod loading;
+mod marks;
 mod offers;
 mod pieces;
 mod reader;

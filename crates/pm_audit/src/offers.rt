@@ -9,7 +9,7 @@ ghost use Rattle.pm_model.specs.Spelling.{event_text};
 ghost use Rattle.pm_model.specs.Text.{IsTextBehind, names_of as its_names};
 
 use crate::fronts::Fronts;
-use crate::pieces::{behind, seem_to_begin};
+use crate::pieces::behind;
 use pm_base::{ActorId, NoMemory};
 use pm_lineread::{Finders, actor_start, line_start, read_line_by, read_line2_by};
 use pm_linetext::{NamesAtHand, TimedText};
@@ -61,25 +61,9 @@ impl PlanNames {
         })
     }
 
-    // Puts the front of a line in place of what `text` held, where its actor is one of the plan, and tells whether the
-    // bytes are likely to begin with it.
-    #[inline(always)]
-    fn seems(&self, since: u64, actor: ActorId, text: &mut TimedText, bytes: &[u8]) -> bool
-        requires { since < 2 ^ 63 }
-        ensures in_range { result ≡ true → is_actor_of (length self.now.devices) (length self.now.callers) actor ≡ true }
-        ensures front { result ≡ true → text.new ≡ front_text self.now since actor }
-    {
-        if !self.at_hand.has_actor(actor) {
-            return false;
-        }
-        self.at_hand.start_line(since, actor, text);
-        seem_to_begin(text.as_slice(), bytes)
-    }
-
     /// When the line with which the bytes begin may be written, in format 2 where that is true, behind one of that
-    /// time, and by whom, where it is as it is likely: at the same time, by who wrote behind the last line's actor the
-    /// time before, or by that actor again. Its front is put in place of the text. No clause says that the bytes begin
-    /// so, and mostly they do.
+    /// time, and by whom, where it is as it is likely: at the same time, by who is likely to write it. Its front is put
+    /// in place of the text. No clause says that the bytes begin so, and mostly they do.
     #[inline(always)]
     pub(crate) fn likely_start(
         &self,
@@ -92,21 +76,12 @@ impl PlanNames {
         ensures { IfSome result (IsStart is_format2 self.now last fronts.new.text) }
     {
         let since = last - base_of(is_format2, last);
-        let follower = fronts.follower()?;
-        if self.seems(since, follower, &mut fronts.text, bytes) {
-            return Some(Start {
-                time: last,
-                actor: follower,
-            });
+        let actor = fronts.likely_writer(since, bytes)?;
+        if !self.at_hand.has_actor(actor) {
+            return None;
         }
-        let again = fronts.last();
-        if self.seems(since, again, &mut fronts.text, bytes) {
-            return Some(Start {
-                time: last,
-                actor: again,
-            });
-        }
-        None
+        self.at_hand.start_line(since, actor, &mut fronts.text);
+        Some(Start { time: last, actor })
     }
 
     /// When the line with which the bytes begin may be written, in format 2 where that is true, behind one of that
@@ -117,21 +92,25 @@ impl PlanNames {
         &self,
         plan: &Plan,
         last: u64,
-        text: &mut TimedText,
+        fronts: &mut Fronts,
         is_format2: bool,
         bytes: &[u8],
     ) -> Option<Start>
         requires names { self.now ≡ its_names plan.now }
         requires in_time { last < 2 ^ 63 }
-        ensures { IfSome result (IsStart is_format2 self.now last text.new) }
+        ensures { IfSome result (IsStart is_format2 self.now last fronts.new.text) }
     {
         let base = base_of(is_format2, last);
-        text.put_time(last - base);
-        let (time, actor) = match behind(text.as_slice(), bytes) {
+        fronts.text.put_time(last - base);
+        let (time, actor) = match behind(fronts.text.as_slice(), bytes) {
             Some(rest) => (last, actor_start(plan, &self.finders, rest)?),
             None => line_start(plan, &self.finders, base, bytes)?,
         };
-        self.at_hand.start_line(time - base, actor, text);
+        fronts.text.put_time(time - base);
+        let named = fronts.text.as_slice().len();
+        self.at_hand
+            .start_line(time - base, actor, &mut fronts.text);
+        fronts.learn(actor, named);
         Some(Start { time, actor })
     }
 

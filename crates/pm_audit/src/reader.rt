@@ -174,7 +174,7 @@ fn take_offered<'a>(
         Some(start) => start,
         None => {
             let plan = taker.judge().plan();
-            names.start_apart(plan, last, &mut fronts.text, is_format2, bytes)?
+            names.start_apart(plan, last, fronts, is_format2, bytes)?
         }
     };
     take_by(taker, names, fronts, start, bytes)
