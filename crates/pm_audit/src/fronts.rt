@@ -46,7 +46,7 @@ fn seat_of(actor: ActorId) -> usize {
 }
 
 impl Fronts {
-    /// Before any line of the plan. It takes 144 bytes for each device or each caller, whichever are more, and
+    /// Before any line of the plan. It takes 192 bytes for each device or each caller, whichever are more, and
     /// fails where memory runs out.
     pub(crate) fn new(alloc: Global, plan: &Plan) -> Result<Fronts, NoMemory> {
         let places = plan.devices.len().max(plan.callers.len());
