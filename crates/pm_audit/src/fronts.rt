@@ -124,7 +124,9 @@ impl Fronts {
             return;
         };
         if let Some(writer) = self.writers.get_mut(seat_of(actor)) {
-            writer.name = Mark::of(name);
+            if writer.name.is_none() {
+                writer.name = Mark::of(name);
+            }
         }
     }
 

@@ -46,6 +46,11 @@ impl Mark {
         }
     }
 
+    /// Whether it tells no word.
+    pub(crate) fn is_none(&self) -> bool {
+        self.mask == 0
+    }
+
     // Whether these bytes, as far as they are the word's, are those.
     #[inline(always)]
     fn are(&self, bytes: &[u8], those: u128) -> bool {
