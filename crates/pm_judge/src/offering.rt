@@ -30,7 +30,7 @@ pub fn offered(
     ensures writes { result ≡ true → IsOffer plan.now state.now.world last actor time out.new }
     ensures none { result ≡ false → (event : Event) → ¬ MayCome plan.now state.now.world last (record { time = time; actor = actor; event = event }) }
 {
-    // Mostly a stage is open: it is looked at where it stands, since a copy of it costs more than the rest.
+    // Where a stage is open it is looked at where it stands, without a copy.
     if let Some(stage) = state.top(plan, actor) {
         return row_at(plan, state, stage, last, time, out);
     }

@@ -28,7 +28,7 @@ impl Model for Place {
     ghost view = { λ p. record { stages = reverse p.stages.items; room = vec_capacity p.stages } };
 }
 
-// Hands a code down the stages until one goes on. Few lines hand one, so this stays out of their way.
+// Hands a code down the stages until one goes on. Most lines hand none, so this stays out of their way.
 #[inline(never)]
 fn hand(stages: &mut Vec<Stage>, code: i32)
     ensures stages { reverse stages.new.items ≡ after_code (reverse stages.old.items) code }
