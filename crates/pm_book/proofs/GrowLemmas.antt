@@ -61,8 +61,9 @@ still_of plan command c law s is =
         parents_are = is.made_for.parents_are;
         devices_len = is.made_for.devices_len;
         links_are = is.made_for.links_are;
-        attached_are = is.made_for.attached_are;
-        below_are = is.made_for.below_are;
+        homes_are = is.made_for.homes_are;
+        above_are = is.made_for.above_are;
+        domains_len = is.made_for.domains_len;
       };
       callers = is.callers ∙ sym many;
       works = is.works;

@@ -1,34 +1,33 @@
 -- The counters of all devices, links and domains: what they are made for, and the views that they keep (runtime_pm.rst,
 -- section 3; device_link.rst).
-use Rattle.std.specs.Prelude.{◌≡◌, ◌<◌, ◌≤◌, ◌^◌, ℕ, Bool, ◌&&◌, List, Option, All, IfSome, length, map, nat_eq, pos, neg_ℤ, ◌≤ℤ◌}
-use Rattle.pm_base.specs.declared.DevId.{DevId}
+use Rattle.std.specs.Prelude.{◌≡◌, ◌<◌, ◌^◌, ℕ, Bool, not, ◌&&◌, List, Option, All, length, map, nat_eq, pos, neg_ℤ, ◌≤ℤ◌}
 use Rattle.pm_base.specs.declared.Armed.{Armed}
 use Rattle.pm_base.specs.declared.Pending.{Pending}
-use Rattle.pm_base.specs.declared.limits.TheConstants.{MAX_DEVICES, MAX_MS}
+use Rattle.pm_base.specs.declared.limits.TheConstants.{MAX_MS}
 use Rattle.pm_model.specs.declared.plan.Plan.{Plan}
 use Rattle.pm_model.specs.declared.rows.LinkRow.{LinkRow}
 use Rattle.pm_model.specs.declared.views.Device.{Device}
 use Rattle.pm_model.specs.Derived.{is_suspended_status}
 use Rattle.pm_model.specs.Views.{Views}
-use Rattle.pm_domain.specs.Domains.{homes, parents}
-use Rattle.pm_domain.specs.Groups.{AreGroups}
-use Rattle.pm_device.specs.Children.{child_count_at, children_of, parent_at}
+use Rattle.pm_domain.specs.Domains.{above, homes}
+use Rattle.pm_device.specs.Children.{counts, parents}
 
 -- what no line and no script changes
 pub record Shape : Type 0 where
-  pub parents : List (Option DevId)
+  pub parents : List (Option ℕ)
   pub links : List LinkRow
-  pub attached : List (List ℕ)
-  pub below : List (List ℕ)
+  pub homes : List (Option ℕ)
+  pub above : List (Option ℕ)
 
--- counters of this shape were made for this plan, whatever its scripts: it has the parent of each device, the links, and
--- for each domain the devices and the domains that belong to it
+-- counters of this shape were made for this plan, whatever its scripts: it has the parent and the domain of each device,
+-- the links, and the domain above each domain
 pub record IsFor (plan : Plan) (shape : Shape) : Type 0 where
-  pub parents_are : shape.parents ≡ map (λ row. row.parent) plan.devices
+  pub parents_are : shape.parents ≡ parents plan
   pub devices_len : length shape.parents ≡ length plan.devices
   pub links_are : shape.links ≡ plan.links
-  pub attached_are : AreGroups (homes plan) (length plan.domains) shape.attached
-  pub below_are : AreGroups (parents plan) (length plan.domains) shape.below
+  pub homes_are : shape.homes ≡ homes plan
+  pub above_are : shape.above ≡ above plan
+  pub domains_len : length shape.above ≡ length plan.domains
 
 -- the counters of all devices
 pub record Counters : Type 0 where
@@ -45,15 +44,13 @@ pub record IsInTime (x : Device) : Type 0 where
   pub least : neg_ℤ (pos MAX_MS) ≤ℤ x.delay
   pub most : x.delay ≤ℤ pos MAX_MS
 
--- what the counters keep beside the views: how many children of each device count, and which devices are quiet
-pub record IsKept (parents : List (Option DevId)) (devices : List Device) (pending : List Pending) (timers : List (Option Armed)) (on : List Bool) (below : List (List ℕ)) (children : List ℕ) (quiet : List Bool) : Type 0 where
-  pub few : length parents ≤ MAX_DEVICES
+-- what the counters keep beside the views: which devices count as children, and which keep their domains on
+pub record IsKept (parents : List (Option ℕ)) (devices : List Device) (pending : List Pending) (timers : List (Option Armed)) (homes : List (Option ℕ)) (awake : List Bool) (above : List (Option ℕ)) (on counting : List Bool) : Type 0 where
   pub devices_len : length devices ≡ length parents
   pub pending_len : length pending ≡ length parents
   pub timers_len : length timers ≡ length parents
-  pub on_len : length on ≡ length below
-  pub earlier : (d : ℕ) → IfSome (parent_at parents d) (λ p. p.0 < d)
-  pub children_len : length children ≡ length parents
-  pub counted : (d : DevId) → d.0 < length children → child_count_at children d.0 ≡ children_of parents devices d
-  pub quiet_is : quiet ≡ map is_quiet devices
+  pub homes_len : length homes ≡ length parents
+  pub on_len : length on ≡ length above
+  pub counting_is : counting ≡ map (λ x. counts x.status) devices
+  pub awake_is : awake ≡ map (λ x. not (is_quiet x)) devices
   pub in_time : All IsInTime devices

@@ -36,7 +36,7 @@ impl Parts {
             error,
             ..*self.device(dev)
         };
-        self.set_device(dev, device);
+        self.keep_device(dev, device);
     }
 
     /// One more count is taken.
@@ -46,7 +46,7 @@ impl Parts {
         ensures { self.new ≡ record self.old { views = set_usage ((device self.old.views dev).usage + 1) dev self.old.views } }
     {
         let device = *self.device(dev);
-        self.set_device(
+        self.keep_device(
             dev,
             Device {
                 usage: device.usage + 1,
@@ -62,7 +62,7 @@ impl Parts {
         ensures { self.new ≡ record self.old { views = set_usage ((device self.old.views dev).usage - 1) dev self.old.views } }
     {
         let device = *self.device(dev);
-        self.set_device(
+        self.keep_device(
             dev,
             Device {
                 usage: device.usage - 1,
@@ -78,7 +78,7 @@ impl Parts {
         ensures { self.new ≡ record self.old { views = set_share ((device self.old.views dev).share + 1) dev self.old.views } }
     {
         let device = *self.device(dev);
-        self.set_device(
+        self.keep_device(
             dev,
             Device {
                 share: device.share + 1,
@@ -94,7 +94,7 @@ impl Parts {
         ensures { self.new ≡ record self.old { views = set_share ((device self.old.views dev).share - 1) dev self.old.views } }
     {
         let device = *self.device(dev);
-        self.set_device(
+        self.keep_device(
             dev,
             Device {
                 share: device.share - 1,
@@ -112,7 +112,7 @@ impl Parts {
             auto_on,
             ..*self.device(dev)
         };
-        self.set_device(dev, device);
+        self.keep_device(dev, device);
     }
 
     /// The device is marked as last busy at this moment, in milliseconds of the run.
@@ -125,7 +125,7 @@ impl Parts {
             last_busy: time,
             ..*self.device(dev)
         };
-        self.set_device(dev, device);
+        self.keep_device(dev, device);
     }
 
     /// Whether the device was Active as it was disabled.
@@ -137,7 +137,7 @@ impl Parts {
             last_active,
             ..*self.device(dev)
         };
-        self.set_device(dev, device);
+        self.keep_device(dev, device);
     }
 
     /// The depth rises by one.
@@ -168,7 +168,7 @@ impl Parts {
             delay,
             ..*self.device(dev)
         };
-        self.set_device(dev, device);
+        self.keep_device(dev, device);
     }
 
     /// Whether the children of a device don't count.
@@ -180,7 +180,7 @@ impl Parts {
             ignores,
             ..*self.device(dev)
         };
-        self.set_device(dev, device);
+        self.keep_device(dev, device);
     }
 
     /// A callback begins: that of suspend makes the device Suspending.
@@ -190,23 +190,31 @@ impl Parts {
         ensures { self.new ≡ record self.old { views = by_begin dev cb self.old.views } }
     {
         let device = *self.device(dev);
-        let begun = match cb {
-            Cb::Idle => Device {
-                idle_running: true,
-                begun_idle: device.begun_idle + 1,
-                ..device
-            },
-            Cb::Suspend => Device {
-                status: Status::Suspending,
-                begun_suspend: device.begun_suspend + 1,
-                ..device
-            },
-            Cb::Resume => Device {
-                begun_resume: device.begun_resume + 1,
-                ..device
-            },
-        };
-        self.set_device(dev, begun);
+        match cb {
+            Cb::Idle => self.keep_device(
+                dev,
+                Device {
+                    idle_running: true,
+                    begun_idle: device.begun_idle + 1,
+                    ..device
+                },
+            ),
+            Cb::Suspend => self.set_device(
+                dev,
+                Device {
+                    status: Status::Suspending,
+                    begun_suspend: device.begun_suspend + 1,
+                    ..device
+                },
+            ),
+            Cb::Resume => self.keep_device(
+                dev,
+                Device {
+                    begun_resume: device.begun_resume + 1,
+                    ..device
+                },
+            ),
+        }
     }
 
     /// The idle callback has ended.
@@ -218,7 +226,7 @@ impl Parts {
             idle_running: false,
             ..*self.device(dev)
         };
-        self.set_device(dev, device);
+        self.keep_device(dev, device);
     }
 
     /// The depth falls by one, if it isn't 0; as it becomes 0 the last status is forgotten.

@@ -24,7 +24,7 @@ impl Parts {
         requires { IsFor plan.now self.now.shape }
         ensures { result ≡ length (down plan.now self.now.views dev) }
     {
-        self.domains.down_count(plan, dev, &self.quiet)
+        self.domains.down_count(plan, dev)
     }
 
     /// Switches on the domains that go on before a device resumes.
@@ -40,6 +40,6 @@ impl Parts {
         requires { IsFor plan.now self.old.shape }
         ensures { self.new ≡ record self.old { views = switches false (down plan.now self.old.views dev) self.old.views } }
     {
-        self.domains.down(plan, dev, &self.quiet);
+        self.domains.down(plan, dev);
     }
 }

@@ -1,9 +1,9 @@
 //! The counters before any line.
 
-ghost use Rattle.std.specs.Prelude.{◌≡◌, IfOk, false, map, replicate};
+ghost use Rattle.std.specs.Prelude.{◌≡◌, IfOk, map};
 ghost use Rattle.pm_model.specs.Views.{fresh_device};
 ghost use Rattle.pm_model.specs.World.{start_views};
-ghost use Rattle.pm_device.specs.Children.{counts};
+ghost use Rattle.pm_device.specs.Children.{place_of};
 ghost use Rattle.pm_device.specs.Parts.{IsFor};
 
 use crate::Parts;
@@ -12,6 +12,7 @@ use pm_domain::Domains;
 use pm_link::Links;
 use pm_model::{Device, DeviceRow, Plan};
 use pm_request::Requests;
+use pm_tally::Tally;
 use pm_timer::Timers;
 use std::alloc::{AllocError, Global};
 
@@ -47,25 +48,21 @@ fn fresh_devices(alloc: Global, rows: &[DeviceRow]) -> Result<Vec<Device>, Alloc
         .collect(alloc)
 }
 
+// The place of a device in the plan's order.
+fn place_of(dev: Option<DevId>) -> Option<u32>
+    ensures { result ≡ place_of dev }
+{
+    match dev {
+        Some(dev) => Some(dev.0),
+        None => None,
+    }
+}
+
 // The parent of each device.
-fn parents(alloc: Global, rows: &[DeviceRow]) -> Result<Vec<Option<DevId>>, AllocError>
-    ensures { IfOk result (λ v. v.items ≡ map (λ row. row.parent) rows.now) }
+fn parents(alloc: Global, rows: &[DeviceRow]) -> Result<Vec<Option<u32>>, AllocError>
+    ensures { IfOk result (λ v. v.items ≡ map (λ row. place_of row.parent) rows.now) }
 {
-    rows.iter().map(|row| row.parent).collect(alloc)
-}
-
-// No child of any device counts.
-fn zeros(alloc: Global, count: usize) -> Result<Vec<u32>, AllocError>
-    ensures { IfOk result (λ v. v.items ≡ replicate count 0) }
-{
-    vec![in alloc; 0; count]
-}
-
-// No device is quiet.
-fn falses(alloc: Global, count: usize) -> Result<Vec<bool>, AllocError>
-    ensures { IfOk result (λ v. v.items ≡ replicate count false) }
-{
-    vec![in alloc; false; count]
+    rows.iter().map(|row| place_of(row.parent)).collect(alloc)
 }
 
 impl Parts {
@@ -76,22 +73,18 @@ impl Parts {
     {
         let rows = plan.devices.as_slice();
         let devices = fresh_devices(alloc, rows)?;
-        let parents = parents(alloc, rows)?;
+        let children = Tally::new(alloc, parents(alloc, rows)?, rows.len())?;
         let requests = Requests::fresh(alloc, rows.len())?;
         let timers = Timers::fresh(alloc, rows.len())?;
         let domains = Domains::fresh(alloc, plan)?;
         let links = Links::fresh(alloc, plan)?;
-        let children = zeros(alloc, rows.len())?;
-        let quiet = falses(alloc, rows.len())?;
         Ok(Parts {
             devices,
             requests,
             timers,
             domains,
             links,
-            parents,
             children,
-            quiet,
         })
     }
 }

@@ -2,9 +2,9 @@
 //! its lines (`runtime_pm.rst`, section 3).
 #![tactic(auto)]
 
-ghost use Rattle.std.specs.Prelude.{◌≡◌, ◌<◌, ◌+◌, ◌^◌, true, length, slice_set};
-ghost use Rattle.pm_model.specs.Views.{device, with_device};
-ghost use Rattle.pm_device.specs.Children.{child_count_at, counts, device_at, parent_at, recounted};
+ghost use Rattle.std.specs.Prelude.{◌≡◌, ◌<◌, length};
+ghost use Rattle.pm_model.specs.Views.{device as device_of, with_device};
+ghost use Rattle.pm_device.specs.Children.{counts};
 ghost use Rattle.pm_device.specs.Parts.{Counters, IsInTime, is_quiet};
 
 mod changes;
@@ -27,6 +27,7 @@ use pm_domain::Domains;
 use pm_link::Links;
 use pm_model::Device;
 use pm_request::Requests;
+use pm_tally::Tally;
 use pm_timer::Timers;
 pub use rows::{
     added, code_of, domain, has_domain, has_idle, has_parent, marks_busy, ms_of, no_callbacks,
@@ -43,11 +44,8 @@ pub struct Parts {
     timers: Timers,
     domains: Domains,
     links: Links,
-    parents: Vec<Option<DevId>>,
-    // How many children of each device are Active or Suspending.
-    children: Vec<u32>,
-    // Whether each device is Suspended and enabled.
-    quiet: Vec<bool>,
+    // A device is marked where it is Active or Suspending; it belongs to its parent.
+    children: Tally,
 }
 
 impl Model for Parts {
@@ -56,7 +54,7 @@ impl Model for Parts {
     ghost Value = { Counters };
 
     ghost view = { λ p. record {
-      shape = record { parents = p.parents.items; links = p.links.rows; attached = p.domains.attached; below = p.domains.below };
+      shape = record { parents = p.children.owners; links = p.links.rows; homes = p.domains.homes; above = p.domains.above };
       views = record {
         devices = p.devices.items;
         pending = p.requests;
@@ -67,7 +65,7 @@ impl Model for Parts {
       };
     } };
 
-    ghost invariant = { λ p. IsKept p.parents.items p.devices.items p.requests p.timers p.domains.on p.domains.below p.children.items p.quiet.items };
+    ghost invariant = { λ p. IsKept p.children.owners p.devices.items p.requests p.timers p.domains.homes p.domains.awake p.domains.above p.domains.on p.children.bits };
 }
 
 /// Whether a child of this status counts.
@@ -84,47 +82,26 @@ fn is_quiet(device: &Device) -> bool
     matches!(device.status, Status::Suspended) && device.depth == 0
 }
 
-// One child of this device counted and now doesn't, or the other way round.
-fn recount(children: &mut Vec<u32>, parent: DevId, was: bool, is: bool)
-    requires in_range { parent.0 < length children.old.items }
-    requires fits { child_count_at children.old.items parent.0 + 1 < 2 ^ 32 }
-    requires counted { was ≡ true → 0 < child_count_at children.old.items parent.0 }
-    ensures { children.new.items ≡ slice_set children.old.items parent.0 (recounted (child_count_at children.old.items parent.0) was is) }
-{
-    let count = &mut children[parent.0 as usize];
-    *count = *count + u32::from(is) - u32::from(was);
-}
-
-// The parent of a device, by its place.
-fn parent_at(parents: &[Option<DevId>], place: usize) -> Option<DevId>
-    requires { place < length parents.now }
-    ensures { result ≡ parent_at parents.now place }
-{
-    parents[place]
-}
-
-// Whether a device, by its place, is a child that counts.
-fn counts_at(devices: &[Device], place: usize) -> bool
-    requires { place < length devices.now }
-    ensures { result ≡ counts (device_at devices.now place).status }
-{
-    counts(devices[place].status)
-}
-
 impl Parts {
-    // The views of one device change.
+    // The views of one device change. Its parent and its domain count it as it now is.
     fn set_device(&mut self, dev: DevId, device: Device)
         requires in_range { dev.0 < length self.old.shape.parents }
         requires in_time { IsInTime device }
         ensures { self.new ≡ record self.old { views = with_device self.old.views dev device } }
     {
-        let place = dev.0 as usize;
-        let was = counts_at(&self.devices, place);
-        let is = counts(device.status);
-        self.quiet[place] = is_quiet(&device);
-        self.devices[place] = device;
-        if let Some(parent) = parent_at(&self.parents, place) {
-            recount(&mut self.children, parent, was, is);
-        }
+        self.children.set(dev.0, counts(device.status));
+        self.domains.set_awake(dev, !is_quiet(&device));
+        self.devices[dev.0 as usize] = device;
+    }
+
+    // The same where its status and its depth stay: it is counted already.
+    fn keep_device(&mut self, dev: DevId, device: Device)
+        requires in_range { dev.0 < length self.old.shape.parents }
+        requires in_time { IsInTime device }
+        requires status { device.status ≡ (device_of self.old.views dev).status }
+        requires depth { device.depth ≡ (device_of self.old.views dev).depth }
+        ensures { self.new ≡ record self.old { views = with_device self.old.views dev device } }
+    {
+        self.devices[dev.0 as usize] = device;
     }
 }

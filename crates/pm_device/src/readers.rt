@@ -51,7 +51,7 @@ impl Parts {
         requires { dev.0 < length self.now.shape.parents }
         ensures { (plan : APlan) → IsFor plan self.now.shape → result ≡ children plan self.now.views dev }
     {
-        self.children[dev.0 as usize]
+        self.children.count(dev.0)
     }
 
     /// The payload of a line of the device with these flags.

@@ -1,5 +1,4 @@
 pub mod ChainLemmas
-pub mod GroupLemmas
 pub mod MemberLemmas
 pub mod StartLemmas
 pub mod SwitchLemmas

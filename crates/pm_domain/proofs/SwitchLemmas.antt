@@ -1,5 +1,5 @@
 -- What switching leaves.
-use Rattle.std.proofs.Common.{◌≡◌, ℕ, ◌<◌, Bool, true, false, ◌||◌, List, [], ◌∷◌, length, set, refl, sym, ap, ◌∙◌, inl, inr, arith}
+use Rattle.std.proofs.Common.{◌≡◌, ℕ, ◌<◌, Bool, true, false, ◌||◌, List, [], ◌∷◌, Option, length, set, refl, sym, ap, ◌∙◌, inl, inr, arith}
 use Rattle.std.specs.Prelude.{nat_eq}
 use Rattle.std.specs.List.{list_any}
 use Rattle.std.proofs.lemmas.Bool.{cases_Bool, cases_eq, cases_lt, eq-eqb, ne_eqb, or_right}
@@ -11,12 +11,16 @@ use Rattle.pm_model.specs.declared.plan.Plan.{Plan}
 use Rattle.pm_model.specs.Derived.{up}
 use Rattle.pm_model.specs.PlanRows.{chain, domain, domains_of}
 use Rattle.pm_model.specs.Views.{Views}
-use Rattle.pm_domain.specs.Domains.{bit_at}
+use Rattle.pm_tally.specs.Marks.{Marks, bit_at}
 use Rattle.pm_domain.specs.Walk.{switched, those_off}
 
 pub length-switched : (to : Bool) (on : List Bool) (domains : List ℕ) → length (switched to on domains) ≡ length on
 length-switched to on [] = refl
 length-switched to on (o ∷ domains) = length-switched to (set on o to) domains ∙ length-set on o to
+
+-- marks with these owners and bits
+pub marks_are : (m : Marks) (owners : List (Option ℕ)) (bits : List Bool) → m.owners ≡ owners → m.bits ≡ bits → m ≡ record { owners = owners; bits = bits }
+marks_are m owners bits o b = rw (← o, ← b) refl
 
 -- a domain that is on stays on as others go on
 stays_on : (on : List Bool) (o k : ℕ) → bit_at on k ≡ true → bit_at (set on o true) k ≡ true

@@ -1,15 +1,19 @@
--- A walk from a domain up to its ancestors, by the lists of each (this project's own). While nothing is switched, the
--- domain from which the walk came counts as off.
-use Rattle.std.specs.Prelude.{ℕ, Bool, false, not, ◌&&◌, ◌||◌, List, [], ◌∷◌, Option, Some, fold, length, nat_eq, slice_set, if◌then◌else◌}
-use Rattle.std.specs.List.{filter, list_all, list_any}
-use Rattle.std.specs.Option.{option_map_or}
+-- A walk from a domain up to its ancestors. While nothing is switched, the domain from which the walk came counts as off
+-- (this project's own).
+use Rattle.std.specs.Prelude.{ℕ, ◌+◌, Bool, not, ◌&&◌, List, [], ◌∷◌, Option, None, Some, fold, length, nat_eq, slice_set, if◌then◌else◌}
+use Rattle.std.specs.List.{filter, list_any}
 use Rattle.pm_base.specs.declared.DevId.{DevId}
 use Rattle.pm_base.specs.declared.DomId.{DomId}
 use Rattle.pm_model.specs.declared.plan.Plan.{Plan}
 use Rattle.pm_model.specs.declared.rows.DomainRow.{DomainRow}
 use Rattle.pm_model.specs.PlanRows.{chain, is_always_on}
-use Rattle.pm_domain.specs.Groups.{group_at}
-use Rattle.pm_domain.specs.Domains.{DomainViews, bit_at}
+use Rattle.pm_tally.specs.Marks.{bit_at, marked_of, unmarked}
+use Rattle.pm_domain.specs.Domains.{DomainViews}
+
+-- one more than the domain, and 0 for none
+abbrev pub rank : Option DomId → ℕ
+rank None = 0
+rank (Some o) = o.0 + 1
 
 -- these domains are switched
 abbrev pub switched : Bool → List Bool → List ℕ → List Bool
@@ -19,28 +23,22 @@ switched to on domains = fold (λ bits o. slice_set bits o to) on domains
 abbrev pub those_off : List Bool → List ℕ → List ℕ
 those_off on domains = filter (λ o. not (bit_at on o)) domains
 
--- each of these devices but this one is quiet
-abbrev pub are_quiet_but : DevId → List Bool → List ℕ → Bool
-are_quiet_but d quiet devices = list_all (λ x. nat_eq x d.0 || bit_at quiet x) devices
+-- no device of the domain but this one keeps it on
+abbrev pub are_quiet_but : DomainViews → DevId → ℕ → Bool
+are_quiet_but domains d o = nat_eq (marked_of domains.homes (unmarked (Some d.0) domains.awake) o) 0
 
--- whether the walk came from this domain
-abbrev pub is_from : Option DomId → ℕ → Bool
-is_from from o = option_map_or (λ x. nat_eq x.0 o) from false
-
--- each of these domains but the one from which the walk came is off
-abbrev pub are_off_but : Option DomId → List Bool → List ℕ → Bool
-are_off_but from on domains = list_all (λ o. is_from from o || not (bit_at on o)) domains
+-- no domain right under it is on, but for the one from which the walk came
+abbrev pub are_off_but : DomainViews → Option ℕ → ℕ → Bool
+are_off_but domains from o = nat_eq (marked_of domains.above (unmarked from domains.on) o) 0
 
 -- whether a domain goes off beside the device
-abbrev pub goes_off_from : Plan → DomainViews → DevId → List Bool → Option DomId → ℕ → Bool
-goes_off_from plan domains d quiet from o =
-    bit_at domains.on o && not (is_always_on plan o) && are_quiet_but d quiet (group_at domains.attached o) && are_off_but from domains.on (group_at domains.below o)
+abbrev pub goes_off_from : Plan → DomainViews → DevId → Option ℕ → ℕ → Bool
+goes_off_from plan domains d from o = bit_at domains.on o && not (is_always_on plan o) && are_quiet_but domains d o && are_off_but domains from o
 
 -- those of a chain of domains that go off in turn, until the first that doesn't
-abbrev pub going_off_from : Plan → DomainViews → DevId → List Bool → Option DomId → List ℕ → List ℕ
-going_off_from plan domains d quiet from [] = []
-going_off_from plan domains d quiet from (o ∷ above) =
-    if goes_off_from plan domains d quiet from o then o ∷ going_off_from plan domains d quiet (Some (record { 0 = o })) above else []
+abbrev pub going_off_from : Plan → DomainViews → DevId → Option ℕ → List ℕ → List ℕ
+going_off_from plan domains d from [] = []
+going_off_from plan domains d from (o ∷ above) = if goes_off_from plan domains d from o then o ∷ going_off_from plan domains d (Some o) above else []
 
 -- whether a domain, by its place and its row, keeps domain i on: it is always on, and i is it or one of its ancestors
 abbrev pub keeps_on : List DomainRow → ℕ → ℕ × DomainRow → Bool

@@ -2,34 +2,35 @@
 //! generic power domains).
 #![tactic(auto)]
 
-ghost use Rattle.std.specs.Prelude.{◌≡◌, ◌<◌, length, true, false, IfOk};
+ghost use Rattle.std.specs.Prelude.{◌≡◌, ◌<◌, length, slice_set, true, false, IfOk, replicate};
 ghost use Rattle.pm_model.specs.Derived.{down, up};
 ghost use Rattle.pm_model.specs.Events.{switches};
 ghost use Rattle.pm_model.specs.Views.{Views};
-ghost use Rattle.pm_domain.specs.Domains.{IsMadeFor, IsQuietOf, bit_at, fresh_on};
+ghost use Rattle.pm_domain.specs.Domains.{IsAwakeOf, IsMadeFor, fresh_on};
 ghost use Rattle.pm_domain.specs.Walk.{goes_off_from};
+ghost use Rattle.pm_tally.specs.Marks.{bit_at};
 
-mod groups;
 mod start;
 #[cfg(test)]
 mod tests;
 mod walk;
 
-use groups::Groups;
 use pm_base::{DevId, DomId, NoMemory};
 use pm_model::Plan;
-use start::{homes, kept_on, parents};
+use pm_tally::Tally;
+use start::{all_awake, kept_on};
 use std::alloc::Global;
 use std::marker::Model;
-use walk::{are_off_but, are_quiet_but, bit, count_off, home, is_always_on, parent, switch};
+use walk::{count_off, home, is_always_on, parent, switch};
 
-/// Which domains are on, with the devices and the subdomains of each. Contracts see all three, each
-/// by domain in the plan's order.
+/// Which domains are on, and which devices keep theirs on. Contracts see both, with the domain of each
+/// device and the one above each domain.
 #[derive(Debug, Drop)]
 pub struct Domains {
-    attached: Groups,
-    below: Groups,
-    on: Vec<bool>,
+    // A device is marked where it keeps its domain on: it isn't Suspended, or it is disabled.
+    awake: Tally,
+    // A domain is marked where it is on; it belongs to the one above it.
+    on: Tally,
 }
 
 impl Model for Domains {
@@ -37,36 +38,42 @@ impl Model for Domains {
 
     ghost Value = { DomainViews };
 
-    ghost view = { λ d. record { attached = d.attached; below = d.below; on = d.on.items } };
+    ghost view = { λ d. record { homes = d.awake.owners; awake = d.awake.bits; above = d.on.owners; on = d.on.bits } };
 }
 
 impl Domains {
     /// The domains of a plan before any line: a domain is on if it is always on, or if one under it
-    /// is. Fails where memory runs out; no other call takes memory.
+    /// is, and each device keeps its own on, since it is disabled. Fails where memory runs out; no
+    /// other call takes memory.
     pub fn fresh(alloc: Global, plan: &Plan) -> Result<Domains, NoMemory>
         ensures made_for { IfOk result (IsMadeFor plan.now) }
-        ensures start { IfOk result (λ domains. domains.on ≡ fresh_on plan.now) }
+        ensures on { IfOk result (λ domains. domains.on ≡ fresh_on plan.now) }
+        ensures awake { IfOk result (λ domains. domains.awake ≡ replicate (length plan.now.devices) true) }
     {
-        let count = plan.domains.len();
         Ok(Domains {
-            attached: Groups::new(alloc, &homes(alloc, plan)?, count)?,
-            below: Groups::new(alloc, &parents(alloc, plan)?, count)?,
+            awake: all_awake(alloc, plan)?,
             on: kept_on(alloc, plan)?,
         })
     }
 
-    /// Whether a domain is on.
+    /// Whether a domain is on; none past the last is.
     pub fn is_on(&self, dom: DomId) -> bool
-        requires { dom.0 < length self.now.on }
         ensures { result ≡ bit_at self.now.on dom.0 }
     {
-        self.on[dom.0 as usize]
+        self.on.is_marked(dom.0)
+    }
+
+    /// Whether a device keeps its domain on: it isn't Suspended, or it is disabled.
+    pub fn set_awake(&mut self, dev: DevId, awake: bool)
+        requires { dev.0 < length self.old.homes }
+        ensures { self.new ≡ record self.old { awake = slice_set self.old.awake dev.0 awake } }
+    {
+        self.awake.set(dev.0, awake);
     }
 
     /// How many domains go on before a device resumes: those of its domain and that one's ancestors
     /// that are off. It is 0 where the device has no domain.
     pub fn up_count(&self, plan: &Plan, dev: DevId) -> u32
-        requires made_for { IsMadeFor plan.now self.now }
         ensures { (v : Views) → v.on ≡ self.now.on → result ≡ length (up plan.now v dev) }
     {
         count_off(&self.on, plan, home(plan, dev))
@@ -74,7 +81,7 @@ impl Domains {
 
     /// Switches them on, and answers their number.
     pub fn up(&mut self, plan: &Plan, dev: DevId) -> u32
-        requires made_for { IsMadeFor plan.now self.old }
+        requires { IsMadeFor plan.now self.old }
         ensures count { (v : Views) → v.on ≡ self.old.on → result ≡ length (up plan.now v dev) }
         ensures switched { (v : Views) → v.on ≡ self.old.on → self.new.on ≡ (switches true (up plan.now v dev) v).on }
         ensures on_alone { self.new ≡ record self.old { on = self.new.on } }
@@ -93,57 +100,46 @@ impl Domains {
 
     // Whether a domain goes off once the device is suspended, where the one from which the walk came
     // counts as off.
-    fn goes_off(
-        &self,
-        plan: &Plan,
-        dev: DevId,
-        quiet: &[bool],
-        from: Option<DomId>,
-        dom: DomId,
-    ) -> bool
-        requires made_for { IsMadeFor plan.now self.now }
-        requires in_range { dom.0 < length plan.now.domains }
-        ensures { result ≡ goes_off_from plan.now self.now dev quiet.now from dom.0 }
+    fn goes_off(&self, plan: &Plan, dev: DevId, from: Option<u32>, dom: DomId) -> bool
+        ensures { result ≡ goes_off_from plan.now self.now dev from dom.0 }
     {
-        bit(&self.on, dom.0)
+        self.on.is_marked(dom.0)
             && !is_always_on(plan, dom)
-            && are_quiet_but(dev, quiet, self.attached.of(dom))
-            && are_off_but(from, &self.on, self.below.of(dom))
+            && self.awake.count_but(dom.0, Some(dev.0)) == 0
+            && self.on.count_but(dom.0, from) == 0
     }
 
     /// How many domains go off once a device is suspended: of its domain and that one's ancestors,
-    /// nearest first, each that is on and not always on, has no other device but quiet ones, and no
-    /// subdomain that is on, until the first that isn't so. `quiet` says of each device whether it
-    /// is Suspended and enabled. It looks at the devices and the subdomains of these domains alone.
-    pub fn down_count(&self, plan: &Plan, dev: DevId, quiet: &[bool]) -> u32
-        requires made_for { IsMadeFor plan.now self.now }
-        requires quiet_len { length quiet.now ≡ length plan.now.devices }
-        ensures { (v : Views) → v.on ≡ self.now.on → IsQuietOf quiet.now v → result ≡ length (down plan.now v dev) }
+    /// nearest first, each that is on and not always on, has no other device that keeps it on, and no
+    /// subdomain that is on, until the first that isn't so. It looks at these domains alone, at none
+    /// of their devices.
+    pub fn down_count(&self, plan: &Plan, dev: DevId) -> u32
+        requires { IsMadeFor plan.now self.now }
+        ensures { (v : Views) → v.on ≡ self.now.on → IsAwakeOf self.now.awake v → result ≡ length (down plan.now v dev) }
     {
         let mut count = 0;
         let mut from = None;
         let mut next = home(plan, dev);
         while let Some(dom) = next {
-            if !self.goes_off(plan, dev, quiet, from, dom) {
+            if !self.goes_off(plan, dev, from, dom) {
                 return count;
             }
             count += 1;
-            from = next;
+            from = Some(dom.0);
             next = parent(plan, dom);
         }
         count
     }
 
     /// Switches them off, and answers their number.
-    pub fn down(&mut self, plan: &Plan, dev: DevId, quiet: &[bool]) -> u32
-        requires made_for { IsMadeFor plan.now self.old }
-        requires quiet_len { length quiet.now ≡ length plan.now.devices }
-        ensures count { (v : Views) → v.on ≡ self.old.on → IsQuietOf quiet.now v → result ≡ length (down plan.now v dev) }
-        ensures switched { (v : Views) → v.on ≡ self.old.on → IsQuietOf quiet.now v → self.new.on ≡ (switches false (down plan.now v dev) v).on }
+    pub fn down(&mut self, plan: &Plan, dev: DevId) -> u32
+        requires { IsMadeFor plan.now self.old }
+        ensures count { (v : Views) → v.on ≡ self.old.on → IsAwakeOf self.old.awake v → result ≡ length (down plan.now v dev) }
+        ensures switched { (v : Views) → v.on ≡ self.old.on → IsAwakeOf self.old.awake v → self.new.on ≡ (switches false (down plan.now v dev) v).on }
         ensures on_alone { self.new ≡ record self.old { on = self.new.on } }
         ensures made_for { IsMadeFor plan.now self.new }
     {
-        let count = self.down_count(plan, dev, quiet);
+        let count = self.down_count(plan, dev);
         switch(&mut self.on, plan, home(plan, dev), count as usize, false);
         count
     }

@@ -89,10 +89,7 @@ fn devices(alloc: Global) -> Result<Vec<DeviceRow>, NoMemory>
     Ok(devices)
 }
 
-fn plan(alloc: Global, right_always_on: bool) -> Result<Plan, NoMemory>
-    ensures devices { IfOk result (λ plan. length plan.devices ≡ 4) }
-    ensures domains { IfOk result (λ plan. length plan.domains ≡ 4) }
-{
+fn plan(alloc: Global, right_always_on: bool) -> Result<Plan, NoMemory> {
     let domains = domains(alloc, right_always_on)?;
     let devices = devices(alloc)?;
     Ok(Plan {
@@ -106,9 +103,7 @@ fn plan(alloc: Global, right_always_on: bool) -> Result<Plan, NoMemory>
 }
 
 // Which of the four are on, the first first.
-fn lit(domains: &Domains) -> [bool; 4]
-    requires { length domains.now.on ≡ 4 }
-{
+fn lit(domains: &Domains) -> [bool; 4] {
     [
         domains.is_on(DomId(0)),
         domains.is_on(DomId(1)),
@@ -125,14 +120,18 @@ const C: DevId = DevId(2);
 
 const D: DevId = DevId(3);
 
-// What is asked of the domains; each of the four devices is quiet or not.
+// What is asked of the domains, and what becomes of a device.
 #[derive(Clone, Copy)]
 enum Step {
     Look,
     UpCount(DevId),
     Up(DevId),
-    DownCount(DevId, [bool; 4]),
-    Down(DevId, [bool; 4]),
+    DownCount(DevId),
+    Down(DevId),
+    // It is Suspended and enabled.
+    Rest(DevId),
+    // It isn't any more.
+    Wake(DevId),
 }
 
 // The number that a step answers, and which domains are on after it.
@@ -141,24 +140,34 @@ type Seen = (u32, [bool; 4]);
 // A step, and what must be seen.
 type Row = (Step, Seen);
 
-fn answers(domains: &mut Domains, plan: &Plan, step: Step) -> u32
-    requires made_for { IsMadeFor plan.now domains.old }
-    requires devices { length plan.now.devices ≡ 4 }
+// A device of the plan keeps its domain on, or doesn't any more.
+fn mind(domains: &mut Domains, plan: &Plan, dev: DevId, awake: bool)
+    requires { IsMadeFor plan.now domains.old }
     ensures { IsMadeFor plan.now domains.new }
 {
-    match step {
-        Step::Look => 0,
-        Step::UpCount(dev) => domains.up_count(plan, dev),
-        Step::Up(dev) => domains.up(plan, dev),
-        Step::DownCount(dev, quiet) => domains.down_count(plan, dev, &quiet),
-        Step::Down(dev, quiet) => domains.down(plan, dev, &quiet),
+    if plan.devices.get(dev.0 as usize).is_some() {
+        domains.set_awake(dev, awake);
     }
 }
 
+fn answers(domains: &mut Domains, plan: &Plan, step: Step) -> u32
+    requires { IsMadeFor plan.now domains.old }
+    ensures { IsMadeFor plan.now domains.new }
+{
+    match step {
+        Step::UpCount(dev) => return domains.up_count(plan, dev),
+        Step::Up(dev) => return domains.up(plan, dev),
+        Step::DownCount(dev) => return domains.down_count(plan, dev),
+        Step::Down(dev) => return domains.down(plan, dev),
+        Step::Rest(dev) => mind(domains, plan, dev, false),
+        Step::Wake(dev) => mind(domains, plan, dev, true),
+        Step::Look => {}
+    }
+    0
+}
+
 fn takes(domains: &mut Domains, plan: &Plan, step: Step) -> Seen
-    requires made_for { IsMadeFor plan.now domains.old }
-    requires devices { length plan.now.devices ≡ 4 }
-    requires domains { length plan.now.domains ≡ 4 }
+    requires { IsMadeFor plan.now domains.old }
     ensures { IsMadeFor plan.now domains.new }
 {
     let number = answers(domains, plan, step);
@@ -166,9 +175,7 @@ fn takes(domains: &mut Domains, plan: &Plan, step: Step) -> Seen
 }
 
 fn takes_all(domains: &mut Domains, plan: &Plan, rows: &[Row; 8]) -> [Seen; 8]
-    requires made_for { IsMadeFor plan.now domains.old }
-    requires devices { length plan.now.devices ≡ 4 }
-    requires domains { length plan.now.domains ≡ 4 }
+    requires { IsMadeFor plan.now domains.old }
 {
     [
         takes(domains, plan, rows[0].0),
@@ -217,14 +224,14 @@ const RIGHT: [bool; 4] = [true, false, false, true];
 const ALL: [bool; 4] = [true, true, true, true];
 
 static CHAIN: [Row; 8] = [
-    (Step::Look, (0, NONE)),
     (Step::UpCount(A), (3, NONE)),
     (Step::Up(A), (3, LEFT)),
     (Step::UpCount(B), (0, LEFT)),
     (Step::Up(B), (0, LEFT)),
-    (Step::DownCount(A, ALL), (3, LEFT)),
-    (Step::Down(A, ALL), (3, NONE)),
-    (Step::Down(A, ALL), (0, NONE)),
+    (Step::Rest(B), (0, LEFT)),
+    (Step::DownCount(A), (3, LEFT)),
+    (Step::Down(A), (3, NONE)),
+    (Step::Down(A), (0, NONE)),
 ];
 
 #[test]
@@ -232,33 +239,31 @@ fn a_chain_goes_on_and_off_in_turn(rt: HostRuntime) -> Result<(), Fail> {
     shows(&rt, false, &CHAIN)
 }
 
-// Device `b` is suspended and disabled; whether `a` itself is quiet doesn't matter.
-const NOT_QUIET: [bool; 4] = [false, false, true, true];
-
-static BUSY: [Row; 8] = [
+// Whether the device itself rests doesn't matter.
+static AWAKE: [Row; 8] = [
     (Step::Up(A), (3, LEFT)),
-    (Step::DownCount(A, NOT_QUIET), (0, LEFT)),
-    (Step::Down(A, NOT_QUIET), (0, LEFT)),
-    (Step::DownCount(A, [false, true, false, false]), (3, LEFT)),
-    (Step::Look, (0, LEFT)),
-    (Step::Look, (0, LEFT)),
-    (Step::Look, (0, LEFT)),
-    (Step::Look, (0, LEFT)),
+    (Step::Down(A), (0, LEFT)),
+    (Step::Rest(B), (0, LEFT)),
+    (Step::DownCount(A), (3, LEFT)),
+    (Step::Rest(A), (0, LEFT)),
+    (Step::DownCount(A), (3, LEFT)),
+    (Step::Wake(B), (0, LEFT)),
+    (Step::Down(A), (0, LEFT)),
 ];
 
 #[test]
-fn a_device_that_is_not_quiet_keeps_its_domain_on(rt: HostRuntime) -> Result<(), Fail> {
-    shows(&rt, false, &BUSY)
+fn a_device_that_is_awake_keeps_its_domain_on(rt: HostRuntime) -> Result<(), Fail> {
+    shows(&rt, false, &AWAKE)
 }
 
 static SUBDOMAIN: [Row; 8] = [
+    (Step::Rest(B), (0, NONE)),
     (Step::Up(A), (3, LEFT)),
     (Step::UpCount(C), (1, LEFT)),
     (Step::Up(C), (1, ALL)),
-    (Step::DownCount(A, ALL), (2, ALL)),
-    (Step::Down(A, ALL), (2, RIGHT)),
-    (Step::Down(C, ALL), (2, NONE)),
-    (Step::Look, (0, NONE)),
+    (Step::DownCount(A), (2, ALL)),
+    (Step::Down(A), (2, RIGHT)),
+    (Step::Down(C), (2, NONE)),
     (Step::Look, (0, NONE)),
 ];
 
@@ -269,11 +274,11 @@ fn a_subdomain_that_is_on_keeps_its_parent_on(rt: HostRuntime) -> Result<(), Fai
 
 static ALWAYS_ON: [Row; 8] = [
     (Step::Look, (0, RIGHT)),
-    (Step::DownCount(C, ALL), (0, RIGHT)),
-    (Step::Down(C, ALL), (0, RIGHT)),
+    (Step::DownCount(C), (0, RIGHT)),
+    (Step::Down(C), (0, RIGHT)),
+    (Step::Rest(B), (0, RIGHT)),
     (Step::Up(A), (2, ALL)),
-    (Step::Down(A, ALL), (2, RIGHT)),
-    (Step::Look, (0, RIGHT)),
+    (Step::Down(A), (2, RIGHT)),
     (Step::Look, (0, RIGHT)),
     (Step::Look, (0, RIGHT)),
 ];
@@ -286,9 +291,9 @@ fn a_domain_that_is_always_on_starts_on_with_its_ancestors(rt: HostRuntime) -> R
 static NO_DOMAIN: [Row; 8] = [
     (Step::UpCount(D), (0, NONE)),
     (Step::Up(D), (0, NONE)),
-    (Step::Down(D, ALL), (0, NONE)),
-    (Step::Look, (0, NONE)),
-    (Step::Look, (0, NONE)),
+    (Step::Down(D), (0, NONE)),
+    (Step::Rest(D), (0, NONE)),
+    (Step::Wake(D), (0, NONE)),
     (Step::Look, (0, NONE)),
     (Step::Look, (0, NONE)),
     (Step::Look, (0, NONE)),

@@ -1,14 +1,24 @@
-use Rattle.std.proofs.Common.{◌≡◌, ◌∙◌, ap, length, arith}
-use Rattle.std.proofs.lemmas.List.{with_items_is}
-use Rattle.pm_domain.specs.Domains.{DomainViews}
+use Rattle.std.proofs.Common.{◌≡◌, ◌∙◌, ap, length, subst, sym, false}
+use Rattle.pm_model.specs.PlanRows.{chain}
+use Rattle.pm_tally.specs.Marks.{Marks}
+use Rattle.pm_domain.specs.Domains.{DomainViews, IsMadeFor}
+use Rattle.pm_domain.proofs.SwitchLemmas.{length-switched}
 use Rattle.pm_domain.proofs.WalkLemmas.{down-switched, down-walked}
 use Rattle.pm_domain.proofs.Domains.down.Goals as goal
 
 pub returns-clause-switched : goal.returns-clause-switched
 returns-clause-switched c = λ v on says.
-    let s = c.self.inside in
-    let was : s.on.items ≡ c.args.self.now.on = ap (λ (d : DomainViews). d.on) c.self.view_is in
-    let walked = down-walked c.args.plan.now c.args.self.now c.requires.made_for v c.args.dev c.args.quiet.now c.requires.quiet_len says on in
+    let was : c.self.inside.on.bits ≡ c.args.self.now.on = ap (λ (d : DomainViews). d.on) c.self.view_is in
+    let walked = down-walked c.args.plan.now c.args.self.now c.requires v c.args.dev says on in
     let count = c.down_count-count.ensures v on says ∙ ap length walked in
-    with_items_is s.on c.switch.new.on (omega arith) ∙ rw (c.deref_mut.ensures.value, was, count, c.home.ensures.domain) at c.switch.ensures
-    ∙ down-switched c.args.plan.now c.args.self.now c.requires.made_for v c.args.dev c.args.quiet.now c.requires.quiet_len says on
+    ap (λ (m : Marks). m.bits) (rw (was, count, c.home.ensures.domain) at c.switch.ensures) ∙ down-switched c.args.plan.now c.args.self.now c.requires v c.args.dev says on
+
+pub returns-clause-made_for : goal.returns-clause-made_for
+returns-clause-made_for c =
+    let was = subst (IsMadeFor c.args.plan.now) (sym c.self.view_is) c.requires in
+    rw c.switch.ensures (record {
+      homes_are = was.homes_are;
+      awake_len = was.awake_len;
+      above_are = was.above_are;
+      on_len = length-switched false c.self.inside.on.bits (chain c.args.plan.now.domains c.down_count-count.result c.home.result) ∙ was.on_len;
+    })

@@ -1,10 +1,12 @@
-use Rattle.std.proofs.Common.{◌∙◌, ap, length}
+use Rattle.std.proofs.Common.{length, refl, true}
+use Rattle.std.proofs.lemmas.List.{length-replicate}
 use Rattle.pm_domain.proofs.StartLemmas.{length-fresh_on}
 use Rattle.pm_domain.proofs.Domains.fresh.Goals as goal
 
 pub returns-clause-made_for : goal.returns-clause-made_for
-returns-clause-made_for c = record {
-  attached = rw (c.deref.ensures.value, c.in_ok-homes.ensures, c.len-count.ensures) at c.in_ok-new.ensures;
-  below = rw (c.deref-2.ensures.value, c.in_ok-parents.ensures, c.len-count.ensures) at c.in_ok-new-2.ensures;
-  on_len = ap length c.in_ok-kept_on.ensures ∙ length-fresh_on c.args.plan.now;
-}
+returns-clause-made_for c = rw (c.in_ok-all_awake.ensures, c.in_ok-kept_on.ensures) (record {
+  homes_are = refl;
+  awake_len = length-replicate (length c.args.plan.now.devices) true;
+  above_are = refl;
+  on_len = length-fresh_on c.args.plan.now;
+})

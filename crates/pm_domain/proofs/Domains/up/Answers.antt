@@ -1,12 +1,21 @@
-use Rattle.std.proofs.Common.{◌≡◌, ◌∙◌, ap, arith}
-use Rattle.std.proofs.lemmas.List.{with_items_is}
-use Rattle.pm_domain.specs.Domains.{DomainViews}
-use Rattle.pm_domain.proofs.SwitchLemmas.{up-switched}
+use Rattle.std.proofs.Common.{◌≡◌, ◌∙◌, ap, subst, sym, true}
+use Rattle.pm_model.specs.PlanRows.{chain}
+use Rattle.pm_tally.specs.Marks.{Marks}
+use Rattle.pm_domain.specs.Domains.{DomainViews, IsMadeFor}
+use Rattle.pm_domain.proofs.SwitchLemmas.{length-switched, up-switched}
 use Rattle.pm_domain.proofs.Domains.up.Goals as goal
 
 pub returns-clause-switched : goal.returns-clause-switched
 returns-clause-switched c = λ v on.
-    let s = c.self.inside in
-    let was : s.on.items ≡ c.args.self.now.on = ap (λ (d : DomainViews). d.on) c.self.view_is in
-    with_items_is s.on c.switch.new.on (omega arith) ∙ rw (c.deref_mut.ensures.value, was, c.len.ensures, c.home.ensures.domain) at c.switch.ensures
-    ∙ up-switched c.args.plan.now v c.args.dev c.args.self.now.on on
+    let was : c.self.inside.on.bits ≡ c.args.self.now.on = ap (λ (d : DomainViews). d.on) c.self.view_is in
+    ap (λ (m : Marks). m.bits) (rw (was, c.len.ensures, c.home.ensures.domain) at c.switch.ensures) ∙ up-switched c.args.plan.now v c.args.dev c.args.self.now.on on
+
+pub returns-clause-made_for : goal.returns-clause-made_for
+returns-clause-made_for c =
+    let was = subst (IsMadeFor c.args.plan.now) (sym c.self.view_is) c.requires in
+    rw c.switch.ensures (record {
+      homes_are = was.homes_are;
+      awake_len = was.awake_len;
+      above_are = was.above_are;
+      on_len = length-switched true c.self.inside.on.bits (chain c.args.plan.now.domains c.len.result c.home.result) ∙ was.on_len;
+    })

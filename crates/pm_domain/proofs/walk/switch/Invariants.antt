@@ -6,6 +6,7 @@ use Rattle.pm_domain.proofs.walk.switch.Given as goal
 
 abbrev pub invariant-chain : goal.invariant-chain
 invariant-chain l = record {
+  owners : l.on.owners ≡ l.fn.on.owners;
   in_range : IfSome l.next (λ o. o.0 < length l.plan.domains);
-  left : (k : ℕ) → l.counter + k ≡ l.most → switched l.to l.on (chain l.plan.domains k l.next) ≡ switched l.to l.fn.on (chain l.plan.domains l.most l.fn.first);
+  left : (k : ℕ) → l.counter + k ≡ l.most → switched l.to l.on.bits (chain l.plan.domains k l.next) ≡ switched l.to l.fn.on.bits (chain l.plan.domains l.most l.fn.first);
 }
