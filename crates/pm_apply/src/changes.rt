@@ -73,13 +73,14 @@ fn disables_at_once(parts: &mut Parts, dev: DevId)
 
 /// What a change of a line at this moment, in milliseconds of the run, makes of the counters. It takes
 /// no memory.
-pub fn change(parts: &mut Parts, plan: &Plan, time: u64, change: Change)
+#[inline(always)]
+pub fn change(parts: &mut Parts, plan: &Plan, time: u64, change: &Change)
     requires made_for { IsFor plan.now parts.old.shape }
-    requires fits { can_change (length plan.now.devices) parts.old.views change ≡ true }
+    requires fits { can_change (length plan.now.devices) parts.old.views change.now ≡ true }
     requires in_time { time < 2 ^ 63 }
-    ensures { parts.new ≡ record parts.old { views = change_views plan.now time change parts.old.views } }
+    ensures { parts.new ≡ record parts.old { views = change_views plan.now time change.now parts.old.views } }
 {
-    match change {
+    match *change {
         Change::Same => {}
         Change::CancelRequest { dev } => parts.cancel_request(dev),
         Change::Disarm { dev } => parts.disarm(dev),

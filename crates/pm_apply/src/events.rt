@@ -149,13 +149,14 @@ fn force_suspended(parts: &mut Parts, plan: &Plan, dev: DevId)
 /// What the event of a line at this moment, in milliseconds of the run, makes of the counters. It
 /// takes no memory.
 #[tactic(auto, unfolding(pm_model::specs::Events::by_event))]
-pub fn happen(parts: &mut Parts, plan: &Plan, time: u64, event: Event)
+#[inline(always)]
+pub fn happen(parts: &mut Parts, plan: &Plan, time: u64, event: &Event)
     requires made_for { IsFor plan.now parts.old.shape }
     requires in_time { time < 2 ^ 63 }
-    requires fits { can_happen plan.now parts.old.views event ≡ true }
-    ensures { parts.new ≡ record parts.old { views = by_event plan.now time event parts.old.views } }
+    requires fits { can_happen plan.now parts.old.views event.now ≡ true }
+    ensures { parts.new ≡ record parts.old { views = by_event plan.now time event.now parts.old.views } }
 {
-    match event {
+    match *event {
         Event::Get { dev, why } => get(parts, plan, dev, why),
         Event::Put { dev, why } => put(parts, plan, dev, why),
         Event::State { dev, word } => state(parts, plan, dev, word, time),

@@ -13,19 +13,20 @@ mod events;
 pub use changes::change;
 pub use events::happen;
 use pm_device::Parts;
-use pm_model::{Change, Line, Plan};
+use pm_model::{Change, Event, Plan};
 
-/// What the row of a line makes of the counters: first the change that the row names, and then what
-/// the line's event changes of itself. It takes no memory.
+/// What the row of a line at this moment, in milliseconds of the run, makes of the counters: first the
+/// change that the row names, and then what the line's event changes of itself. It takes no memory.
 ///
 /// Whether the counters can take both is asked of them as they stand before the line: a change that
 /// a row names leaves each device's usage, share and begun callbacks, and the held links, as they are.
-pub fn apply(parts: &mut Parts, plan: &Plan, named: Change, line: &Line)
+#[inline(always)]
+pub fn apply(parts: &mut Parts, plan: &Plan, time: u64, named: &Change, event: &Event)
     requires made_for { IsFor plan.now parts.old.shape }
-    requires fits { can_take plan.now parts.old.views named line.now.event ≡ true }
-    requires in_time { line.now.time < 2 ^ 63 }
-    ensures { parts.new ≡ record parts.old { views = by_event plan.now line.now.time line.now.event (change_views plan.now line.now.time named parts.old.views) } }
+    requires fits { can_take plan.now parts.old.views named.now event.now ≡ true }
+    requires in_time { time < 2 ^ 63 }
+    ensures { parts.new ≡ record parts.old { views = by_event plan.now time event.now (change_views plan.now time named.now parts.old.views) } }
 {
-    change(parts, plan, line.time, named);
-    happen(parts, plan, line.time, line.event);
+    change(parts, plan, time, named);
+    happen(parts, plan, time, event);
 }

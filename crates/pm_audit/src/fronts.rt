@@ -13,8 +13,9 @@ use std::alloc::Global;
 struct Writer {
     // What tells its name behind a line's time, once a line of its was found by its name.
     name: Mark,
-    // Who wrote behind it the last time.
-    follower: ActorId,
+    actor: ActorId,
+    // The seat of who wrote behind it the last time.
+    follower: usize,
 }
 
 /// What the lines before tell of the next one: most have the same time, and are by who wrote behind the last line's
@@ -24,8 +25,8 @@ struct Writer {
 pub(crate) struct Fronts {
     // The actors, by their seats.
     writers: Vec<Writer>,
-    // Who wrote the last lines, the newest first.
-    last: [ActorId; 3],
+    // The seats of who wrote the last lines, the newest first.
+    last: [usize; 3],
     // The time in the text of a line, how many bytes it has with its space, and what tells it.
     since: u64,
     time_len: usize,
@@ -46,20 +47,21 @@ fn seat_of(actor: ActorId) -> usize {
 }
 
 impl Fronts {
-    /// Before any line of the plan. It takes 192 bytes for each device or each caller, whichever are more, and
+    /// Before any line of the plan. It takes 240 bytes for each device or each caller, whichever are more, and
     /// fails where memory runs out.
     pub(crate) fn new(alloc: Global, plan: &Plan) -> Result<Fronts, NoMemory> {
         let places = plan.devices.len().max(plan.callers.len());
         let nobody = Writer {
             name: Mark::NONE,
-            follower: ActorId::Caller(0),
+            actor: ActorId::Caller(0),
+            follower: 0,
         };
         let text = TimedText::new();
         let time = Mark::of(text.as_slice());
         let time_len = text.as_slice().len();
         Ok(Fronts {
             writers: vec![in alloc; nobody; places.saturating_mul(3)]?,
-            last: [ActorId::Caller(0); 3],
+            last: [0; 3],
             since: 0,
             time_len,
             time,
@@ -79,26 +81,30 @@ impl Fronts {
         self.time = Mark::of(self.text.as_slice());
     }
 
-    // Whether the bytes seem to begin with the name of this actor.
+    // Who has this seat, where the bytes seem to begin with its name.
     #[inline(always)]
-    fn is_named(&self, actor: ActorId, bytes: &[u8]) -> bool {
-        match self.writers.get(seat_of(actor)) {
-            Some(writer) => writer.name.begins(bytes),
-            None => false,
+    fn named_at(&self, seat: usize, bytes: &[u8]) -> Option<ActorId> {
+        let writer = self.writers.get(seat)?;
+        if writer.name.begins(bytes) {
+            Some(writer.actor)
+        } else {
+            None
         }
     }
 
     // Who of those that are likely to write seems to be named where these bytes begin.
     #[inline(always)]
     fn writer_named(&self, bytes: &[u8]) -> Option<ActorId> {
-        let follower = self.writers.get(seat_of(self.last[0]))?.follower;
-        if self.is_named(follower, bytes) {
-            return Some(follower);
+        let follower = self.writers.get(self.last[0])?.follower;
+        if let Some(actor) = self.named_at(follower, bytes) {
+            return Some(actor);
         }
-        let last = self.last;
-        last.iter()
-            .copied()
-            .find(|actor| self.is_named(*actor, bytes))
+        for seat in &self.last {
+            if let Some(actor) = self.named_at(*seat, bytes) {
+                return Some(actor);
+            }
+        }
+        None
     }
 
     /// Who is likely to write the line with which the bytes begin, where its text has that time.
@@ -126,6 +132,7 @@ impl Fronts {
         if let Some(writer) = self.writers.get_mut(seat_of(actor)) {
             if writer.name.is_none() {
                 writer.name = Mark::of(name);
+                writer.actor = actor;
             }
         }
     }
@@ -133,9 +140,10 @@ impl Fronts {
     /// A line by this actor was taken.
     #[inline]
     pub(crate) fn note(&mut self, actor: ActorId) {
-        if let Some(writer) = self.writers.get_mut(seat_of(self.last[0])) {
-            writer.follower = actor;
+        let seat = seat_of(actor);
+        if let Some(writer) = self.writers.get_mut(self.last[0]) {
+            writer.follower = seat;
         }
-        self.last = [actor, self.last[0], self.last[1]];
+        self.last = [seat, self.last[0], self.last[1]];
     }
 }

@@ -63,9 +63,14 @@ impl Mark {
     /// Whether the bytes seem to begin with the word.
     #[inline(always)]
     pub(crate) fn begins(&self, bytes: &[u8]) -> bool {
-        match bytes.get(self.from..) {
-            Some(end) => self.are(end, self.end) && self.are(bytes, self.begin),
-            None => false,
+        if !self.are(bytes, self.begin) {
+            return false;
         }
+        // The last 16 bytes of most words are the first ones.
+        self.from == 0
+            || match bytes.get(self.from..) {
+                Some(end) => self.are(end, self.end),
+                None => false,
+            }
     }
 }

@@ -18,7 +18,7 @@ use crate::reading::NoWhy;
 use pm_base::NoMemory;
 use pm_book::{Book, Taker};
 use pm_judge::Bad;
-use pm_model::{Line, Move, Plan};
+use pm_model::{Move, Plan};
 use std::alloc::Global;
 use std::marker::Model;
 
@@ -144,12 +144,7 @@ fn take_by<'a>(
         return None;
     };
     let behind = names.behind(event, &mut fronts.text, bytes)?;
-    let line = Line {
-        time: start.time,
-        actor: start.actor,
-        event: *event,
-    };
-    taker.accept(&line, *change, next);
+    taker.accept(start.time, start.actor, event, change, next);
     fronts.note(start.actor);
     Some(behind)
 }

@@ -2,6 +2,7 @@
 
 ghost use Rattle.std.specs.Prelude.{◌≡◌, ◌<◌, ◌^◌, ◌∷◌, [], List, Ok, Some, None, IfErr, IfNone, IfOk, IfSome, OnErr, OnOk, if◌then◌else◌, length};
 ghost use Rattle.pm_judge.specs.Judging.{IsAnswer, JudgeStandsFor};
+ghost use Rattle.pm_judge.specs.Offering.{line_by};
 ghost use Rattle.pm_judge.specs.Sometime.{Writes};
 ghost use Rattle.pm_model.specs.declared.event.Line.{Line};
 ghost use Rattle.pm_model.specs.Lawful.{IsLawful};
@@ -14,9 +15,9 @@ use crate::book::Book;
 use crate::laws::all_stand_well;
 use crate::lines::Lines;
 use crate::writing::begins_callback;
-use pm_base::NoMemory;
+use pm_base::{ActorId, NoMemory};
 use pm_judge::{Bad, Judge};
-use pm_model::{Change, Line, Plan, Then};
+use pm_model::{Change, Event, Line, Plan, Then};
 use pm_turns::Turns;
 use std::alloc::Global;
 use std::marker::Model;
@@ -44,12 +45,19 @@ impl Model for Taker {
 
 // Keeps one line more, where lines are kept. They are dropped where memory runs out.
 #[inline(always)]
-fn keep(lines: &mut Option<Lines>, line: &Line)
+fn keep(lines: &mut Option<Lines>, time: u64, actor: ActorId, event: &Event)
     requires { IfSome lines.old (λ sheet. length sheet.lines < sheet.limit) }
-    ensures { KeepsLine lines.old lines.new line.now (one (begins_callback line.now.event)) }
+    ensures { KeepsLine lines.old lines.new (line_by actor time event.now) (one (begins_callback event.now)) }
 {
     let is_lost = match lines {
-        Some(sheet) => sheet.write(*line, begins_callback(&line.event)).is_err(),
+        Some(sheet) => {
+            let line = Line {
+                time,
+                actor,
+                event: *event,
+            };
+            sheet.write(line, begins_callback(event)).is_err()
+        }
         None => false,
     };
     if is_lost {
@@ -85,22 +93,22 @@ impl Taker {
         &self.judge
     }
 
-    /// Takes a line by an actor of the plan, at a time below 2^63 milliseconds of the run, that may come next:
-    /// its row changes this beside the line's event, and this takes the place of its actor's stage. It takes
-    /// memory for lines alone, and none where none are kept; where it runs out, lines are no longer kept.
+    /// Takes the line by an actor of the plan, at a time below 2^63 milliseconds of the run, with this event, where
+    /// it may come next: its row changes this beside the event, and this takes the place of its actor's stage. It
+    /// takes memory for lines alone, and none where none are kept; where it runs out, lines are no longer kept.
     #[inline(always)]
-    pub fn accept(&mut self, line: &Line, change: Change, next: &Then)
-        requires in_range { IsActor self.old.judge.plan line.now.actor }
-        requires in_time { line.now.time < 2 ^ 63 }
+    pub fn accept(&mut self, time: u64, actor: ActorId, event: &Event, change: &Change, next: &Then)
+        requires in_range { IsActor self.old.judge.plan actor }
+        requires in_time { time < 2 ^ 63 }
         requires room { self.old.judge.lines < self.old.judge.plan.lines }
-        requires writes { Writes self.old.judge.plan self.old.judge.world self.old.judge.last line.now change next.now }
-        ensures answer { (h : List Line) → IsLawful self.old.judge.plan h → JudgeStandsFor self.old.judge h → IsAnswer self.old.judge.plan h line.now (Ok tt) }
-        ensures taken { (h : List Line) → IsLawful self.old.judge.plan h → TakerStandsFor self.old h → TakerStandsFor self.new (line.now ∷ h) }
+        requires writes { Writes self.old.judge.plan self.old.judge.world self.old.judge.last (line_by actor time event.now) change.now next.now }
+        ensures answer { (h : List Line) → IsLawful self.old.judge.plan h → JudgeStandsFor self.old.judge h → IsAnswer self.old.judge.plan h (line_by actor time event.now) (Ok tt) }
+        ensures taken { (h : List Line) → IsLawful self.old.judge.plan h → TakerStandsFor self.old h → TakerStandsFor self.new ((line_by actor time event.now) ∷ h) }
         ensures plan { self.new.judge.plan ≡ self.old.judge.plan }
         ensures unkept { IfNone self.old.kept (self.new.kept ≡ None) }
     {
-        self.judge.accept(line, change, next);
-        keep(&mut self.lines, line);
+        self.judge.accept(time, actor, event, change, next);
+        keep(&mut self.lines, time, actor, event);
     }
 
     /// Takes a line by an actor of the plan, at a time below 2^63 milliseconds of the run, where it may come
@@ -116,7 +124,7 @@ impl Taker {
         ensures err { OnErr result (self.new ≡ self.old) }
     {
         self.judge.judge(line)?;
-        keep(&mut self.lines, line);
+        keep(&mut self.lines, line.time, line.actor, &line.event);
         Ok(())
     }
 

@@ -62,7 +62,14 @@ impl Book {
         stacks_have_room();
         all_stand_well();
         self.lines.reserve(1)?;
-        self.state.go(&self.plan, change, line, then);
+        self.state.go(
+            &self.plan,
+            line.time,
+            line.actor,
+            &line.event,
+            &change,
+            then,
+        );
         self.lines.push(*line, begins_callback(&line.event));
         self.turns.settle(&self.plan, &self.state, stage, line);
         Ok(())
@@ -78,7 +85,14 @@ impl Book {
         each_line_is_taken();
         stacks_have_room();
         all_stand_well();
-        self.state.go(&self.plan, change, line, then);
+        self.state.go(
+            &self.plan,
+            line.time,
+            line.actor,
+            &line.event,
+            &change,
+            then,
+        );
         self.lines.push_end(*line);
         self.turns.settle(&self.plan, &self.state, stage, line);
     }

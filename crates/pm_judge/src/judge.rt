@@ -2,9 +2,9 @@
 
 ghost use Rattle.std.specs.Prelude.{◌≡◌, ◌<◌, ◌^◌, ◌∷◌, [], List, Ok, IfErr, IfOk, OnErr, OnOk, false, true};
 ghost use Rattle.pm_judge.specs.Judging.{IsAnswer, JudgeStandsFor, Judged};
-ghost use Rattle.pm_judge.specs.Offering.{IsOffer, IsOfPlan};
+ghost use Rattle.pm_judge.specs.Offering.{IsOffer, IsOfPlan, line_by};
 ghost use Rattle.pm_judge.specs.Sometime.{MayCome, Writes};
-ghost use Rattle.pm_model.specs.declared.event.Event.{Event};
+ghost use Rattle.pm_model.specs.declared.event.Event.{Event as AnEvent};
 ghost use Rattle.pm_model.specs.declared.event.Line.{Line};
 ghost use Rattle.pm_model.specs.Lawful.{IsLawful, is_finished};
 ghost use Rattle.pm_model.specs.World.{world};
@@ -16,7 +16,7 @@ use crate::offering::offered;
 use pm_base::{ActorId, NoMemory};
 use pm_bounds::lines_are_of_plan;
 use pm_laws::sizes;
-use pm_model::{Change, Line, Move, Plan, Then};
+use pm_model::{Change, Event, Line, Move, Plan, Then};
 use pm_state::State;
 use std::alloc::Global;
 use std::marker::Model;
@@ -109,13 +109,20 @@ impl Judge {
         }
         all_stand_well();
         let coming = decide(&self.plan, &self.state, self.last, line)?;
-        self.accept(line, coming.change, &coming.next);
+        self.accept(
+            line.time,
+            line.actor,
+            &line.event,
+            &coming.change,
+            &coming.next,
+        );
         Ok(())
     }
 
     /// Whether an actor of the plan may write a line at a time below 2^63 milliseconds of the run: there is one
     /// at most, and none where there are as many lines as the plan allows. The move that writes it is put in
     /// `out`, which a caller keeps, since a move is large. It takes no memory.
+    #[inline(always)]
     pub fn offer(&self, actor: ActorId, time: u64, out: &mut Move) -> bool
         requires in_range { IsActor self.now.plan actor }
         requires in_time { time < 2 ^ 63 }
@@ -132,22 +139,23 @@ impl Judge {
         offered(&self.plan, &self.state, self.last, actor, time, out)
     }
 
-    /// Takes a line by an actor of the plan, at a time below 2^63 milliseconds of the run, that may come next:
-    /// its row changes this beside the line's event, and this takes the place of its actor's stage. It takes no
-    /// memory.
-    pub fn accept(&mut self, line: &Line, change: Change, next: &Then)
-        requires in_range { IsActor self.old.plan line.now.actor }
-        requires in_time { line.now.time < 2 ^ 63 }
+    /// Takes the line by an actor of the plan, at a time below 2^63 milliseconds of the run, with this event, where
+    /// it may come next: its row changes this beside the event, and this takes the place of its actor's stage. It
+    /// takes no memory.
+    #[inline(always)]
+    pub fn accept(&mut self, time: u64, actor: ActorId, event: &Event, change: &Change, next: &Then)
+        requires in_range { IsActor self.old.plan actor }
+        requires in_time { time < 2 ^ 63 }
         requires room { self.old.lines < self.old.plan.lines }
-        requires writes { Writes self.old.plan self.old.world self.old.last line.now change next.now }
-        ensures answer { (h : List Line) → IsLawful self.old.plan h → JudgeStandsFor self.old h → IsAnswer self.old.plan h line.now (Ok tt) }
-        ensures taken { (h : List Line) → IsLawful self.old.plan h → JudgeStandsFor self.old h → JudgeStandsFor self.new (line.now ∷ h) }
+        requires writes { Writes self.old.plan self.old.world self.old.last (line_by actor time event.now) change.now next.now }
+        ensures answer { (h : List Line) → IsLawful self.old.plan h → JudgeStandsFor self.old h → IsAnswer self.old.plan h (line_by actor time event.now) (Ok tt) }
+        ensures taken { (h : List Line) → IsLawful self.old.plan h → JudgeStandsFor self.old h → JudgeStandsFor self.new ((line_by actor time event.now) ∷ h) }
         ensures plan { self.new.plan ≡ self.old.plan }
     {
         each_line_is_taken();
         each_line_fits();
-        self.state.go(&self.plan, change, line, next);
-        self.last = line.time;
+        self.state.go(&self.plan, time, actor, event, change, next);
+        self.last = time;
         self.lines += 1;
     }
 

@@ -14,7 +14,7 @@ use pm_state::State;
 /// Whether an actor of the plan that stands well may write a line at a time below 2^63 milliseconds of the run,
 /// where the last line was written at this one: there is one at most. The move that writes it is put in `out`,
 /// which a caller keeps, since a move is large. It takes no memory.
-#[inline]
+#[inline(always)]
 pub fn offered(
     plan: &Plan,
     state: &State,

@@ -38,7 +38,7 @@ pub(crate) fn event_of(plan: &Plan, state: &State, stage: Stage, time: u64) -> O
 
 // Whether the row at a stage writes at this moment, where the last line was written at this: it doesn't where it
 // waits or comes later. What it writes is put in `out`.
-#[inline]
+#[inline(always)]
 pub(crate) fn row_at(
     plan: &Plan,
     state: &State,

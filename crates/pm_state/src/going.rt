@@ -8,10 +8,11 @@ ghost use Rattle.pm_state.specs.Standing.{HasRoomFor, IsActor, IsOf, Takes, afte
 use crate::state::State;
 use pm_apply::apply;
 use pm_base::ActorId;
-use pm_model::{Change, Event, Line, Plan, Then};
+use pm_model::{Change, Event, Plan, Then};
 
 impl State {
     // What comes after a line takes the place of the top of the actor's stages.
+    #[inline(always)]
     fn give_way(&mut self, plan: &Plan, actor: ActorId, then: &Then)
         requires is_of { IsOf plan.now self.old }
         requires in_range { IsActor plan.now actor }
@@ -40,17 +41,27 @@ impl State {
         }
     }
 
-    /// Writes the line of a stage: its effects, and what takes the stage's place. It takes no memory.
-    pub fn go(&mut self, plan: &Plan, change: Change, line: &Line, then: &Then)
+    /// Writes the line of a stage, by this actor at this moment, in milliseconds of the run, with this event: its
+    /// effects, and what takes the stage's place. It takes no memory.
+    #[inline(always)]
+    pub fn go(
+        &mut self,
+        plan: &Plan,
+        time: u64,
+        actor: ActorId,
+        event: &Event,
+        change: &Change,
+        then: &Then,
+    )
         requires is_of { IsOf plan.now self.old }
-        requires in_range { IsActor plan.now line.now.actor }
-        requires takes { Takes plan.now self.old.world line.now.actor change line.now.event }
-        requires room { HasRoomFor self.old line.now.actor then.now }
-        requires in_time { line.now.time < 2 ^ 63 }
-        ensures { self.new ≡ record self.old { world = after_write plan.now self.old.world change line.now then.now } }
+        requires in_range { IsActor plan.now actor }
+        requires takes { Takes plan.now self.old.world actor change.now event.now }
+        requires room { HasRoomFor self.old actor then.now }
+        requires in_time { time < 2 ^ 63 }
+        ensures { self.new ≡ record self.old { world = after_write plan.now self.old.world change.now (record { time = time; actor = actor; event = event.now }) then.now } }
     {
-        self.give_way(plan, line.actor, then);
-        self.count_call(plan, line.actor, &line.event);
-        apply(&mut self.parts, plan, change, line);
+        self.give_way(plan, actor, then);
+        self.count_call(plan, actor, event);
+        apply(&mut self.parts, plan, time, change, event);
     }
 }

@@ -9,11 +9,10 @@ use Rattle.pm_state.proofs.state.State.go.Goals as goal
 
 pub apply-requires-clause-fits : goal.apply-requires-clause-fits
 apply-requires-clause-fits c =
-    let line = c.args.line.now in
     let plan = c.args.plan.now in
     let w = c.args.self.now.world in
     let views_of : Standing → Views = λ s. s.world.views in
     let kept : c.self.inside.parts.views ≡ w.views =
     ap views_of c.self.view_is ∙ ap views_of c.count_call.ensures ∙ ap views_of c.give_way.ensures
-    ∙ with_place_views w line.actor (after_then c.args.then.now (drop 1 (place w line.actor))) in
-    subst (λ v. can_take plan v c.args.change line.event ≡ true) (sym kept) c.requires.takes.counters
+    ∙ with_place_views w c.args.actor (after_then c.args.then.now (drop 1 (place w c.args.actor))) in
+    subst (λ v. can_take plan v c.args.change.now c.args.event.now ≡ true) (sym kept) c.requires.takes.counters
