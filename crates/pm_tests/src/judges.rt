@@ -81,13 +81,8 @@ fn take_offered(judge: &mut Judge, time: u64) -> Option<Event>
     let Move::Write(event, change, next) = &row else {
         return None;
     };
-    let line = Line {
-        time,
-        actor,
-        event: *event,
-    };
-    judge.accept(&line, *change, next);
-    Some(line.event)
+    judge.accept(time, actor, event, change, next);
+    Some(*event)
 }
 
 // The judge of that plan.
