@@ -1,149 +1,132 @@
-//! Who is likely to write the next line.
+//! When and by whom the next line is likely to be written.
 
 ghost use Rattle.std.specs.Prelude.{◌≡◌, ◌<◌, ◌^◌};
 
-use crate::marks::Mark;
+use crate::words::{Word, number_of};
 use pm_base::{ActorId, NoMemory};
+use pm_lineread::time_start;
 use pm_linetext::TimedText;
 use pm_model::{Move, Plan};
 use std::alloc::Global;
 
-/// An actor, as the lines before tell of it.
+/// An actor, told by the number of its name.
 #[derive(Clone, Copy)]
 struct Writer {
-    // What tells its name behind a line's time, once a line of its was found by its name.
-    name: Mark,
+    name: u64,
     actor: ActorId,
-    // The seat of who wrote behind it the last time.
-    follower: usize,
 }
 
-/// What the lines before tell of the next one: most have the same time, and are by who wrote behind the last line's
-/// actor the time before, or by who wrote one of the last three lines. No clause says that a line is: its whole text
-/// is compared.
+// A seat that nobody has taken.
+const NOBODY: Writer = Writer {
+    name: 0,
+    actor: ActorId::Caller(0),
+};
+
+/// What the fronts of the lines before tell of the next one's: most have the time of the last one, and are by actors
+/// that have written before. No clause says that a line is: its whole text is compared.
 #[derive(Drop)]
 pub(crate) struct Fronts {
-    // The actors, by their seats.
-    writers: Vec<Writer>,
-    // The seats of who wrote the last lines, the newest first.
-    last: [usize; 3],
-    // The time in the text of a line, how many bytes it has with its space, and what tells it.
-    since: u64,
+    // The actors that have written, two seats for each number of a name.
+    writers: Vec<[Writer; 2]>,
+    // The word of the last time, and how many bytes it has with its space.
+    time: Word,
     time_len: usize,
-    time: Mark,
+    /// The last time, in milliseconds since the one from which it counts.
+    pub since: u64,
     /// The text of a line, as far as it is spelled.
     pub text: TimedText,
     /// The last move that was offered. It is kept here, since it is large.
     pub row: Move,
 }
 
-// The seat of an actor. A caller and a device of one place are neighbours.
-fn seat_of(actor: ActorId) -> usize {
-    match actor {
-        ActorId::Caller(place) => place as usize * 3,
-        ActorId::Work(place) => place as usize * 3 + 1,
-        ActorId::Timer(place) => place as usize * 3 + 2,
-    }
-}
-
 impl Fronts {
-    /// Before any line of the plan. It takes 240 bytes for each device or each caller, whichever are more, and
-    /// fails where memory runs out.
+    /// Before any line of the plan. It takes 128 bytes for each device and 64 for each caller, and fails where memory
+    /// runs out.
     pub(crate) fn new(alloc: Global, plan: &Plan) -> Result<Fronts, NoMemory> {
-        let places = plan.devices.len().max(plan.callers.len());
-        let nobody = Writer {
-            name: Mark::NONE,
-            actor: ActorId::Caller(0),
-            follower: 0,
-        };
-        let text = TimedText::new();
-        let time = Mark::of(text.as_slice());
-        let time_len = text.as_slice().len();
+        let devices = plan.devices.len().saturating_mul(2);
+        let actors = devices.saturating_add(plan.callers.len());
         Ok(Fronts {
-            writers: vec![in alloc; nobody; places.saturating_mul(3)]?,
-            last: [0; 3],
+            writers: vec![in alloc; [NOBODY; 2]; actors.saturating_mul(2)]?,
+            time: Word::NONE,
+            time_len: 0,
             since: 0,
-            time_len,
-            time,
-            text,
+            text: TimedText::new(),
             row: Move::Late(0),
         })
     }
 
-    // Lines are likely to begin with that time from now on.
+    // The bytes' time, since this one, is the last time from now on, where they begin with one.
     #[inline(never)]
-    fn turn_to(&mut self, since: u64)
-        requires { since < 2 ^ 63 }
+    fn turn_to(&mut self, base: u64, bytes: &[u8]) -> bool
+        requires { base < 2 ^ 63 }
+        ensures { self.new.text ≡ self.old.text }
     {
-        self.text.put_time(since);
-        self.since = since;
-        self.time_len = self.text.as_slice().len();
-        self.time = Mark::of(self.text.as_slice());
+        let Some((time, behind)) = time_start(base, bytes) else {
+            return false;
+        };
+        self.since = time - base;
+        self.time_len = bytes.len().saturating_sub(behind.len());
+        self.time = Word::first_of(bytes).unwrap_or(Word::NONE);
+        true
     }
 
-    // Who has this seat, where the bytes seem to begin with its name.
+    // What is behind the time, since this one, with which the bytes seem to begin. It is the last time from now on.
     #[inline(always)]
-    fn named_at(&self, seat: usize, bytes: &[u8]) -> Option<ActorId> {
-        let writer = self.writers.get(seat)?;
-        if writer.name.begins(bytes) {
-            Some(writer.actor)
-        } else {
-            None
+    fn behind_time<'a>(&mut self, base: u64, bytes: &'a [u8]) -> Option<&'a [u8]>
+        requires { base < 2 ^ 63 }
+        ensures { self.new.text ≡ self.old.text }
+    {
+        if !self.time.begins(bytes) && !self.turn_to(base, bytes) {
+            return None;
         }
+        bytes.get(self.time_len..)
     }
 
-    // Who of those that are likely to write seems to be named where these bytes begin.
+    // Where the two seats for this number are.
     #[inline(always)]
-    fn writer_named(&self, bytes: &[u8]) -> Option<ActorId> {
-        let follower = self.writers.get(self.last[0])?.follower;
-        if let Some(actor) = self.named_at(follower, bytes) {
-            return Some(actor);
+    fn seats_of(&self, name: u64) -> usize {
+        ((name >> 32).wrapping_mul(self.writers.len() as u64) >> 32) as usize
+    }
+
+    // Who has a seat for this number.
+    #[inline(always)]
+    fn named(&self, name: u64) -> Option<ActorId> {
+        let seats = self.writers.get(self.seats_of(name))?;
+        if seats[0].name == name {
+            return Some(seats[0].actor);
         }
-        for seat in &self.last {
-            if let Some(actor) = self.named_at(*seat, bytes) {
-                return Some(actor);
-            }
+        if seats[1].name == name {
+            return Some(seats[1].actor);
         }
         None
     }
 
-    /// Who is likely to write the line with which the bytes begin, where its text has that time.
+    /// By whom the line with which the bytes begin seems to be written, where that one has written before. Its time,
+    /// since this one, is the last time from now on.
     #[inline(always)]
-    pub(crate) fn likely_writer(&mut self, since: u64, bytes: &[u8]) -> Option<ActorId>
-        requires { since < 2 ^ 63 }
+    pub(crate) fn likely_writer(&mut self, base: u64, bytes: &[u8]) -> Option<ActorId>
+        requires { base < 2 ^ 63 }
     {
-        if self.since != since {
-            self.turn_to(since);
-        }
-        if !self.time.begins(bytes) {
-            return None;
-        }
-        self.writer_named(bytes.get(self.time_len..)?)
+        let named = self.behind_time(base, bytes)?;
+        self.named(number_of(named)?)
     }
 
-    /// A line of this actor was found by its name, which the text has behind that many bytes: the next is likely to be
-    /// told by it.
-    pub(crate) fn learn(&mut self, actor: ActorId, behind: usize)
+    /// A line was found to be by this actor with which the bytes begin, as far as its front tells: the next is likely to
+    /// be told by the number of its name. The second seat is the newest's, where the first one is taken.
+    pub(crate) fn learn(&mut self, base: u64, bytes: &[u8], actor: ActorId)
+        requires { base < 2 ^ 63 }
         ensures { self.new.text ≡ self.old.text }
     {
-        let Some(name) = self.text.as_slice().get(behind..) else {
+        let Some(named) = self.behind_time(base, bytes) else {
             return;
         };
-        if let Some(writer) = self.writers.get_mut(seat_of(actor)) {
-            if writer.name.is_none() {
-                writer.name = Mark::of(name);
-                writer.actor = actor;
-            }
+        let Some(name) = number_of(named) else {
+            return;
+        };
+        let place = self.seats_of(name);
+        if let Some(seats) = self.writers.get_mut(place) {
+            let seat = if seats[0].name == NOBODY.name { 0 } else { 1 };
+            seats[seat] = Writer { name, actor };
         }
-    }
-
-    /// A line by this actor was taken.
-    #[inline]
-    pub(crate) fn note(&mut self, actor: ActorId) {
-        let seat = seat_of(actor);
-        if let Some(writer) = self.writers.get_mut(self.last[0]) {
-            writer.follower = seat;
-        }
-        self.last = [seat, self.last[0], self.last[1]];
     }
 }

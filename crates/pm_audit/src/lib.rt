@@ -6,12 +6,12 @@
 mod auditor;
 mod fronts;
 mod loading;
-mod marks;
 mod offers;
 mod pieces;
 mod reader;
 mod reading;
 mod rest;
+mod words;
 
 pub use auditor::{Auditor, Verdict};
 pub use loading::{LoadFault, load_trace};

@@ -11,7 +11,7 @@ ghost use Rattle.pm_model.specs.Text.{IsTextBehind, names_of as its_names};
 use crate::fronts::Fronts;
 use crate::pieces::behind;
 use pm_base::{ActorId, NoMemory};
-use pm_lineread::{Finders, actor_start, line_start, read_line_by, read_line2_by};
+use pm_lineread::{Finders, line_start, read_line_by, read_line2_by};
 use pm_linetext::{NamesAtHand, TimedText};
 use pm_model::{Event, Line, Plan};
 use std::alloc::Global;
@@ -62,8 +62,8 @@ impl PlanNames {
     }
 
     /// When the line with which the bytes begin may be written, in format 2 where that is true, behind one of that
-    /// time, and by whom, where it is as it is likely: at the same time, by who is likely to write it. Its front is put
-    /// in place of the text. No clause says that the bytes begin so, and mostly they do.
+    /// time, and by whom, where that one has written before. Its front is put in place of the text. No clause says that
+    /// the bytes begin so, and mostly they do.
     #[inline(always)]
     pub(crate) fn likely_start(
         &self,
@@ -75,13 +75,15 @@ impl PlanNames {
         requires { last < 2 ^ 63 }
         ensures { IfSome result (IsStart is_format2 self.now last fronts.new.text) }
     {
-        let since = last - base_of(is_format2, last);
-        let actor = fronts.likely_writer(since, bytes)?;
-        if !self.at_hand.has_actor(actor) {
+        let base = base_of(is_format2, last);
+        let actor = fronts.likely_writer(base, bytes)?;
+        if fronts.since >= (1 << 63) - base || !self.at_hand.has_actor(actor) {
             return None;
         }
-        self.at_hand.start_line(since, actor, &mut fronts.text);
-        Some(Start { time: last, actor })
+        let time = base + fronts.since;
+        self.at_hand
+            .start_line(time - base, actor, &mut fronts.text);
+        Some(Start { time, actor })
     }
 
     /// When the line with which the bytes begin may be written, in format 2 where that is true, behind one of that
@@ -101,16 +103,10 @@ impl PlanNames {
         ensures { IfSome result (IsStart is_format2 self.now last fronts.new.text) }
     {
         let base = base_of(is_format2, last);
-        fronts.text.put_time(last - base);
-        let (time, actor) = match behind(fronts.text.as_slice(), bytes) {
-            Some(rest) => (last, actor_start(plan, &self.finders, rest)?),
-            None => line_start(plan, &self.finders, base, bytes)?,
-        };
-        fronts.text.put_time(time - base);
-        let named = fronts.text.as_slice().len();
+        let (time, actor) = line_start(plan, &self.finders, base, bytes)?;
         self.at_hand
             .start_line(time - base, actor, &mut fronts.text);
-        fronts.learn(actor, named);
+        fronts.learn(base, bytes, actor);
         Some(Start { time, actor })
     }
 

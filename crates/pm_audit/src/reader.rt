@@ -145,7 +145,6 @@ fn take_by<'a>(
     };
     let behind = names.behind(event, &mut fronts.text, bytes)?;
     taker.accept(start.time, start.actor, event, change, next);
-    fronts.note(start.actor);
     Some(behind)
 }
 

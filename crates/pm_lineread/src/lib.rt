@@ -24,7 +24,7 @@ mod starts;
 mod tests;
 
 use crate::lines::line;
-pub use crate::starts::{actor_start, line_start};
+pub use crate::starts::{line_start, time_start};
 pub use finders::Finders;
 use pm_model::{Line, Plan};
 

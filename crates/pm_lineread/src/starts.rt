@@ -41,15 +41,28 @@ fn actor_named(plan: &Plan, by: &Finders, word: &[u8]) -> Option<ActorId>
     }
 }
 
-/// The actor whose name, up to a space, these bytes may begin with. It takes no memory.
-///
-/// No clause says that they begin so: who is given it compares the name.
-pub fn actor_start(plan: &Plan, by: &Finders, bytes: &[u8]) -> Option<ActorId>
+/// The actor whose name, up to a space, these bytes begin with.
+fn actor_start(plan: &Plan, by: &Finders, bytes: &[u8]) -> Option<ActorId>
     ensures { IfSome result
         (λ actor. is_actor_of (length plan.now.devices) (length plan.now.callers) actor ≡ true) }
 {
     let (word, _) = bytes.split_at(word_len(b' ', bytes));
     actor_named(plan, by, word)
+}
+
+/// The time, in milliseconds of the run, of the line whose text these bytes may be, behind a line of time `base`, which
+/// is 0 in format 1, and what is behind it and its space. It takes no memory.
+///
+/// No clause says that a line has it: who is given it compares the whole text.
+pub fn time_start(base: u64, bytes: &[u8]) -> Option<(u64, &[u8])>
+    requires { base < 2 ^ 63 }
+    ensures in_time { IfSome result (λ start. start.0 < 2 ^ 63) }
+    ensures not_before { IfSome result (λ start. base ≤ start.0) }
+{
+    let Ok((since, rest)) = number(10, 0, (1 << 63) - 1 - base, bytes) else {
+        return None;
+    };
+    Some((base + since, rest.strip_prefix(b" ")?))
 }
 
 /// The time, in milliseconds of the run, and the actor of the line whose text these bytes may be, behind a
@@ -64,9 +77,6 @@ pub fn line_start(plan: &Plan, by: &Finders, base: u64, bytes: &[u8]) -> Option<
     ensures in_range { IfSome result
         (λ start. is_actor_of (length plan.now.devices) (length plan.now.callers) start.1 ≡ true) }
 {
-    let Ok((since, rest)) = number(10, 0, (1 << 63) - 1 - base, bytes) else {
-        return None;
-    };
-    let actor = actor_start(plan, by, rest.strip_prefix(b" ")?)?;
-    Some((base + since, actor))
+    let (time, rest) = time_start(base, bytes)?;
+    Some((time, actor_start(plan, by, rest)?))
 }

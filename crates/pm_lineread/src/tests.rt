@@ -573,3 +573,30 @@ fn lines_that_lose_or_double_their_last_byte(rt: HostRuntime) -> Result<(), Fail
     }
     Ok(())
 }
+
+// The time of the front of each of these, behind a line of that time, and what is behind it, or nothing.
+static TIMES: [(u64, &[u8], Option<(u64, &[u8])>); 8] = [
+    (0, b"0 c pm_wait: a", Some((0, b"c pm_wait: a"))),
+    (5, b"12 work.a", Some((17, b"work.a"))),
+    (0, b"7 ", Some((7, b""))),
+    (
+        5,
+        b"9223372036854775802  c",
+        Some((9223372036854775807, b" c")),
+    ),
+    (5, b"9223372036854775803 c", None),
+    (0, b"7", None),
+    (0, b"07 c", None),
+    (0, b" c", None),
+];
+
+#[test]
+fn times_of_texts(rt: HostRuntime) -> Result<(), Fail> {
+    for (base, bytes, start) in &TIMES {
+        if *base >= 1 << 63 {
+            return Err("a time that no line has".into());
+        }
+        assert_eq!(rt; time_start(*base, *bytes), *start, "{base} {bytes:?}");
+    }
+    Ok(())
+}

@@ -102,7 +102,7 @@ impl NameSource for NamesAtHand {
 }
 
 /// Appends the name at a place, and no bytes past the last.
-#[inline]
+#[inline(always)]
 fn push_name_at(text: &mut LineText, names: &[PaddedName], place: usize)
     requires { HasRoom text.old (slice_index_or names.now place []) }
     ensures { text.new ≡ text.old ++ slice_index_or names.now place [] }

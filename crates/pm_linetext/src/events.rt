@@ -106,6 +106,7 @@ fn push_command<S: NameSource>(text: &mut LineText, names: &S, command: &Command
 }
 
 /// Appends flags, usage and depth.
+#[inline(always)]
 fn push_counts(text: &mut LineText, fields: &Fields)
     requires { HasRoom text.old (counts_text fields.now) }
     ensures { text.new ≡ text.old ++ counts_text fields.now }
@@ -119,6 +120,7 @@ fn push_counts(text: &mut LineText, fields: &Fields)
 }
 
 /// Appends auto, pending, irq and child.
+#[inline(always)]
 fn push_states(text: &mut LineText, fields: &Fields)
     requires { HasRoom text.old (states_text fields.now) }
     ensures { text.new ≡ text.old ++ states_text fields.now }

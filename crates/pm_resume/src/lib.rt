@@ -5,6 +5,7 @@ ghost use Rattle.std.specs.Prelude.{◌≡◌, ◌+◌, ◌<◌, ◌&&◌, ◌�
 ghost use Rattle.pm_base.specs.declared.Cb.TheVariants as cb;
 ghost use Rattle.pm_base.specs.declared.codes.TheConstants.{EINPROGRESS, NOWAIT};
 ghost use Rattle.pm_model.specs.declared.event.Event.TheVariants as event;
+ghost use Rattle.pm_model.specs.declared.plan.Plan.{Plan as APlan};
 ghost use Rattle.pm_model.specs.declared.event.Word.TheVariants as word;
 ghost use Rattle.pm_base.specs.declared.Why.TheVariants as why;
 ghost use Rattle.pm_model.specs.declared.stage.Await.TheVariants as await;
@@ -16,7 +17,7 @@ ghost use Rattle.pm_model.specs.declared.stage.Stage.TheVariants as the_stage;
 ghost use Rattle.pm_model.specs.Derived.{begun, first_of, has, is_moving, is_resuming, is_suspending, minds_parent};
 ghost use Rattle.pm_model.specs.PlanRows.{has_parent, ms_of, parent_of};
 ghost use Rattle.pm_model.specs.ResumeTable.{resume_goes, leaves, resume_begins, resume_domain, resume_ends, resume_links, resume_row, resume_unwinds, resume_verdict, resume_returns};
-ghost use Rattle.pm_model.specs.Row.{calls, move_of, timed, waits};
+ghost use Rattle.pm_model.specs.Row.{calls, idles, move_of, resumes, timed, waits};
 ghost use Rattle.pm_model.specs.SuspendTable.{may_not_wait};
 ghost use Rattle.pm_model.specs.WellFormed.{is_well_formed};
 ghost use Rattle.pm_model.specs.World.{due};
@@ -53,11 +54,11 @@ fn leaves(plan: &Plan, call: ResumeCall, code: i32) -> Then
 }
 
 // The return line.
-fn resume_returns(plan: &Plan, call: ResumeCall, code: i32, change: Change) -> Move
+fn resume_returns(plan: &Plan, call: ResumeCall, code: i32, change: Change, out: &mut Move)
     requires { call.dev.0 < length plan.now.devices }
-    ensures { result ≡ move_of (resume_returns plan.now call code change) }
+    ensures { out.new ≡ move_of (resume_returns plan.now call code change) }
 {
-    Move::Write(
+    *out = Move::Write(
         Event::Return {
             func: Cb::Resume,
             dev: call.dev,
@@ -65,7 +66,7 @@ fn resume_returns(plan: &Plan, call: ResumeCall, code: i32, change: Change) -> M
         },
         change,
         leaves(plan, call, code),
-    )
+    );
 }
 
 // The resume waits for the end of the suspend that is under way, and its caller doesn't.
@@ -119,19 +120,19 @@ fn verdict(plan: &Plan, parts: &Parts, call: ResumeCall, tried: bool, out: &mut 
     let flags = call.flags;
     let cancel = Change::ResumeCancel { dev };
     if parts.has_error(dev) {
-        *out = resume_returns(plan, call, EINVAL, Change::Same);
+        resume_returns(plan, call, EINVAL, Change::Same, out);
         return;
     }
     if parts.was_active(dev) {
-        *out = resume_returns(plan, call, 1, Change::Same);
+        resume_returns(plan, call, 1, Change::Same, out);
         return;
     }
     if parts.is_disabled(dev) {
-        *out = resume_returns(plan, call, EACCES, Change::Same);
+        resume_returns(plan, call, EACCES, Change::Same, out);
         return;
     }
     if parts.is_active(dev) {
-        *out = resume_returns(plan, call, 1, cancel);
+        resume_returns(plan, call, 1, cancel, out);
         return;
     }
     if defers(parts, dev, flags) {
@@ -147,7 +148,7 @@ fn verdict(plan: &Plan, parts: &Parts, call: ResumeCall, tried: bool, out: &mut 
         return;
     }
     if is_under_way(parts, dev, flags) {
-        *out = resume_returns(plan, call, EINPROGRESS, cancel);
+        resume_returns(plan, call, EINPROGRESS, cancel, out);
         return;
     }
     if parts.is_moving(dev) {
@@ -187,7 +188,7 @@ fn verdict(plan: &Plan, parts: &Parts, call: ResumeCall, tried: bool, out: &mut 
         return;
     }
     if parts.awaits_parent(plan, dev) {
-        *out = resume_returns(plan, call, EBUSY, cancel);
+        resume_returns(plan, call, EBUSY, cancel, out);
         return;
     }
     if no_callbacks(plan, dev) {
@@ -225,17 +226,17 @@ fn waiting(plan: &Plan, parts: &Parts, call: ResumeCall, tried: bool, out: &mut 
 }
 
 // R4
-fn begins(call: ResumeCall, time: u64) -> Move
-    ensures { result ≡ move_of (resume_begins call time) }
+fn begins(call: ResumeCall, time: u64, out: &mut Move)
+    ensures { out.new ≡ move_of (resume_begins call time) }
 {
-    Move::Write(
+    *out = Move::Write(
         Event::Begin {
             dev: call.dev,
             cb: Cb::Resume,
         },
         Change::Same,
         resume_goes(ResumeStage::Running { call, since: time }),
-    )
+    );
 }
 
 // R2
@@ -272,7 +273,7 @@ fn links(plan: &Plan, parts: &Parts, call: ResumeCall, time: u64, out: &mut Move
                     resume_goes(ResumeStage::Callback { call }),
                 );
             } else {
-                *out = begins(call, time);
+                begins(call, time, out);
             }
         }
     }
@@ -399,12 +400,12 @@ fn running(plan: &Plan, parts: &Parts, call: ResumeCall, since: u64, time: u64, 
 }
 
 // R7
-fn gives_parent(plan: &Plan, call: ResumeCall, code: i32) -> Move
+fn gives_parent(plan: &Plan, call: ResumeCall, code: i32, out: &mut Move)
     requires { call.dev.0 < length plan.now.devices }
-    ensures { result ≡ move.Write (event.Put (parent_of plan.now call.dev) (why.Child call.dev)) change.Same (calls (the_stage.Idle (idle.AfterPut (parent_of plan.now call.dev) 5)) (await.ResumePut call code)) }
+    ensures { out.new ≡ move.Write (event.Put (parent_of plan.now call.dev) (why.Child call.dev)) change.Same (calls (the_stage.Idle (idle.AfterPut (parent_of plan.now call.dev) 5)) (await.ResumePut call code)) }
 {
     let parent = parent_of(plan, call.dev);
-    Move::Write(
+    *out = Move::Write(
         Event::Put {
             dev: parent,
             why: Why::Child(call.dev),
@@ -417,21 +418,37 @@ fn gives_parent(plan: &Plan, call: ResumeCall, code: i32) -> Move
             }),
             Await::ResumePut { call, code },
         ),
-    )
+    );
 }
 
 // R4c
-fn resumed(call: ResumeCall) -> Move
-    ensures { result ≡ move.Write (event.State call.dev word.Active) change.Same (resume_goes (resume.Idle call)) }
+fn resumed(call: ResumeCall, out: &mut Move)
+    ensures { out.new ≡ move.Write (event.State call.dev word.Active) change.Same (resume_goes (resume.Idle call)) }
 {
-    Move::Write(
+    *out = Move::Write(
         Event::State {
             dev: call.dev,
             word: Word::Active,
         },
         Change::Same,
         resume_goes(ResumeStage::Idle { call }),
-    )
+    );
+}
+
+// The first line of a resume.
+fn enters(parts: &Parts, call: ResumeCall, out: &mut Move)
+    requires { call.dev.0 < length parts.now.shape.parents }
+    ensures { (plan : APlan) → IsFor plan parts.now.shape → out.new ≡ move_of (resumes plan parts.now.views call.dev call.flags call.purpose []) }
+{
+    *out = parts.resumes(call.dev, call.flags, call.purpose);
+}
+
+// R5
+fn calls_idle(parts: &Parts, call: ResumeCall, out: &mut Move)
+    requires { call.dev.0 < length parts.now.shape.parents }
+    ensures { (plan : APlan) → IsFor plan parts.now.shape → out.new ≡ move_of (idles plan parts.now.views call.dev 1 change.Same ((the_stage.Await (await.ResumeIdle call)) ∷ [])) }
+{
+    *out = parts.calls_idle(call.dev, 1, Change::Same, Await::ResumeIdle { call });
 }
 
 /// The only move at a stage of resume: its line, with what takes the stage's place; or the moment at
@@ -457,7 +474,7 @@ pub fn write_next(plan: &Plan, parts: &Parts, stage: ResumeStage, time: u64, out
 {
     match stage {
         ResumeStage::Enter { call } => {
-            *out = parts.resumes(call.dev, call.flags, call.purpose);
+            enters(parts, call, out);
         }
         ResumeStage::Verdict { call, tried } => {
             verdict(plan, parts, call, tried, out);
@@ -472,22 +489,22 @@ pub fn write_next(plan: &Plan, parts: &Parts, stage: ResumeStage, time: u64, out
             supplied(plan, parts, call, code, time, out);
         }
         ResumeStage::Callback { call } => {
-            *out = begins(call, time);
+            begins(call, time, out);
         }
         ResumeStage::Running { call, since } => {
             running(plan, parts, call, since, time, out);
         }
         ResumeStage::Resumed { call } => {
-            *out = resumed(call);
+            resumed(call, out);
         }
         ResumeStage::Idle { call } => {
-            *out = parts.calls_idle(call.dev, 1, Change::Same, Await::ResumeIdle { call });
+            calls_idle(parts, call, out);
         }
         ResumeStage::Done { call, code } => {
-            *out = resume_returns(plan, call, code, Change::Same);
+            resume_returns(plan, call, code, Change::Same, out);
         }
         ResumeStage::Parent { call, code } => {
-            *out = gives_parent(plan, call, code);
+            gives_parent(plan, call, code, out);
         }
         ResumeStage::Domain { call, code } => {
             domain(plan, parts, call, code, out);
