@@ -12,8 +12,6 @@ ghost use Rattle.pm_account.specs.Times.{active, moving, suspended};
 
 mod shown;
 mod stay;
-#[cfg(test)]
-mod tests;
 mod texts;
 
 use pm_base::NoMemory;
@@ -22,7 +20,7 @@ use stay::{Stay, UNSAID, keep};
 use std::alloc::Global;
 pub use texts::times_text;
 
-/// For how many milliseconds of a run a device was in which status (this project's own).
+/// For how many milliseconds of a run a device was in which status.
 #[derive(Clone, Copy, Debug, PartialEq, Eq)]
 pub struct Times {
     pub active: u64,

@@ -3,10 +3,10 @@
 ghost use Rattle.std.specs.Prelude.{◌≡◌, [], ◌∷◌};
 ghost use Rattle.pm_base.specs.declared.ActorId.TheVariants.{Caller};
 ghost use Rattle.pm_model.specs.declared.event.Event.TheVariants as event;
-ghost use Rattle.pm_runs.specs.Refusals.{line};
-ghost use Rattle.pm_runs.specs.Requests.{deferred_resume_plan};
-ghost use Rattle.pm_runs.specs.Suspends.{autosuspend_plan};
-ghost use Rattle.pm_runs.specs.Words.{dev, run_of};
+ghost use Rattle.pm_show_runs.specs.Refusals.{line};
+ghost use Rattle.pm_show_runs.specs.Requests.{deferred_resume_plan};
+ghost use Rattle.pm_show_runs.specs.Suspends.{autosuspend_plan};
+ghost use Rattle.pm_show_runs.specs.Words.{dev, run_of};
 ghost use Rattle.pm_account.specs.Account.{no_times};
 ghost use Rattle.pm_account.specs.Times.{times_of};
 

@@ -7,8 +7,8 @@ ghost use Rattle.pm_model.specs.Text.{names_of};
 
 use crate::Times;
 use pm_base::DevId;
+use pm_linetext::ShortText;
 use pm_model::Plan;
-use pm_shorttext::ShortText;
 
 /// The line of a device's times, as `a active 19 suspended 0 moving 0`, with its newline. It takes no
 /// memory.

@@ -8,9 +8,9 @@ use Rattle.pm_model.specs.declared.plan.Plan.{Plan}
 use Rattle.pm_model.specs.Lawful.{Permits, last_time}
 use Rattle.pm_model.specs.LineOf.{is_actor_of, is_event_of, is_line}
 use Rattle.pm_model.specs.Text.{IsTextBehind}
-use Rattle.pm_texts.proofs.Formats.{line_is}
+use Rattle.pm_law_texts.proofs.Formats.{line_is}
 use Rattle.pm_state.specs.Standing.{IsActor}
-use Rattle.pm_judge.specs.Judging.{JudgeStandsFor, Judged}
+use Rattle.pm_book.specs.Judging.{JudgeStandsFor, Judged}
 use Rattle.pm_book.specs.Takings.{TakerStandsFor, Takings}
 use Rattle.pm_audit.specs.Auditing.{IsRead}
 

@@ -12,10 +12,10 @@ use Rattle.pm_model.specs.LineOf.{is_line_of}
 use Rattle.pm_model.specs.NoWhy.{is_within_line}
 use Rattle.pm_model.specs.Spelling.{Names, event_text, line_text}
 use Rattle.pm_model.specs.Text.{IsTextBehind, names_of}
-use Rattle.pm_texts.proofs.Formats.{in_line, spelled_is}
-use Rattle.pm_judge.specs.Offering.{IsWrite}
-use Rattle.pm_judge.specs.Judging.{Judged}
-use Rattle.pm_judge.specs.Sometime.{Writes}
+use Rattle.pm_law_texts.proofs.Formats.{in_line, spelled_is}
+use Rattle.pm_book.specs.Offering.{IsWrite}
+use Rattle.pm_book.specs.Judging.{Judged}
+use Rattle.pm_book.specs.Sometime.{Writes}
 use Rattle.pm_linetext.specs.Fronts.{IsFront, front_text}
 use Rattle.pm_audit.specs.Offers.{IsOffered, IsStart, base_of}
 use Rattle.pm_audit.specs.declared.offers.Start.{Start}

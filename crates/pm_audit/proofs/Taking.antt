@@ -13,9 +13,9 @@ use Rattle.pm_model.specs.Lawful.{IsLawful, last_time}
 use Rattle.pm_model.specs.NoWhy.{IsLineBehind, IsWhy, is_within_line}
 use Rattle.pm_model.specs.Spelling.{newline}
 use Rattle.pm_model.specs.Text.{IsTextBehind}
-use Rattle.pm_texts.proofs.Behind.{format_kept, header_line, piece_behind}
-use Rattle.pm_texts.proofs.Bytes.{none_empty}
-use Rattle.pm_texts.proofs.Formats.{IsTextIn, only_list, stands_for, text_by_format, text_more}
+use Rattle.pm_law_texts.proofs.Behind.{format_kept, header_line, piece_behind}
+use Rattle.pm_law_texts.proofs.Bytes.{none_empty}
+use Rattle.pm_law_texts.proofs.Formats.{IsTextIn, only_list, stands_for, text_by_format, text_more}
 use Rattle.pm_book.specs.Takings.{TakerStandsFor, Takings}
 use Rattle.pm_audit.specs.Auditing.{IsBad, IsGood, IsRead, IsRest, IsTaken, IsToldBy, reason_of, rest_with}
 use Rattle.pm_audit.specs.declared.reading.Format.{Format}

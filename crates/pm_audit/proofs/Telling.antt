@@ -10,10 +10,10 @@ use Rattle.pm_model.specs.NoWhy.{IsWhy, is_within_line}
 use Rattle.pm_model.specs.Spelling.{newline}
 use Rattle.pm_model.specs.Verdict.{IsVerdict, No, YesFinished, YesOpen}
 use Rattle.pm_model.specs.World.{world}
-use Rattle.pm_texts.proofs.Behind.{cut_behind, format_kept, no_header}
-use Rattle.pm_texts.proofs.Bytes.{append_none}
-use Rattle.pm_texts.proofs.WhyBad.{reason_first}
-use Rattle.pm_judge.specs.Judging.{JudgeStandsFor}
+use Rattle.pm_law_texts.proofs.Behind.{cut_behind, format_kept, no_header}
+use Rattle.pm_law_texts.proofs.Bytes.{append_none}
+use Rattle.pm_law_texts.proofs.WhyBad.{reason_first}
+use Rattle.pm_book.specs.Judging.{JudgeStandsFor}
 use Rattle.pm_book.specs.Takings.{TakerStandsFor, Takings}
 use Rattle.pm_audit.specs.Auditing.{AuditorStandsFor, HasRead, IsGood, IsGoodSoFar, IsRead, IsRest, IsTaken, IsToldBy, IsWhole, SaysOf, reason_of, rest_with, told_of}
 use Rattle.pm_book.specs.Pages.{Pages}

@@ -9,7 +9,7 @@ use Rattle.pm_model.specs.NoWhy.{IsNeverPermitted, IsPermittedSometime, IsWhy, i
 use Rattle.pm_model.specs.Spelling.{newline}
 use Rattle.pm_model.specs.Text.{IsTextBehind}
 use Rattle.pm_model.specs.Verdict as verdicts
-use Rattle.pm_texts.specs.Next.{IsNext}
+use Rattle.pm_law_texts.specs.Next.{IsNext}
 use Rattle.pm_book.specs.Takings.{TakerStandsFor, Takings}
 use Rattle.pm_audit.specs.declared.auditor.Auditor.{Auditor}
 use Rattle.pm_audit.specs.declared.auditor.BadLine.{BadLine}

@@ -10,8 +10,8 @@ use Rattle.pm_linetext.specs.Fronts.{front_text}
 use Rattle.pm_model.specs.Spelling.{Names}
 use Rattle.pm_model.specs.Text.{IsTextBehind}
 use Rattle.pm_state.specs.Standing.{IsActor}
-use Rattle.pm_judge.specs.Judging.{Judged}
-use Rattle.pm_judge.specs.Sometime.{Writes}
+use Rattle.pm_book.specs.Judging.{Judged}
+use Rattle.pm_book.specs.Sometime.{Writes}
 use Rattle.pm_book.specs.Takings.{TakerStandsFor, Takings}
 use Rattle.pm_audit.specs.declared.offers.Start.{Start}
 use Rattle.pm_audit.specs.Auditing.{IsRead}

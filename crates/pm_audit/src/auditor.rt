@@ -38,12 +38,24 @@ pub struct BadLine {
 
 /// Reads a trace as it comes, piece by piece, and judges it against a plan; it keeps the lines for a book if it is
 /// asked to. Contracts say for which bytes it stands: all those that it was fed.
-#[derive(Drop)]
 pub struct Auditor {
     pub(crate) reader: Reader,
     format: Format,
     rest: Rest,
     bad: Option<BadLine>,
+}
+
+impl Drop for Auditor {
+    fn drop(self) {
+        let Auditor {
+            reader,
+            format: _,
+            rest,
+            bad: _,
+        } = self;
+        drop(reader);
+        drop(rest);
+    }
 }
 
 impl Auditor {
@@ -196,10 +208,26 @@ impl Auditor {
         Verdict::YesOpen
     }
 
+    // Its reader, which has the lines that are kept.
+    pub(crate) fn into_reader(self) -> Reader
+        ensures { result ≡ self.reader }
+    {
+        let Auditor {
+            reader,
+            format: _,
+            rest,
+            bad: _,
+        } = self;
+        drop(rest);
+        reader
+    }
+
     /// What is said of the bytes that were fed. It takes no memory.
     pub fn end(self) -> Verdict
         ensures { (b : List ℕ) → AuditorStandsFor self b → IsVerdict self.reader.judge.plan b (verdict_of result) }
     {
-        self.verdict()
+        let verdict = self.verdict();
+        drop(self);
+        verdict
     }
 }

@@ -1,6 +1,6 @@
 //! Audits traces: which bytes are the text of a lawful list of lines of a plan, and which line of other bytes
-//! is the first bad one (this project's own). An auditor keeps neither the lines nor the bytes; `load_trace`
-//! makes a book of the lines.
+//! is the first bad one. An auditor keeps no bytes, and lines only where a book of them is wanted; `load_trace` makes
+//! that book of bytes that are there whole.
 #![tactic(auto)]
 
 mod auditor;

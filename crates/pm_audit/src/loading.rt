@@ -36,7 +36,7 @@ impl Auditor {
         if let Some(BadLine { line, why }) = self.first_bad() {
             return Err(LoadFault::No { line, why });
         }
-        match self.reader.finish(alloc) {
+        match self.into_reader().finish(alloc) {
             Ok(book) => Ok(book),
             Err(_) => Err(LoadFault::NoMemory),
         }

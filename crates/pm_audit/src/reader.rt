@@ -4,7 +4,7 @@ ghost use Rattle.std.specs.Prelude.{◌≡◌, ◌<◌, ◌^◌, [], List, ℕ, 
 ghost use Rattle.pm_audit.specs.Auditing.{IsRead};
 ghost use Rattle.pm_audit.specs.Offers.{HasTakenFirst, IsStart};
 ghost use Rattle.pm_book.specs.Takings.{TakerStandsFor};
-ghost use Rattle.pm_judge.specs.Judging.{JudgeStandsFor};
+ghost use Rattle.pm_book.specs.Judging.{JudgeStandsFor};
 ghost use Rattle.pm_linetext.specs.Fronts.{IsFront};
 ghost use Rattle.pm_model.specs.declared.event.Line.{Line as ALine};
 ghost use Rattle.pm_model.specs.Lawful.{IsLawful, is_finished};
@@ -16,18 +16,29 @@ use crate::fronts::Fronts;
 use crate::offers::{PlanNames, Start};
 use crate::reading::NoWhy;
 use pm_base::NoMemory;
-use pm_book::{Book, Taker};
-use pm_judge::Bad;
+use pm_book::{Bad, Book, Taker};
 use pm_model::{Move, Plan};
 use std::alloc::Global;
 use std::marker::Model;
 
 /// A taker with the names of its plan. Contracts see the taker.
-#[derive(Drop)]
 pub struct Reader {
     taker: Taker,
     names: PlanNames,
     fronts: Fronts,
+}
+
+impl Drop for Reader {
+    fn drop(self) {
+        let Reader {
+            taker,
+            names,
+            fronts,
+        } = self;
+        drop(taker);
+        drop(names);
+        drop(fronts);
+    }
 }
 
 impl Model for Reader {
@@ -113,7 +124,14 @@ impl Reader {
         ensures plan { IfOk result (λ book. book.plan ≡ self.judge.plan) }
         ensures lines { IfOk result (λ book. self.kept ≡ Some book.lines) }
     {
-        self.taker.finish(alloc)
+        let Reader {
+            taker,
+            names,
+            fronts,
+        } = self;
+        drop(names);
+        drop(fronts);
+        taker.finish(alloc)
     }
 }
 

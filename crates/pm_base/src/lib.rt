@@ -15,7 +15,7 @@ pub use errors::{Failed, NoMemory};
 pub use limits::{
     DEFAULT_LINES, LINE_BYTES, MAX_CALLERS, MAX_CODES, MAX_COMMANDS, MAX_DEVICES, MAX_DOMAINS,
     MAX_LINES, MAX_LINKS, MAX_MS, MAX_NAME, MIN_CODE, PIECE_BYTES, PLAN_BYTES, TEXT_BYTES,
-    TRACE_BYTES,
+    TRACE_BYTES, limits_are_numbers,
 };
 
 /// A device, by its place in the plan's list of devices, counted from 0.
@@ -94,7 +94,7 @@ pub enum Why {
 }
 
 /// What is pending for a device (`runtime_pm.rst`, section 3).
-#[derive(Clone, Copy, Debug, PartialEq, Eq)]
+#[derive(Clone, Copy, Debug, PartialEq, Eq, Hash)]
 pub struct Pending {
     /// The request that its work item will carry out.
     pub request: Req,
@@ -105,7 +105,7 @@ pub struct Pending {
 }
 
 /// The armed timer of a device (`runtime_pm.rst`, section 3, `suspend_timer`).
-#[derive(Clone, Copy, Debug, PartialEq, Eq)]
+#[derive(Clone, Copy, Debug, PartialEq, Eq, Hash)]
 pub struct Armed {
     /// When it fires, in milliseconds of the run.
     pub deadline: u64,

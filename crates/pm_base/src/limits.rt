@@ -1,5 +1,8 @@
 //! The limits of a plan and of a trace. All are this project's own.
 
+ghost use Rattle.std.specs.Prelude.{◌≡◌, neg_ℤ, pos};
+ghost use Rattle.pm_base.specs.declared.limits.TheConstants.{DEFAULT_LINES, LINE_BYTES, MAX_CALLERS, MAX_CODES, MAX_COMMANDS, MAX_DEVICES, MAX_DOMAINS, MAX_LINES, MAX_LINKS, MAX_MS, MAX_NAME, MIN_CODE, PIECE_BYTES, PLAN_BYTES, TEXT_BYTES, TRACE_BYTES};
+
 /// Devices of a plan, at most.
 pub const MAX_DEVICES: usize = 1_024;
 
@@ -48,3 +51,23 @@ pub const TRACE_BYTES: usize = 67_108_864;
 
 /// Bytes that are asked of a file at once, at most.
 pub const PIECE_BYTES: usize = 65_536;
+
+/// The limits that code goes by are the numbers that definitions have written out.
+pub fn limits_are_numbers()
+    ensures devices { MAX_DEVICES ≡ 1024 }
+    ensures domains { MAX_DOMAINS ≡ 128 }
+    ensures links { MAX_LINKS ≡ 1024 }
+    ensures callers { MAX_CALLERS ≡ 16 }
+    ensures commands { MAX_COMMANDS ≡ 1000 }
+    ensures codes { MAX_CODES ≡ 64 }
+    ensures least_code { MIN_CODE ≡ neg_ℤ (pos 4095) }
+    ensures name { MAX_NAME ≡ 32 }
+    ensures lines { MAX_LINES ≡ 200000 }
+    ensures default_lines { DEFAULT_LINES ≡ 20000 }
+    ensures milliseconds { MAX_MS ≡ 1000000 }
+    ensures written { LINE_BYTES ≡ 162 }
+    ensures read { TEXT_BYTES ≡ 177 }
+    ensures plan { PLAN_BYTES ≡ 1048576 }
+    ensures trace { TRACE_BYTES ≡ 67108864 }
+    ensures piece { PIECE_BYTES ≡ 65536 }
+{}

@@ -1,3 +1,7 @@
+pub mod Alike
+pub mod Answering
+pub mod Coming
+pub mod Moves
 pub mod RunningLemmas
 pub mod EndLemmas
 pub mod PageLemmas

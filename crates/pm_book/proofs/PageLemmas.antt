@@ -1,5 +1,5 @@
 -- What a book keeps, as it writes a line.
-use Rattle.std.proofs.Common.{◌≡◌, ◌<◌, ◌≤◌, ◌^◌, ◌++◌, ℕ, true, false, List, [], ◌∷◌, Some, None, Result, Ok, Err, IfOk, OnOk, length, nat_le, reverse, arith, refl, sym, subst}
+use Rattle.std.proofs.Common.{◌≡◌, ◌∙◌, ◌<◌, ◌≤◌, ◌^◌, ◌++◌, ℕ, true, false, List, [], ◌∷◌, Option, Some, None, Result, Ok, Err, IfOk, IfSome, OnOk, length, nat_le, reverse, arith, refl, sym, subst}
 use Rattle.std.specs.Option.{option_map_or}
 use Rattle.std.proofs.lemmas.Bool.{ltb-true}
 use Rattle.std.proofs.lemmas.Grind.{common_steps}
@@ -14,7 +14,7 @@ use Rattle.pm_model.specs.declared.stage.Move.TheVariants.{Write}
 use Rattle.pm_model.specs.declared.stage.Stage.{Stage}
 use Rattle.pm_model.specs.declared.stage.Then.{Then}
 use Rattle.pm_model.specs.History.{History}
-use Rattle.pm_model.specs.Lawful.{IsLawful, Permits, last_time}
+use Rattle.pm_model.specs.Lawful.{IsFinished, IsLawful, Permits, last_time}
 use Rattle.pm_model.specs.LineOf.{is_event_of}
 use Rattle.pm_model.specs.World.{World, move, stage_at, start, world}
 use Rattle.pm_state.specs.Standing.{IsOf, Standing, StandsWell, after_write, can_go_on}
@@ -23,8 +23,8 @@ use Rattle.pm_turns.specs.Turning.{Index, IsIndex, Leads}
 use Rattle.pm_book.specs.Pages.{Adds, BeginsWithin, IsKept, Longer, MayGo, MayWrite, Pages, by_move, moment_from, running, step_answer, world_of}
 use Rattle.pm_book.specs.declared.steps.Step.{Step}
 use Rattle.pm_book.specs.declared.steps.Step.TheVariants as step
-use Rattle.pm_judge.specs.Sometime.{Writes}
-use Rattle.pm_judge.proofs.Moves.{stays_of, world_after}
+use Rattle.pm_book.specs.Sometime.{Writes}
+use Rattle.pm_book.proofs.Moves.{stays_of, world_after}
 use Rattle.pm_book.proofs.RunningLemmas.{start_running}
 
 pub reverse-push : (lines lines' : List Line) (line : Line) → lines' ≡ lines ++ line ∷ [] → reverse lines' ≡ line ∷ reverse lines
@@ -144,3 +144,8 @@ kept_start plan state turns ends limit lines is_of same are most empty =
 pub begins_within : (n : ℕ) (e : Event) → is_event_of n e ≡ true → BeginsWithin n e
 begins_within n (event.Begin d k) is = ltb-true _ _ is
 begins_within n _ is = tt
+
+-- where it is somebody's turn the run isn't finished
+pub unfinished : {A : Type 0} (plan : Plan) (h : History) (turn next : Option A) → turn ≡ next → (IsFinished plan h → next ≡ None) → IfSome turn (λ t. ¬ IsFinished plan h)
+unfinished plan h None next is stops = tt
+unfinished plan h (Some t) next is stops = λ finished. let clash = is ∙ stops finished in cc

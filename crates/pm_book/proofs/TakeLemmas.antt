@@ -5,9 +5,9 @@ use Rattle.std.proofs.lemmas.Result.{err_from_is_err_and}
 use Rattle.pm_model.specs.declared.event.Line.{Line}
 use Rattle.pm_model.specs.declared.plan.Plan.{Plan}
 use Rattle.pm_model.specs.History.{History}
-use Rattle.pm_judge.specs.declared.judge.Bad.{Bad}
-use Rattle.pm_judge.specs.declared.judge.Bad.TheVariants as bad
-use Rattle.pm_judge.specs.Judging.{IsAnswer}
+use Rattle.pm_book.specs.declared.judge.Bad.{Bad}
+use Rattle.pm_book.specs.declared.judge.Bad.TheVariants as bad
+use Rattle.pm_book.specs.Judging.{IsAnswer}
 use Rattle.pm_book.specs.Pages.{Pages, is_full}
 use Rattle.pm_book.specs.Takes.{fault_of, judged_as}
 use Rattle.pm_book.specs.declared.taking.TakeFault.{TakeFault}

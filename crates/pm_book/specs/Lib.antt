@@ -1,3 +1,6 @@
+pub mod Judging
+pub mod Offering
+pub mod Sometime
 pub mod Growing
 pub mod Pages
 pub mod Sheets

@@ -1,7 +1,7 @@
 -- What a book answers of a line that was written elsewhere (this project's own).
 use Rattle.std.specs.Prelude.{Result, Ok, Err}
-use Rattle.pm_judge.specs.declared.judge.Bad.{Bad}
-use Rattle.pm_judge.specs.declared.judge.Bad.TheVariants as bad
+use Rattle.pm_book.specs.declared.judge.Bad.{Bad}
+use Rattle.pm_book.specs.declared.judge.Bad.TheVariants as bad
 use Rattle.pm_book.specs.declared.taking.TakeFault.{TakeFault}
 use Rattle.pm_book.specs.declared.taking.TakeFault.TheVariants as fault
 

@@ -2,7 +2,7 @@
 use Rattle.std.specs.Prelude.{◌≡◌, ◌≤◌, List, Option, IfSome, reverse}
 use Rattle.pm_model.specs.declared.event.Line.{Line}
 use Rattle.pm_model.specs.Lawful.{IsLawful}
-use Rattle.pm_judge.specs.Judging.{JudgeStandsFor, Judged}
+use Rattle.pm_book.specs.Judging.{JudgeStandsFor, Judged}
 use Rattle.pm_book.specs.Pages.{running}
 use Rattle.pm_book.specs.Sheets.{Sheet}
 

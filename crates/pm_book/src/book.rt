@@ -1,9 +1,9 @@
 //! The book, and what it shows.
 
-ghost use Rattle.std.specs.Prelude.{◌≡◌, ◌<◌, ◌≤◌, ◌^◌, [], reverse, true, IfErr, IfOk, IfSome, IsOk, OnErr, OnOk};
+ghost use Rattle.std.specs.Prelude.{◌≡◌, ◌<◌, ◌≤◌, ◌^◌, [], reverse, true, IfErr, IfNone, IfOk, IfSome, IsOk, OnErr, OnOk};
 ghost use Rattle.std.specs.List.{list_all};
 ghost use Rattle.pm_model.specs.LineOf.{is_line_of};
-ghost use Rattle.pm_model.specs.Lawful.{IsLawful, is_finished, last_time};
+ghost use Rattle.pm_model.specs.Lawful.{IsFinished, IsLawful, is_finished, last_time};
 ghost use Rattle.pm_state.specs.Standing.{IsActor, IsOf, counters};
 ghost use Rattle.pm_state.specs.Turns.{is_running};
 ghost use Rattle.pm_model.specs.World.{start};
@@ -15,9 +15,10 @@ ghost use Rattle.pm_device.specs.Parts.{IsFor};
 use crate::laws::all_stand_well;
 use crate::lines::Lines;
 use pm_base::{ActorId, NoMemory};
-use pm_bounds::lines_are_of_plan;
 use pm_device::Parts;
-use pm_laws::sizes;
+use pm_law_bounds::lines_are_of_plan;
+use pm_law_counts::sizes;
+use pm_law_turns::serial_stops;
 use pm_model::{Line, Plan};
 use pm_state::State;
 use pm_turns::Turns;
@@ -27,12 +28,26 @@ use std::marker::Model;
 /// A plan and the lines of a run of it, with the counters, the open stages and the turns after them.
 /// Contracts see the plan, the lines, the newest first, and how many more can be written without taking
 /// memory. In each value of the type the list is lawful.
-#[derive(Drop)]
 pub struct Book {
     pub(crate) plan: Plan,
     pub(crate) lines: Lines,
     pub(crate) state: State,
     pub(crate) turns: Turns,
+}
+
+impl Drop for Book {
+    fn drop(self) {
+        let Book {
+            plan,
+            lines,
+            state,
+            turns,
+        } = self;
+        drop(plan);
+        drop(lines);
+        drop(state);
+        drop(turns);
+    }
 }
 
 impl Model for Book {
@@ -148,12 +163,16 @@ impl Book {
         self.state.is_finished(&self.plan)
     }
 
-    /// Who writes the next line on one thread, and when. It takes no memory, and a number of steps that
-    /// is logarithmic in the number of actors.
+    /// Who writes the next line on one thread, and when; nobody exactly where the run is finished. It takes
+    /// no memory, and a number of steps that is logarithmic in the number of actors.
     pub fn next_turn(&self) -> Option<(ActorId, u64)>
         ensures turn { result ≡ next_turn self.now.plan self.now.lines }
         ensures in_range { IfSome result (λ turn. IsActor self.now.plan turn.0) }
+        ensures none { IfNone result (IsFinished self.now.plan self.now.lines) }
+        ensures some { IfSome result (λ turn. ¬ IsFinished self.now.plan self.now.lines) }
     {
+        serial_stops();
+        let _ = self.lines();
         self.turns.next()
     }
 }

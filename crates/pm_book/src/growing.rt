@@ -115,7 +115,7 @@ impl Book {
         requires in_range { caller < length self.old.plan.callers }
         requires of_plan { is_command (length self.old.plan.devices) command ≡ true }
         ensures ok { OnOk result (Extends self.old self.new caller command) }
-        ensures full { (result ≡ Err ExtendFault.Full) ↔ (length (script_of self.old.plan.callers caller) ≡ MAX_COMMANDS) }
+        ensures full { (result ≡ Err ExtendFault.Full) ↔ (length (script_of self.old.plan.callers caller) ≡ 1000) }
         ensures err { OnErr result (self.new ≡ self.old) }
     {
         if self.script_len(caller) >= MAX_COMMANDS {

@@ -13,14 +13,14 @@ ghost use Rattle.pm_model.specs.World.{World, world};
 ghost use Rattle.pm_state.specs.Standing.{HasRoomFor, IsActor, IsOf, Standing, Takes};
 ghost use Rattle.pm_book.specs.Pages.{MayWrite};
 
-pub use pm_judge::all_stand_well;
-use pm_judge::each_line_fits;
+pub use crate::all_stand_well;
+use crate::each_line_fits;
 
 // No count falls below zero or passes its end with a line that may be written.
 pub fn each_line_is_taken()
     ensures { (plan : Plan) (h : History) (w : World) (s : Stage) (line : Line) (c : Change) (next : Then) → IsLawful plan h → w ≡ world plan h → MayWrite plan h s line c next → Takes plan w line.actor c line.event }
 {
-    pm_judge::each_line_is_taken();
+    crate::each_line_is_taken();
 }
 
 // A line that may be written leaves no more stages open at its actor's place than that has room for.

@@ -1,17 +1,28 @@
-//! The lines of a run of a plan, and how the run goes on (this project's own).
+//! The lines of a run of a plan: a `Book` keeps them and says how the run goes on, a `Judge` tells of each line
+//! whether it may come next and keeps none, and a `Taker` is a judge that may keep those it takes.
 #![tactic(auto)]
 
 mod book;
+mod deciding;
 mod growing;
+mod judge;
+mod judge_laws;
 mod laws;
 mod lines;
+mod offering;
+mod sometime;
+mod standing;
 mod steps;
 mod taker;
 mod taking;
 mod writing;
 
 pub use book::Book;
+pub use deciding::{Permitted, decide};
 pub use growing::ExtendFault;
+pub use judge::{Bad, Judge};
+pub use judge_laws::{all_stand_well, each_line_fits, each_line_is_taken};
+pub use offering::offered;
 pub use steps::{EndStep, Step};
 pub use taker::Taker;
 pub use taking::TakeFault;

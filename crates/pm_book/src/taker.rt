@@ -1,13 +1,13 @@
 //! A judge that may keep the lines that it takes.
 
 ghost use Rattle.std.specs.Prelude.{◌≡◌, ◌<◌, ◌^◌, ◌∷◌, [], List, Ok, Some, None, IfErr, IfNone, IfOk, IfSome, OnErr, OnOk, if◌then◌else◌, length};
-ghost use Rattle.pm_judge.specs.Judging.{IsAnswer, JudgeStandsFor};
-ghost use Rattle.pm_judge.specs.Offering.{line_by};
-ghost use Rattle.pm_judge.specs.Sometime.{Writes};
+ghost use Rattle.pm_book.specs.Judging.{IsAnswer, JudgeStandsFor};
+ghost use Rattle.pm_book.specs.Offering.{line_by};
+ghost use Rattle.pm_book.specs.Sometime.{Writes};
 ghost use Rattle.pm_model.specs.declared.event.Line.{Line};
 ghost use Rattle.pm_model.specs.Lawful.{IsLawful};
 ghost use Rattle.pm_state.specs.Standing.{IsActor};
-ghost use Rattle.pm_sums.specs.Sums.{one};
+ghost use Rattle.pm_law_counts.specs.Sums.{one};
 ghost use Rattle.pm_book.specs.Sheets.{KeepsLine, begins_callback};
 ghost use Rattle.pm_book.specs.Takings.{TakerStandsFor};
 
@@ -15,8 +15,8 @@ use crate::book::Book;
 use crate::laws::all_stand_well;
 use crate::lines::Lines;
 use crate::writing::begins_callback;
+use crate::{Bad, Judge};
 use pm_base::{ActorId, NoMemory};
-use pm_judge::{Bad, Judge};
 use pm_model::{Change, Event, Line, Plan, Then};
 use pm_turns::Turns;
 use std::alloc::Global;
@@ -24,11 +24,18 @@ use std::marker::Model;
 
 /// Takes the lines of a run that were written elsewhere, as a judge does, and keeps them if it is asked to. Whose
 /// turn it is isn't known before it is finished, so that a line costs less here than in a book.
-#[derive(Drop)]
 pub struct Taker {
     judge: Judge,
     // The lines, where they are kept: they aren't asked for, or memory ran out, where there are none.
     lines: Option<Lines>,
+}
+
+impl Drop for Taker {
+    fn drop(self) {
+        let Taker { judge, lines } = self;
+        drop(judge);
+        drop(lines);
+    }
 }
 
 impl Model for Taker {

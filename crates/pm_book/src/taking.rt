@@ -1,15 +1,15 @@
 //! How a book takes a line that was written elsewhere.
 
 ghost use Rattle.std.specs.Prelude.{◌≡◌, ◌≢◌, ◌<◌, ◌^◌, Err, OnErr, OnOk};
-ghost use Rattle.pm_judge.specs.Judging.{IsAnswer};
+ghost use Rattle.pm_book.specs.Judging.{IsAnswer};
 ghost use Rattle.pm_state.specs.Standing.{IsActor};
 ghost use Rattle.pm_book.specs.Pages.{Longer};
 ghost use Rattle.pm_book.specs.Takes.{judged_as};
 
 use crate::book::Book;
 use crate::laws::all_stand_well;
+use crate::{Bad, decide};
 use pm_base::NoMemory;
-use pm_judge::{Bad, decide};
 use pm_model::Line;
 
 /// Why a line isn't taken. The first that holds, in this order, is the answer.

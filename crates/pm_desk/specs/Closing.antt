@@ -1,10 +1,9 @@
 -- What a desk comes to when it is closed (this project's own).
 use Rattle.std.specs.Prelude.{◌≡◌, ◌+◌, ◌<◌, ℕ, Bool, true, false, not, ◌&&◌, List, Option, Some, length, map, nat_lt, slice_get}
-use Rattle.pm_base.specs.declared.limits.TheConstants.{MAX_COMMANDS}
 use Rattle.pm_model.specs.declared.event.Line.{Line}
 use Rattle.pm_model.specs.declared.plan.Plan.{Plan}
 use Rattle.pm_model.specs.Lawful.{IsLawful}
-use Rattle.pm_alone.specs.Alone.{IsAlone}
+use Rattle.pm_law_gets.specs.Alone.{IsAlone}
 use Rattle.pm_book.specs.Growing.{script_of}
 use Rattle.pm_book.specs.Pages.{Pages, is_full}
 use Rattle.pm_serial.specs.declared.running.End.{End}
@@ -46,7 +45,7 @@ is_limited _ = false
 
 -- a call of this caller was stopped by a limit, and neither the list nor the caller's script is full
 abbrev pub has_room : List Slip → Pages → ℕ → Bool
-has_room slips p c = is_limited (stopped_of (pass_of slips c)) && (not (is_full p) && nat_lt (length (script_of p.plan.callers c)) MAX_COMMANDS)
+has_room slips p c = is_limited (stopped_of (pass_of slips c)) && (not (is_full p) && nat_lt (length (script_of p.plan.callers c)) 1000)
 
 -- of none of the first so many callers
 abbrev pub NoneHasRoom : List Slip → Pages → ℕ → Type 0

@@ -1,7 +1,7 @@
 //! The closing of a desk.
 
 ghost use Rattle.std.specs.Prelude.{◌≡◌, ◌<◌, ◌^◌, IfErr, IfNone, IfOk, IfSome, IsTrue, length, reverse, true};
-ghost use Rattle.pm_alone.specs.Alone.{IsAlone};
+ghost use Rattle.pm_law_gets.specs.Alone.{IsAlone};
 ghost use Rattle.pm_book.specs.Growing.{script_of};
 ghost use Rattle.pm_model.specs.Lawful.{IsLawful};
 ghost use Rattle.pm_serial.specs.Ends.{HasTime};
@@ -14,10 +14,10 @@ use crate::agreeing::{are_apart, disagrees_at, kept_by, receipt_at, stopped_of};
 use crate::desk::{Desk, fresh_book};
 use crate::pass::{Pass, Receipt, Stop};
 use crate::returns::calls_of;
-use pm_alone::one_call_alone;
 use pm_base::{MAX_COMMANDS, NoMemory};
 use pm_book::Book;
 use pm_islands::blank;
+use pm_law_gets::one_call_alone;
 use pm_model::{Line, Plan};
 use pm_serial::{End, drain, fresh_books_have_time, has_time};
 use std::alloc::Global;

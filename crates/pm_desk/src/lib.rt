@@ -1,5 +1,5 @@
 //! Callers on threads of their own: a desk keeps a plan's book behind a lock, and each caller has a pass, by
-//! which one thread calls helpers (this project's own).
+//! which one thread calls helpers.
 #![tactic(auto)]
 
 mod agreeing;

@@ -14,7 +14,7 @@ use Rattle.pm_model.specs.declared.rows.DeviceRow.{DeviceRow}
 use Rattle.pm_model.specs.declared.views.Device.{Device}
 use Rattle.pm_model.specs.Derived.{children, is_counted_child, is_suspended_status}
 use Rattle.pm_model.specs.Views.{Views, fresh_device}
-use Rattle.pm_tally.specs.Marks.{is_of, marked_of}
+use Rattle.pm_index.specs.OwnMarks.{is_of, marked_of}
 use Rattle.pm_device.specs.Children.{counts, parents, place_of}
 use Rattle.pm_device.specs.Parts.{IsInTime, IsKept, is_quiet}
 

@@ -18,7 +18,7 @@ use Rattle.pm_model.specs.declared.views.Device.{Device}
 use Rattle.pm_model.specs.IsPlan.{each_at, is_device, is_plan}
 use Rattle.pm_model.specs.Views.{Views, fresh_device, fresh_pending}
 use Rattle.pm_model.specs.World.{start_views}
-use Rattle.pm_tally.specs.Marks.{AreBelow, owner_at}
+use Rattle.pm_index.specs.OwnMarks.{AreBelow, owner_at}
 use Rattle.pm_domain.specs.Domains.{fresh_on, homes}
 use Rattle.pm_domain.specs.Domains.{place_of as domain_place}
 use Rattle.pm_device.specs.Children.{counts, parents, place_of}

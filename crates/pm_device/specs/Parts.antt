@@ -3,7 +3,6 @@
 use Rattle.std.specs.Prelude.{◌≡◌, ◌<◌, ◌^◌, ℕ, Bool, not, ◌&&◌, List, Option, All, length, map, nat_eq, pos, neg_ℤ, ◌≤ℤ◌}
 use Rattle.pm_base.specs.declared.Armed.{Armed}
 use Rattle.pm_base.specs.declared.Pending.{Pending}
-use Rattle.pm_base.specs.declared.limits.TheConstants.{MAX_MS}
 use Rattle.pm_model.specs.declared.plan.Plan.{Plan}
 use Rattle.pm_model.specs.declared.rows.LinkRow.{LinkRow}
 use Rattle.pm_model.specs.declared.views.Device.{Device}
@@ -41,8 +40,8 @@ is_quiet x = is_suspended_status x.status && nat_eq x.depth 0
 -- what a run can reckon with: the last mark is below 2^63, and the delay is at most 1,000,000 ms from 0
 pub record IsInTime (x : Device) : Type 0 where
   pub last_busy : x.last_busy < 2 ^ 63
-  pub least : neg_ℤ (pos MAX_MS) ≤ℤ x.delay
-  pub most : x.delay ≤ℤ pos MAX_MS
+  pub least : neg_ℤ (pos 1000000) ≤ℤ x.delay
+  pub most : x.delay ≤ℤ pos 1000000
 
 -- what the counters keep beside the views: which devices count as children, and which keep their domains on
 pub record IsKept (parents : List (Option ℕ)) (devices : List Device) (pending : List Pending) (timers : List (Option Armed)) (homes : List (Option ℕ)) (awake : List Bool) (above : List (Option ℕ)) (on counting : List Bool) : Type 0 where

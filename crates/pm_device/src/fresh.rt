@@ -9,10 +9,10 @@ ghost use Rattle.pm_device.specs.Parts.{IsFor};
 use crate::Parts;
 use pm_base::{DevId, NoMemory, Status};
 use pm_domain::Domains;
+use pm_index::Tally;
 use pm_link::Links;
 use pm_model::{Device, DeviceRow, Plan};
 use pm_request::Requests;
-use pm_tally::Tally;
 use pm_timer::Timers;
 use std::alloc::{AllocError, Global};
 

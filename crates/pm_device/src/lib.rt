@@ -15,8 +15,6 @@ mod links;
 mod moves;
 mod readers;
 mod rows;
-#[cfg(test)]
-mod tests;
 
 pub use guards::{has, is_above_idle, is_try_again, may_not_wait, prevented};
 pub use moves::{
@@ -24,10 +22,10 @@ pub use moves::{
 };
 use pm_base::{DevId, Status};
 use pm_domain::Domains;
+use pm_index::Tally;
 use pm_link::Links;
 use pm_model::Device;
 use pm_request::Requests;
-use pm_tally::Tally;
 use pm_timer::Timers;
 pub use rows::{
     added, code_of, domain, has_domain, has_idle, has_parent, marks_busy, ms_of, no_callbacks,
@@ -37,7 +35,7 @@ use std::marker::Model;
 
 /// The counters of all devices, links and domains. Contracts see the views that they keep, and what
 /// they were made for.
-#[derive(Debug, Drop)]
+#[derive(Debug)]
 pub struct Parts {
     devices: Vec<Device>,
     requests: Requests,
@@ -46,6 +44,25 @@ pub struct Parts {
     links: Links,
     // A device is marked where it is Active or Suspending; it belongs to its parent.
     children: Tally,
+}
+
+impl Drop for Parts {
+    fn drop(self) {
+        let Parts {
+            devices,
+            requests,
+            timers,
+            domains,
+            links,
+            children,
+        } = self;
+        drop(devices);
+        drop(requests);
+        drop(timers);
+        drop(domains);
+        drop(links);
+        drop(children);
+    }
 }
 
 impl Model for Parts {

@@ -4,14 +4,37 @@ ghost use Rattle.std.specs.Prelude.{◌≡◌, ◌<◌, length};
 ghost use Rattle.pm_model.specs.declared.plan.Plan.{Plan as APlan};
 ghost use Rattle.pm_model.specs.Changes.{has_auto_timer};
 ghost use Rattle.pm_model.specs.Derived.{busy, children, expiry, fields, is_active, is_moving};
-ghost use Rattle.pm_model.specs.Views.{device, pending_of, timer};
+ghost use Rattle.pm_model.specs.Views.{device, is_held, is_on, is_present as is_there, pending_of, timer};
 ghost use Rattle.pm_device.specs.Parts.{IsFor, IsInTime};
 
 use crate::Parts;
-use pm_base::{Armed, DevId, Pending, Status};
+use pm_base::{Armed, DevId, DomId, Pending, Status};
 use pm_model::{Device, Fields};
 
 impl Parts {
+    /// Whether a link, by its place in the plan, is held.
+    pub fn holds(&self, link: usize) -> bool
+        requires { link < length self.now.views.held }
+        ensures { result ≡ is_held self.now.views link }
+    {
+        self.links.held(link)
+    }
+
+    /// Whether a link, by its place in the plan, is present.
+    pub fn has(&self, link: usize) -> bool
+        requires { link < length self.now.views.present }
+        ensures { result ≡ is_there self.now.views link }
+    {
+        self.links.present(link)
+    }
+
+    /// Whether a domain is on.
+    pub fn is_on(&self, domain: u32) -> bool
+        ensures { result ≡ is_on self.now.views domain }
+    {
+        self.domains.is_on(DomId(domain))
+    }
+
     /// All that is kept of a device but for what is pending and its timer.
     pub fn device(&self, dev: DevId) -> &Device
         requires { dev.0 < length self.now.shape.parents }

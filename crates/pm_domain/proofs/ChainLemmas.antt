@@ -15,7 +15,7 @@ use Rattle.pm_model.specs.declared.rows.DomainRow.{DomainRow}
 use Rattle.pm_model.specs.declared.rows.LinkRow.{LinkRow}
 use Rattle.pm_model.specs.IsPlan.{each_at, is_device, is_domain, is_plan}
 use Rattle.pm_model.specs.PlanRows.{chain, domain, domain_parent}
-use Rattle.pm_tally.specs.Marks.{bit_at}
+use Rattle.pm_index.specs.OwnMarks.{bit_at}
 use Rattle.pm_domain.specs.Walk.{rank, those_off}
 
 -- what the law says of domains and devices

@@ -18,7 +18,7 @@ use Rattle.pm_model.specs.declared.rows.DomainRow.{DomainRow}
 use Rattle.pm_model.specs.Derived.{are_off, are_quiet}
 use Rattle.pm_model.specs.PlanRows.{domain, domain_parent}
 use Rattle.pm_model.specs.Views.{Views}
-use Rattle.pm_tally.specs.Marks.{AreBelow, bit_at, is_of, marked_of, owner_at, unmarked}
+use Rattle.pm_index.specs.OwnMarks.{AreBelow, bit_at, is_of, marked_of, owner_at, unmarked}
 use Rattle.pm_domain.specs.Domains.{DomainViews, IsAwakeOf, IsMadeFor, above, homes, is_quiet, place_of}
 use Rattle.pm_domain.specs.Walk.{are_off_but, are_quiet_but}
 use Rattle.pm_domain.proofs.ChainLemmas.{home_within, parent_earlier}

@@ -11,7 +11,7 @@ use Rattle.std.proofs.lemmas.Option.{slice_get-get_or}
 use Rattle.pm_model.specs.declared.plan.Plan.{Plan}
 use Rattle.pm_model.specs.declared.rows.DomainRow.{DomainRow}
 use Rattle.pm_model.specs.PlanRows.{chain, is_always_on, is_kept_on}
-use Rattle.pm_tally.specs.Marks.{bit_at}
+use Rattle.pm_index.specs.OwnMarks.{bit_at}
 use Rattle.pm_domain.specs.Domains.{fresh_on}
 use Rattle.pm_domain.specs.Walk.{keeps_on, switched}
 use Rattle.pm_domain.proofs.MemberLemmas.{element}

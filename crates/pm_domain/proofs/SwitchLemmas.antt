@@ -11,7 +11,7 @@ use Rattle.pm_model.specs.declared.plan.Plan.{Plan}
 use Rattle.pm_model.specs.Derived.{up}
 use Rattle.pm_model.specs.PlanRows.{chain, domain, domains_of}
 use Rattle.pm_model.specs.Views.{Views}
-use Rattle.pm_tally.specs.Marks.{Marks, bit_at}
+use Rattle.pm_index.specs.OwnMarks.{Marks, bit_at}
 use Rattle.pm_domain.specs.Walk.{switched, those_off}
 
 pub length-switched : (to : Bool) (on : List Bool) (domains : List ℕ) → length (switched to on domains) ≡ length on

@@ -12,7 +12,7 @@ use Rattle.pm_model.specs.declared.plan.Plan.{Plan}
 use Rattle.pm_model.specs.Derived.{down, goes_off, going_off}
 use Rattle.pm_model.specs.PlanRows.{chain, domain, domain_parent, domains_of}
 use Rattle.pm_model.specs.Views.{Views}
-use Rattle.pm_tally.specs.Marks.{bit_at, is_of, owner_at, unmarked}
+use Rattle.pm_index.specs.OwnMarks.{bit_at, is_of, owner_at, unmarked}
 use Rattle.pm_domain.specs.Domains.{DomainViews, IsAwakeOf, IsMadeFor, above, place_of}
 use Rattle.pm_domain.specs.Walk.{goes_off_from, going_off_from, rank, switched}
 use Rattle.pm_domain.proofs.ChainLemmas.{few_domains, home_within, length-chain, parent_earlier}

@@ -7,7 +7,7 @@ use Rattle.pm_model.specs.declared.plan.Plan.{Plan}
 use Rattle.pm_model.specs.Derived.{is_suspended}
 use Rattle.pm_model.specs.PlanRows.{is_kept_on}
 use Rattle.pm_model.specs.Views.{Views, device}
-use Rattle.pm_tally.specs.Marks.{bit_at}
+use Rattle.pm_index.specs.OwnMarks.{bit_at}
 
 -- for each device its domain and whether it keeps that on, and for each domain the one above it and whether it is on
 pub record DomainViews : Type 0 where

@@ -7,7 +7,7 @@ use Rattle.pm_base.specs.declared.DomId.{DomId}
 use Rattle.pm_model.specs.declared.plan.Plan.{Plan}
 use Rattle.pm_model.specs.declared.rows.DomainRow.{DomainRow}
 use Rattle.pm_model.specs.PlanRows.{chain, is_always_on}
-use Rattle.pm_tally.specs.Marks.{bit_at, marked_of, unmarked}
+use Rattle.pm_index.specs.OwnMarks.{bit_at, marked_of, unmarked}
 use Rattle.pm_domain.specs.Domains.{DomainViews}
 
 -- one more than the domain, and 0 for none

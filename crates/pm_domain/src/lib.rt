@@ -8,16 +8,14 @@ ghost use Rattle.pm_model.specs.Events.{switches};
 ghost use Rattle.pm_model.specs.Views.{Views};
 ghost use Rattle.pm_domain.specs.Domains.{IsAwakeOf, IsMadeFor, fresh_on};
 ghost use Rattle.pm_domain.specs.Walk.{goes_off_from};
-ghost use Rattle.pm_tally.specs.Marks.{bit_at};
+ghost use Rattle.pm_index.specs.OwnMarks.{bit_at};
 
 mod start;
-#[cfg(test)]
-mod tests;
 mod walk;
 
 use pm_base::{DevId, DomId, NoMemory};
+use pm_index::Tally;
 use pm_model::Plan;
-use pm_tally::Tally;
 use start::{all_awake, kept_on};
 use std::alloc::Global;
 use std::marker::Model;

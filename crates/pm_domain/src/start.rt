@@ -5,8 +5,8 @@ ghost use Rattle.pm_domain.specs.Domains.{above, fresh_on, homes, place_of};
 
 use crate::walk::{is_always_on, switch};
 use pm_base::{DomId, NoMemory};
+use pm_index::Tally;
 use pm_model::Plan;
-use pm_tally::Tally;
 use std::alloc::{AllocError, Global};
 
 // The place of a domain in the plan's order.

@@ -5,8 +5,8 @@ ghost use Rattle.pm_model.specs.PlanRows.{chain, domain, domain_parent, is_alway
 ghost use Rattle.pm_domain.specs.Walk.{switched, those_off};
 
 use pm_base::{DevId, DomId};
+use pm_index::Tally;
 use pm_model::Plan;
-use pm_tally::Tally;
 
 /// The domain of a device.
 pub fn home(plan: &Plan, dev: DevId) -> Option<DomId>

@@ -6,7 +6,7 @@ ghost use Rattle.pm_gate.specs.Readings.{reading};
 use std::sync::atomic::{AtomicU64, Ordering};
 use std::time::{Clock as SystemClock, Instant};
 
-/// What tells a run the time (this project's own).
+/// What tells a run the time.
 pub trait Clock {
     /// Milliseconds since some start.
     fn now(&self) -> u64;

@@ -8,7 +8,7 @@ use std::sync::atomic::{AtomicBool, Ordering};
 use std::thread;
 
 /// What is called while a callback runs, behind its begin line and before its end line. No lock is held
-/// then (this project's own).
+/// then.
 pub trait Gate {
     /// This callback of the device has begun, which is the `nth` of its kind on the device, counted from 1.
     fn callback(&self, dev: DevId, cb: Cb, nth: u64);

@@ -1,4 +1,4 @@
-//! Runs books by several threads, one lock round each book (this project's own).
+//! Runs books by several threads, one lock round each book.
 #![tactic(auto)]
 
 mod hands;

@@ -11,10 +11,10 @@ ghost use Rattle.pm_hands.specs.Turning.{AddsOne, ByTurn, ByWrote, Goes, SomeRun
 
 use pm_base::{ActorId, Cb, DevId, NoMemory};
 use pm_book::{Book, EndStep, Step};
-use pm_bounds::due_moments;
 use pm_device::ms_of;
+use pm_law_bounds::due_moments;
+use pm_law_turns::serial_stops;
 use pm_model::Plan;
-use pm_stuck::serial_stops;
 
 /// A callback that a hand began.
 #[derive(Clone, Copy, Debug, PartialEq, Eq)]

@@ -13,6 +13,3 @@ pub use mem_sink::MemSink;
 pub use reading::{FileFault, Files, read_all};
 pub use real::{DiskFiles, StdErr, StdOut};
 pub use writing::{Sink, write_whole};
-
-#[cfg(test)]
-mod tests;

@@ -131,6 +131,7 @@ pub fn read_all<F: Files>(
     ensures too_long { IsErrOf result FileFault.TooLong → F.place files.new ≡ limit + 1 }
     ensures longer { IsErrOf result FileFault.TooLong
         → IfSome (F.told files.old name.now) (λ told. limit < length told) }
+    ensures longer_there { IsErrOf result FileFault.TooLong → IsTrue F.tells_all → IsSome (F.told files.old name.now) }
 
     ensures failed { IsErrOf result FileFault.Failed
         → Rose (F.faults files.old) (F.faults files.new) }

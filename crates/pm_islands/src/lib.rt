@@ -1,13 +1,11 @@
 //! The islands of a plan, which run apart: their numbers, the part of each, and the merge of their
-//! lists of lines (this project's own).
+//! lists of lines.
 #![tactic(auto)]
 
 mod labels;
 mod merging;
 mod numbers;
 mod parts;
-#[cfg(test)]
-mod tests;
 mod touching;
 
 pub use merging::merge;

@@ -78,29 +78,3 @@ pub fn merge(alloc: Global, lists: &[&[Line]], limit: usize) -> Result<Vec<Line>
     }
     Ok(lines)
 }
-
-#[cfg(test)]
-mod tests {
-    use super::*;
-    use pm_base::{ActorId, DevId};
-    use pm_model::Event;
-    use std::test::Fail;
-
-    fn line_of(time: u64, caller: u32) -> Line {
-        Line {
-            time,
-            actor: ActorId::Caller(caller),
-            event: Event::Wait { dev: DevId(0) },
-        }
-    }
-
-    #[test]
-    #[tactic(auto, using(crate::proofs::NextLemmas::three_in_time))]
-    fn lines_of_one_time_go_by_their_list(rt: HostRuntime) -> Result<(), Fail> {
-        let (first, second, third) = (line_of(1, 0), line_of(0, 1), line_of(1, 2));
-        let lists: [&[Line]; 3] = [&[first], &[second], &[third]];
-        let lines = merge(rt.alloc(), &lists, 2)?;
-        assert_eq!(rt; lines.as_slice(), [second, first].as_slice());
-        Ok(())
-    }
-}

@@ -158,7 +158,7 @@ pub fn number(alloc: Global, plan: &Plan) -> Result<IslandNumbers, NoMemory>
     numbered(alloc, plan, labels)
 }
 
-/// How many islands a plan has (this project's own). It takes no memory.
+/// How many islands a plan has. It takes no memory.
 pub fn islands(plan: &Plan) -> u32
     ensures { Numbering plan.now result }
 {

@@ -174,7 +174,7 @@ fn part_of(alloc: Global, plan: &Plan, numbers: &[u32], island: u32) -> Result<P
 }
 
 /// The part of an island, which is one of the plan's: the plan with the script of every caller outside
-/// it empty (this project's own). Fails where memory runs out.
+/// it empty. Fails where memory runs out.
 pub fn part(alloc: Global, plan: &Plan, island: u32) -> Result<Plan, NoMemory>
     requires { IsIsland plan.now island }
     ensures { IfOk result (λ part. (count : ℕ) (k : Numbering plan.now count) → IsPart plan.now k.island island part) }
@@ -183,7 +183,7 @@ pub fn part(alloc: Global, plan: &Plan, island: u32) -> Result<Plan, NoMemory>
     part_of(alloc, plan, &numbers, island)
 }
 
-/// The plan with every script empty (this project's own). Fails where memory runs out.
+/// The plan with every script empty. Fails where memory runs out.
 pub fn blank(alloc: Global, plan: &Plan) -> Result<Plan, NoMemory>
     ensures { IfOk result (IsBlank plan.now) }
 {

@@ -11,9 +11,9 @@ use Rattle.pm_linetext.proofs.Passing.{list_all_get_or}
 use Rattle.pm_linetext.proofs.WordLemmas.{word_here}
 use Rattle.pm_names.proofs.TableLemmas.{place_of_only}
 use Rattle.pm_names.specs.Table.{all_distinct}
-use Rattle.pm_lists.proofs.CommonLen.{common_len-le, le-common_len}
-use Rattle.pm_lists.proofs.PlaceNamed.{place_named-found}
-use Rattle.pm_lists.specs.NamedList.{common_len, place_named}
+use Rattle.pm_model.proofs.CommonLen.{common_len-le, le-common_len}
+use Rattle.pm_model.proofs.PlaceNamed.{place_named-found}
+use Rattle.pm_model.specs.NamedList.{common_len, place_named}
 use Rattle.pm_lineread.specs.Pieces.{ends, item_at, itemed, place_at, placed}
 use Rattle.pm_lineread.proofs.Readers.{ReadsWord, answer_parts, chain_err, chain_from, chain_ok}
 use Rattle.pm_lineread.proofs.Shared.{is_clean, shared, shared-le, words_share}

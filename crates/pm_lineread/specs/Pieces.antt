@@ -2,7 +2,7 @@
 -- most that they have in common, from the front, with a text that it could read (this project's own).
 use Rattle.std.specs.Prelude.{ℕ, ◌+◌, ◌-◌, ◌*◌, Bool, true, ◌&&◌, List, [], ◌∷◌, Option, Some, None, Result, Ok, Err, min, length, take, drop, nat_eq, nat_le, nat_lt, slice_get, if◌then◌else◌}
 use Rattle.std.specs.List.{position_or_len}
-use Rattle.pm_lists.specs.NamedList.{common_len, place_named}
+use Rattle.pm_model.specs.NamedList.{common_len, place_named}
 
 infixl 10 ◌>>=◌
 abbrev pub ◌>>=◌ : {A B : Type 0} → Result A ℕ → (A → Result B ℕ) → Result B ℕ

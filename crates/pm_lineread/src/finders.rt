@@ -1,8 +1,8 @@
 //! What finds the names of a plan.
 
 use pm_base::NoMemory;
-use pm_finder::Finder;
 use pm_model::Plan;
+use pm_names::Finder;
 use std::alloc::Global;
 
 /// Finds the devices and callers of a plan by their names, sooner than the plan itself does. It serves for

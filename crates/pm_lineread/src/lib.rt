@@ -20,8 +20,6 @@ mod kinds;
 mod lines;
 mod pieces;
 mod starts;
-#[cfg(test)]
-mod tests;
 
 use crate::lines::line;
 pub use crate::starts::{line_start, time_start};

@@ -7,7 +7,7 @@
 ghost use Rattle.std.specs.Prelude.{◌≡◌, ℕ, ◌+◌, ◌*◌, ◌-◌, ◌^◌, ◌<◌, ◌≤◌, Some, None, true, List, map, length, nat_eq, IfOk, IfSome, if◌then◌else◌};
 ghost use Rattle.std.specs.List.{common_prefix_len, position_or_len};
 ghost use Rattle.pm_model.specs.LineOf.{fits_i32, fits_signed};
-ghost use Rattle.pm_lists.specs.NamedList.{common_len};
+ghost use Rattle.pm_model.specs.NamedList.{common_len};
 ghost use Rattle.pm_names.specs.Table.{all_distinct, place_of};
 ghost use Rattle.pm_model.specs.Text.{names_of};
 ghost use Rattle.pm_lineread.specs.Gives.{Gives};
@@ -16,9 +16,8 @@ ghost use Rattle.pm_lineread.specs.Reading.{caller_at, count_at, device_at, nega
 
 use crate::finders::{Finders, caller_finder, device_finder};
 use pm_base::DevId;
-use pm_finder::{Finder, find, is_same};
 use pm_model::{Named, NamedList, Plan};
-use pm_names::NameTable;
+use pm_names::{Finder, NameTable, find, is_same};
 
 /// How many bytes are left behind a fault.
 pub(crate) type Left = usize;

@@ -6,8 +6,8 @@ ghost use Rattle.pm_model.specs.LineOf.{is_actor_of};
 use crate::finders::{Finders, caller_finder, device_finder};
 use crate::pieces::{number, word_len};
 use pm_base::ActorId;
-use pm_finder::find;
 use pm_model::Plan;
+use pm_names::find;
 
 /// The place of the device that has this name.
 #[tactic(auto, using(crate::proofs::PlanNames::devices_apart))]

@@ -4,3 +4,4 @@ pub mod Padding
 pub mod Passing
 pub mod PieceLemmas
 pub mod WordLemmas
+pub mod ShortLemmas

@@ -2,7 +2,8 @@
 //!
 //! A line of a plan has one text in each format. `LineSpeller` puts it with a newline into a `TimedText`, with no
 //! memory and without failure, and so does `NamesAtHand`, without the plan and in two steps. `write_line` and
-//! `write_line2` append it to a `Vec`, without a newline, and take no memory but for that.
+//! `write_line2` append it to a `Vec`, without a newline, and take no memory but for that. A `ShortText` is a
+//! short text in an array, as the line of a verdict or of a reason.
 #![tactic(auto)]
 
 ghost use Rattle.std.specs.Prelude.{◌≡◌, ℕ, ◌+◌, ◌<◌, ◌≤◌, ◌++◌, true, length, IsOk, OnErr, OnOk, vec_capacity, vec_len};
@@ -19,9 +20,8 @@ mod events;
 mod names;
 mod padded;
 mod pieces;
+mod short;
 mod speller;
-#[cfg(test)]
-mod tests;
 mod text;
 mod timed;
 mod words;
@@ -37,6 +37,7 @@ pub use crate::words::{
 };
 use pm_base::NoMemory;
 use pm_model::{Line, Plan};
+pub use short::{SHORT_BYTES, ShortText};
 use std::alloc::Global;
 
 /// Appends the text of a line in format 1, without a newline.

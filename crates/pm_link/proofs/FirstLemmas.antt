@@ -8,7 +8,7 @@ use Rattle.pm_base.specs.declared.DevId.{DevId}
 use Rattle.pm_model.specs.declared.rows.LinkRow.{LinkRow}
 use Rattle.pm_model.specs.Derived.{least_link, nearer}
 use Rattle.pm_model.specs.PlanRows.{is_of_pair}
-use Rattle.pm_lists.proofs.PlaceNamed.{position-first, position-none}
+use Rattle.pm_model.proofs.PlaceNamed.{position-first, position-none}
 use Rattle.pm_link.specs.declared.search.Want.{Want}
 use Rattle.pm_link.specs.declared.search.Want.TheVariants.{Held, Free, Above, To, Taken}
 use Rattle.pm_link.specs.Links.{no_link, row_at, with_supplier}

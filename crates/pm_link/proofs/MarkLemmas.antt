@@ -3,7 +3,7 @@ use Rattle.std.proofs.Common.{◌≡◌, ◌≢◌, ℕ, ◌+◌, ◌<◌, ◌�
 use Rattle.std.proofs.lemmas.Bool.{cases_eq}
 use Rattle.std.proofs.lemmas.Grind.{get_or-set_at}
 use Rattle.std.proofs.lemmas.List.{get_or_default, get_or-map, get_or-set_other, length-map, length-replicate, length-set, same_lists}
-use Rattle.pm_bits.proofs.MarkLemmas.{get_or_replicate_same}
+use Rattle.pm_index.proofs.MarkLemmas.{get_or_replicate_same}
 use Rattle.pm_model.specs.declared.rows.LinkRow.{LinkRow}
 use Rattle.pm_link.specs.declared.marks.Marks.{Marks}
 use Rattle.pm_link.specs.Links.{bit_at, no_link, row_at}

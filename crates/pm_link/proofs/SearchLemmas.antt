@@ -7,7 +7,7 @@ use Rattle.std.proofs.lemmas.List.{get_or-map}
 use Rattle.pm_base.specs.declared.DevId.{DevId}
 use Rattle.pm_model.specs.declared.rows.LinkRow.{LinkRow}
 use Rattle.pm_model.specs.Derived.{is_above}
-use Rattle.pm_bits.specs.Marks.{is_marked}
+use Rattle.pm_index.specs.Marks.{is_marked}
 use Rattle.pm_link.specs.declared.marks.Marks.{Marks}
 use Rattle.pm_link.specs.declared.search.Want.TheVariants.{Held, Free, Above, To, Taken}
 use Rattle.pm_link.specs.Links.{bit_at, row_at}

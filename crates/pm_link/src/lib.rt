@@ -16,8 +16,6 @@ ghost use Rattle.pm_link.specs.Wanted.{is_taken_at, is_wanted_at};
 mod marks;
 mod order;
 mod search;
-#[cfg(test)]
-mod tests;
 
 use marks::{Marks, is_live};
 use order::{link_order, ranks, starts};

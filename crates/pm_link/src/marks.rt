@@ -5,7 +5,7 @@ ghost use Rattle.pm_link.specs.LinkOrder.{IsLinkOrder};
 ghost use Rattle.pm_link.specs.Marked.{AreMarks, IsSized, is_live, noted, starts_live};
 
 use pm_base::NoMemory;
-use pm_bits::Bits;
+use pm_index::Bits;
 use pm_model::LinkRow;
 use std::alloc::Global;
 

@@ -1,7 +1,7 @@
 //! The search for a link among those of a consumer.
 
 ghost use Rattle.std.specs.Prelude.{◌≡◌, ◌+◌, ◌<◌, ◌≤◌, ◌&&◌, ◌^◌, ℕ, Bool, List, length, nat_eq, nat_le, slice_index};
-ghost use Rattle.pm_bits.specs.Marks.{is_marked};
+ghost use Rattle.pm_index.specs.Marks.{is_marked};
 ghost use Rattle.pm_model.specs.Derived.{is_above};
 ghost use Rattle.pm_link.specs.LinkOrder.{AreStarts, IsCountBelow, IsFirst, IsFirstIn, IsLinkOrder, IsRisingBy, supplier_at};
 ghost use Rattle.pm_link.specs.Marked.{AreMarks, IsSized};
@@ -10,7 +10,7 @@ ghost use Rattle.pm_link.specs.Wanted.{is_wanted_at, bound_of};
 use crate::marks::Marks;
 use crate::order::{own, start, supplier_at, suppliers_below};
 use pm_base::DevId;
-use pm_bits::Bits;
+use pm_index::Bits;
 use pm_model::LinkRow;
 
 /// Which link of a consumer is looked for.

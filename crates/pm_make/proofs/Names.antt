@@ -6,7 +6,7 @@ use Rattle.std.proofs.lemmas.Bool.{and_from}
 use Rattle.std.proofs.lemmas.Fmt.{decimal_by_steps, decimal_digit, decimal_injective, length-decimal-le}
 use Rattle.std.proofs.lemmas.List.Folds.{list_all-append}
 use Rattle.pm_base.specs.declared.limits.TheConstants.{MAX_NAME}
-use Rattle.pm_lists.proofs.PlaceNamed.{not_same}
+use Rattle.pm_model.proofs.PlaceNamed.{not_same}
 use Rattle.pm_model.specs.IsPlan.{are_distinct, is_caller_name, is_name, is_name_byte}
 use Rattle.pm_make.specs.Generator.{name}
 

@@ -2,7 +2,6 @@
 use Rattle.std.specs.Prelude.{◌≡◌, ℕ, ◌+◌, ◌-◌, ◌/◌, ◌%◌, false, true, List, [], ◌∷◌, ◌++◌, Option, Some, None, codes, decimal, map, nat_eq, filter, pos, if◌then◌else◌}
 use Rattle.std.specs.List.{range_with_len}
 use Rattle.pm_base.specs.declared.DevId.{DevId}
-use Rattle.pm_base.specs.declared.limits.TheConstants.{MAX_LINES}
 use Rattle.pm_model.specs.declared.event.Command.{Command}
 use Rattle.pm_model.specs.declared.event.Helper.{Helper}
 use Rattle.pm_model.specs.declared.event.Helper.TheVariants as helper
@@ -114,7 +113,7 @@ callers number n = in_turn (caller_step n) 4 (links number n).state
 
 -- the plan of a number and n devices
 pub record IsGenerated (number n : ℕ) (plan : Plan) : Type 0 where
-  pub lines : plan.lines ≡ MAX_LINES
+  pub lines : plan.lines ≡ 200000
   pub trace : plan.trace ≡ 1
   pub domains : plan.domains ≡ domain_rows n
   pub devices : plan.devices ≡ (devices number n).item

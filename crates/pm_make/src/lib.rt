@@ -1,4 +1,4 @@
-//! Large plans, made from a number (this project's own).
+//! Large plans, made from a number.
 #![tactic(auto)]
 
 ghost use Rattle.std.specs.Prelude.{◌≤◌, IfOk};
@@ -8,8 +8,6 @@ ghost use Rattle.pm_make.specs.Generator.{IsGenerated};
 mod callers;
 mod draws;
 mod rows;
-#[cfg(test)]
-mod tests;
 
 use callers::caller_rows;
 use draws::Draws;

@@ -1,2 +1,5 @@
+pub mod CommonLen
+mod NameSearch
+pub mod PlaceNamed
 pub mod Arrivals
 pub mod SerialLemmas

@@ -3,7 +3,6 @@
 use Rattle.std.specs.Prelude.{◌+◌, ◌^◌, ℕ, Bool, true, ◌&&◌, int_le, length, nat_le, nat_lt, neg_ℤ, pos}
 use Rattle.std.specs.List.{enumerate_from, list_all}
 use Rattle.pm_base.specs.declared.DevId.{DevId}
-use Rattle.pm_base.specs.declared.limits.TheConstants.{MAX_MS}
 use Rattle.pm_base.specs.declared.Why.{Why}
 use Rattle.pm_base.specs.declared.Why.TheVariants as why
 use Rattle.pm_model.specs.declared.event.Event.{Event}
@@ -29,7 +28,7 @@ can_change n v (change.Link consumer supplier present) = true
 can_change n v (change.Disable d) = is_in n d && has_room (device v d).depth
 can_change n v (change.DisableBusy d) = is_in n d && has_room (device v d).depth
 can_change n v (change.DisableAtOnce d) = is_in n d && has_room (device v d).depth
-can_change n v (change.Set d use_auto delay) = is_in n d && int_le (neg_ℤ (pos MAX_MS)) delay && int_le delay (pos MAX_MS)
+can_change n v (change.Set d use_auto delay) = is_in n d && int_le (neg_ℤ (pos 1000000)) delay && int_le delay (pos 1000000)
 can_change n v (change.CancelRequest d) = is_in n d
 can_change n v (change.Disarm d) = is_in n d
 can_change n v (change.Cancel d) = is_in n d

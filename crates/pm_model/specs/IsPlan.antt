@@ -6,7 +6,6 @@ use Rattle.std.specs.Option.{option_map_or}
 use Rattle.std.specs.Ordering.{int_eq}
 use Rattle.std.specs.Str.{bytes_eq}
 use Rattle.pm_base.specs.declared.DevId.{DevId}
-use Rattle.pm_base.specs.declared.limits.TheConstants.{MAX_DEVICES, MAX_DOMAINS, MAX_LINKS, MAX_CALLERS, MAX_COMMANDS, MAX_CODES, MIN_CODE, MAX_NAME, MAX_LINES, MAX_MS}
 use Rattle.pm_base.specs.declared.codes.TheConstants.{EACCES}
 use Rattle.pm_model.specs.declared.rows.DomainRow.{DomainRow}
 use Rattle.pm_model.specs.declared.rows.DeviceRow.{DeviceRow}
@@ -38,7 +37,7 @@ abbrev pub is_name_byte : ℕ → Bool
 is_name_byte c = is_plain_byte c || nat_eq c 46 || nat_eq c 58
 
 abbrev pub is_name_of : (ℕ → Bool) → List ℕ → Bool
-is_name_of is_byte name = nat_le 1 (length name) && nat_le (length name) MAX_NAME && list_all is_byte name
+is_name_of is_byte name = nat_le 1 (length name) && nat_le (length name) 32 && list_all is_byte name
 
 abbrev pub is_name : List ℕ → Bool
 is_name name = is_name_of is_name_byte name
@@ -48,13 +47,13 @@ is_caller_name name = is_name_of is_plain_byte name
 
 -- what a callback may answer: 0, or -4095 to -1 but for -13
 abbrev pub is_code : ℤ → Bool
-is_code c = int_le MIN_CODE c && int_le c (pos 0) && not (int_eq c EACCES)
+is_code c = int_le (neg_ℤ (pos 4095)) c && int_le c (pos 0) && not (int_eq c EACCES)
 
 abbrev pub are_codes : List ℤ → Bool
-are_codes codes = nat_le (length codes) MAX_CODES && list_all is_code codes
+are_codes codes = nat_le (length codes) 64 && list_all is_code codes
 
 abbrev pub is_time : ℕ → Bool
-is_time ms = nat_le ms MAX_MS
+is_time ms = nat_le ms 1000000
 
 abbrev pub is_domain : ℕ → DomainRow → Bool
 is_domain i row = is_name row.name && option_map_or (λ p. nat_lt p.0 i) row.parent true
@@ -79,12 +78,12 @@ is_same_pair a b = nat_eq a.consumer.0 b.consumer.0 && nat_eq a.supplier.0 b.sup
 
 -- the least number of milliseconds that the helper takes
 abbrev pub least_ms : Helper → ℤ
-least_ms SetAutosuspendDelay = neg_ℤ (pos MAX_MS)
+least_ms SetAutosuspendDelay = neg_ℤ (pos 1000000)
 least_ms _ = pos 0
 
 abbrev pub is_operand : ℕ → Helper → Operand → ℤ → Bool
 is_operand devices h Nothing n = int_eq n (pos 0)
-is_operand devices h Milliseconds n = int_le (least_ms h) n && int_le n (pos MAX_MS)
+is_operand devices h Milliseconds n = int_le (least_ms h) n && int_le n (pos 1000000)
 is_operand devices h Switch n = int_eq n (pos 0) || int_eq n (pos 1)
 is_operand devices h Supplier n = int_le (pos 0) n && nat_lt (nat_abs n) devices
 
@@ -94,15 +93,15 @@ is_command devices c =
     (if takes_device c.helper then nat_lt c.dev.0 devices else nat_eq c.dev.0 0) && is_operand devices c.helper (operand_of c.helper) c.number
 
 abbrev pub is_script : ℕ → List Command → Bool
-is_script devices script = nat_le (length script) MAX_COMMANDS && list_all (is_command devices) script
+is_script devices script = nat_le (length script) 1000 && list_all (is_command devices) script
 
 abbrev pub is_caller : ℕ → CallerRow → Bool
 is_caller devices row = is_caller_name row.name && is_script devices row.script
 
 abbrev pub is_plan : ℕ → ℕ → List DomainRow → List DeviceRow → List LinkRow → List CallerRow → Bool
 is_plan lines trace domains devices links callers =
-    nat_le 1 lines && nat_le lines MAX_LINES && nat_le 1 trace && nat_le trace 2
-    && nat_le (length domains) MAX_DOMAINS && nat_le (length devices) MAX_DEVICES && nat_le (length links) MAX_LINKS && nat_le (length callers) MAX_CALLERS
+    nat_le 1 lines && nat_le lines 200000 && nat_le 1 trace && nat_le trace 2
+    && nat_le (length domains) 128 && nat_le (length devices) 1024 && nat_le (length links) 1024 && nat_le (length callers) 16
     && each_at is_domain 0 domains && each_at (is_device (length domains)) 0 devices && list_all (is_link devices) links && list_all (is_caller (length devices)) callers
     && are_distinct bytes_eq (map (λ row. row.name) domains) && are_distinct bytes_eq (map (λ row. row.name) devices)
     && are_distinct is_same_pair links && are_distinct bytes_eq (map (λ row. row.name) callers)

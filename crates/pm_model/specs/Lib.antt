@@ -1,3 +1,5 @@
+pub mod NameOrder
+pub mod NamedList
 -- The definitions, in the order in which to read them.
 
 -- what a plan is, and what its rows say

@@ -4,7 +4,7 @@ use pm_base::{ActorId, Cb, DevId, Req, Why};
 
 /// A helper that a script may call (`runtime_pm.rst`, section 4), named as `pm_runtime_NAME` is; the
 /// last three and `delay` are this project's own.
-#[derive(Clone, Copy, Debug, PartialEq, Eq)]
+#[derive(Clone, Copy, Debug, PartialEq, Eq, Hash)]
 pub enum Helper {
     GetSync,
     Get,
@@ -43,7 +43,7 @@ pub enum Helper {
 }
 
 /// What a helper takes besides its device.
-#[derive(Clone, Copy, Debug, PartialEq, Eq)]
+#[derive(Clone, Copy, Debug, PartialEq, Eq, Hash)]
 pub enum Operand {
     Nothing,
     /// A number of milliseconds.
@@ -55,7 +55,7 @@ pub enum Operand {
 }
 
 /// One command of a script.
-#[derive(Clone, Copy, Debug, PartialEq, Eq)]
+#[derive(Clone, Copy, Debug, PartialEq, Eq, Hash)]
 pub struct Command {
     pub helper: Helper,
     /// The device; for the link helpers the consumer, for `delay` 0.

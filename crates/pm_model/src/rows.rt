@@ -3,8 +3,8 @@
 ghost use Rattle.std.specs.Prelude.{◌≡◌};
 
 use crate::event::Command;
+use crate::{Items, Named, NamedList};
 use pm_base::{DevId, DomId};
-use pm_lists::{Items, Named, NamedList};
 
 /// The bytes of a name. In a plan they are 1 to 32, each a letter, a digit, `_`, `-`, `.` or `:` of
 /// ASCII; a caller's name has neither `.` nor `:` (this project's own).

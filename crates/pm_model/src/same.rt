@@ -5,7 +5,7 @@ ghost use Rattle.std.specs.Prelude.{◌≡◌, ◌↔◌, IsTrue};
 use crate::event::Command;
 use crate::plan::Plan;
 use crate::rows::{CallerRow, DeviceRow, DomainRow, LinkRow};
-use pm_lists::{Items, Named, NamedList};
+use crate::{Items, Named, NamedList};
 
 /// A test of equality that is exact.
 trait Same {

@@ -10,7 +10,7 @@ use pm_base::DevId;
 use std::marker::Model;
 
 /// A stage of an idle, and the stage after a put.
-#[derive(Clone, Copy)]
+#[derive(Clone, Copy, PartialEq, Eq, Hash)]
 pub enum IdleStage {
     /// [I0]
     Enter { dev: DevId, flags: u8 },
@@ -27,7 +27,7 @@ pub enum IdleStage {
 }
 
 /// A stage of a suspend.
-#[derive(Clone, Copy)]
+#[derive(Clone, Copy, PartialEq, Eq, Hash)]
 pub enum SuspendStage {
     /// [S0]
     Enter { dev: DevId, flags: u8 },
@@ -50,7 +50,7 @@ pub enum SuspendStage {
 }
 
 /// What a resume is called for.
-#[derive(Clone, Copy)]
+#[derive(Clone, Copy, PartialEq, Eq, Hash)]
 pub enum Purpose {
     /// For the device itself.
     Plain,
@@ -61,7 +61,7 @@ pub enum Purpose {
 }
 
 /// A call of resume.
-#[derive(Clone, Copy)]
+#[derive(Clone, Copy, PartialEq, Eq, Hash)]
 pub struct ResumeCall {
     pub dev: DevId,
     pub flags: u8,
@@ -71,7 +71,7 @@ pub struct ResumeCall {
 }
 
 /// A stage of a resume.
-#[derive(Clone, Copy)]
+#[derive(Clone, Copy, PartialEq, Eq, Hash)]
 pub enum ResumeStage {
     /// [R0]
     Enter { call: ResumeCall },
@@ -102,7 +102,7 @@ pub enum ResumeStage {
 }
 
 /// A stage of a helper that no control function is, of a work item or of a timer.
-#[derive(Clone, Copy)]
+#[derive(Clone, Copy, PartialEq, Eq, Hash)]
 pub enum HelperStage {
     /// A caller with an empty place, whose script goes on with this command.
     Call {
@@ -138,7 +138,7 @@ pub enum HelperStage {
 }
 
 /// A stage of a control function: a helper that changes whether or how a device is managed.
-#[derive(Clone, Copy)]
+#[derive(Clone, Copy, PartialEq, Eq, Hash)]
 pub enum ControlStage {
     /// The line after the call's: [X1] of `disable`, [A1] of `set_active`.
     Start { command: Command },
@@ -163,7 +163,7 @@ pub enum ControlStage {
 }
 
 /// A stage that goes on once a call ends, with the call's code.
-#[derive(Clone, Copy)]
+#[derive(Clone, Copy, PartialEq, Eq, Hash)]
 pub enum Await {
     /// Then [S4].
     SuspendLinks { dev: DevId, flags: u8 },
@@ -198,7 +198,7 @@ pub enum Await {
 }
 
 /// A stage of an actor's place.
-#[derive(Clone, Copy)]
+#[derive(Clone, Copy, PartialEq, Eq, Hash)]
 pub enum Stage {
     Idle(IdleStage),
     Suspend(SuspendStage),

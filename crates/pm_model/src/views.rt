@@ -4,7 +4,7 @@ use pm_base::Status;
 
 /// What is known of one device, but for what is pending and its timer (`runtime_pm.rst`,
 /// section 3).
-#[derive(Clone, Copy, Debug, PartialEq, Eq)]
+#[derive(Clone, Copy, Debug, PartialEq, Eq, Hash)]
 pub struct Device {
     pub status: Status,
     /// The stored error, 0 where there is none (`runtime_error`).

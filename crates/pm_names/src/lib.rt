@@ -1,4 +1,5 @@
-//! The words of a trace: helpers, events, status words, requests and callbacks, each with a number.
+//! The words of a trace (helpers, events, status words, requests and callbacks), each with a number, and how a
+//! row is found by its name.
 //!
 //! A word's number is its place in its table, counted from 0; the numbers are this project's own.
 //! Where the words name the variants of an enum, they stand in the order of the variants.
@@ -10,6 +11,9 @@ ghost use Rattle.std.specs.Prelude.{◌≡◌, ◌<◌, ◌↔◌, ℕ, slice_ge
 ghost use Rattle.pm_names.specs.Table.{place_of};
 ghost use Rattle.pm_names.specs.Words.{helper_words, event_words, status_words, req_words, cb_words};
 
+mod finder;
+
+pub use finder::{Finder, find, is_same};
 use std::marker::Model;
 
 /// `N` words, no two of them alike. Contracts see the list of the words.
@@ -162,56 +166,4 @@ pub fn cb_words() -> NameTable<3>
     ensures { result ≡ cb_words }
 {
     table![b"idle", b"suspend", b"resume"]
-}
-
-#[cfg(test)]
-mod tests {
-    use super::*;
-
-    #[test]
-    fn words_have_their_numbers(rt: HostRuntime) {
-        let table = helpers();
-        for (word, number) in [
-            (b"get_sync".as_slice(), 0),
-            (b"resume", 5),
-            (b"put", 7),
-            (b"idle", 13),
-            (b"suspend", 15),
-            (b"enable", 19),
-            (b"set_active", 22),
-            (b"mark_last_busy", 26),
-            (b"delay", 30),
-            (b"ignore_children", 31),
-            (b"link_add", 32),
-            (b"link_del", 33),
-        ] {
-            assert_eq!(rt; table.number_of(word), Some(number), "at {number}");
-        }
-        assert_eq!(rt; events().number_of(b"rpm_return_int"), Some(8));
-        assert_eq!(rt; status_words().number_of(b"deferred"), Some(3));
-        assert_eq!(rt; req_words().number_of(b"none"), Some(0));
-        assert_eq!(rt; cb_words().number_of(b"resume"), Some(2));
-    }
-
-    #[test]
-    fn numbers_have_their_words(rt: HostRuntime) {
-        assert_eq!(rt; helpers().name_of(29), b"set_autosuspend_delay".as_slice());
-        assert_eq!(rt; events().name_of(14), b"pm_timer".as_slice());
-    }
-
-    #[test]
-    fn other_words_have_no_number(rt: HostRuntime) {
-        let table = helpers();
-        for word in [
-            b"".as_slice(),
-            b"ge",
-            b"gets",
-            b"get\0",
-            b"Get",
-            b" get",
-            b"pm_call",
-        ] {
-            assert_eq!(rt; table.number_of(word), None, "at {word:?}");
-        }
-    }
 }

@@ -9,7 +9,7 @@ use Rattle.pm_model.specs.declared.rows.DomainRow.{DomainRow}
 use Rattle.pm_model.specs.declared.rows.DeviceRow.{DeviceRow}
 use Rattle.pm_model.specs.declared.rows.LinkRow.{LinkRow}
 use Rattle.pm_model.specs.declared.rows.CallerRow.{CallerRow}
-use Rattle.pm_finder.proofs.PlanNames.{distinct_names as all_differ}
+use Rattle.pm_names.proofs.PlanNames.{distinct_names as all_differ}
 use Rattle.pm_names.specs.Table.{all_distinct}
 use Rattle.pm_plantree.specs.Places.{first_fault}
 use Rattle.pm_plantree.specs.declared.place.Section.TheVariants.{Domain, Device, Caller}

@@ -7,7 +7,7 @@ use Rattle.pm_base.specs.declared.DevId.{DevId}
 use Rattle.pm_base.specs.declared.DomId.{DomId}
 use Rattle.pm_base.specs.declared.limits.TheConstants.{MAX_MS}
 use Rattle.pm_model.specs.IsPlan.{are_codes, is_device, is_domain, is_name, is_time}
-use Rattle.pm_lists.specs.NamedList.{place_named}
+use Rattle.pm_model.specs.NamedList.{place_named}
 use Rattle.pm_plantree.specs.declared.raw.RawDomain.{RawDomain}
 use Rattle.pm_plantree.specs.declared.raw.RawDevice.{RawDevice}
 use Rattle.pm_plantree.specs.declared.raw.RawCaller.{RawCaller}

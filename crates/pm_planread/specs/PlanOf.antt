@@ -2,7 +2,6 @@
 -- whole plan before the next.
 use Rattle.std.specs.Prelude.{◌≡◌, ⊤, ℕ, List, Option, Some, None, Result, Ok, Err, length, nat_lt, if◌then◌else◌}
 use Rattle.toml.specs.Data.{Members}
-use Rattle.pm_base.specs.declared.limits.TheConstants.{MAX_LINES, PLAN_BYTES}
 use Rattle.pm_model.specs.declared.plan.Plan.{Plan}
 use Rattle.pm_model.specs.declared.rows.DomainRow.{DomainRow}
 use Rattle.pm_model.specs.declared.rows.DeviceRow.{DeviceRow}
@@ -48,7 +47,7 @@ contents_of plan = record {
 -- what the rows of a text make, where nothing is refused
 unfoldable pub contents_in : RawPlan → Contents
 contents_in raw = record {
-  lines = natural_within 1 MAX_LINES raw.lines;
+  lines = natural_within 1 200000 raw.lines;
   trace = natural_within 1 2 raw.trace;
   domains = domain_rows raw;
   devices = device_rows raw;
@@ -94,7 +93,7 @@ document_plan (Some tree) = tree_plan tree
 
 -- the plan that the bytes are, or the first refusal
 unfoldable pub plan_of : List ℕ → Result Contents PlanFault
-plan_of bytes = if nat_lt PLAN_BYTES (length bytes) then Err (refused why.TooLong (place Top 0 0)) else document_plan (document bytes)
+plan_of bytes = if nat_lt 1048576 (length bytes) then Err (refused why.TooLong (place Top 0 0)) else document_plan (document bytes)
 
 -- the fault is the first refusal, or want of memory, which says nothing of the bytes
 abbrev pub IsFaultOf : Result Contents PlanFault → PlanFault → Type 0

@@ -10,8 +10,6 @@ mod messages;
 mod read;
 mod refusal;
 mod scripts;
-#[cfg(test)]
-mod tests;
 
 pub use messages::{Message, refusal_message};
 pub use pm_plantree::Section;

@@ -12,8 +12,8 @@ ghost use Rattle.pm_planread.specs.PlanOf.{IsFaultOf, contents_of, counted_plan,
 use crate::refusal::{PlanFault, PlanWhy, refuse, refused};
 use crate::scripts::caller_rows;
 use pm_base::{MAX_LINES, PLAN_BYTES};
-use pm_finder::Finder;
 use pm_model::{DeviceList, DomainList, LinkList, Plan};
+use pm_names::Finder;
 use pm_planrows::names::{Names, names_of};
 use pm_planrows::{
     code_fault, device_rows, domain_fault, domain_rows, later_fault, link_fault, link_rows,

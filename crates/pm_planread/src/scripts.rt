@@ -11,8 +11,8 @@ ghost use Rattle.pm_planread.specs.Faults.{IsScriptFault};
 ghost use Rattle.pm_planread.specs.Scripts.{are_commands, bad_command, caller_row, commands_in, is_no_command, script_fault};
 
 use crate::refusal::{PlanFault, PlanWhy, refused};
-use pm_finder::Finder;
 use pm_model::{CallerList, CallerRow, Command, DeviceList, Items, NamedList};
+use pm_names::Finder;
 use pm_planrows::names::copied;
 use pm_plantree::{Place, RawCaller, Section, Text};
 use pm_script::read_command_of;

@@ -8,8 +8,8 @@ use Rattle.std.proofs.lemmas.Bool.Decides.{nat_tests}
 use Rattle.std.proofs.lemmas.List.Sorted.{IsPermutation-sym}
 use Rattle.std.proofs.lemmas.Map.Keys.{IsDistinct-head, IsDistinct-tail, IsDistinct-IsPermutation}
 use Rattle.std.proofs.lemmas.Option.{slice_get-get_or}
-use Rattle.pm_lists.proofs.PlaceNamed.{not_same}
-use Rattle.pm_lists.specs.NamedList.{place_named}
+use Rattle.pm_model.proofs.PlaceNamed.{not_same}
+use Rattle.pm_model.specs.NamedList.{place_named}
 use Rattle.pm_names.proofs.TableLemmas.{place_of_only}
 use Rattle.pm_names.specs.Table.{all_distinct}
 use Rattle.pm_plantree.specs.Places.{first_fault}

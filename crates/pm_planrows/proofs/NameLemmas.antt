@@ -1,7 +1,7 @@
 -- Pairs of names that are one name are the same pairs, so that links are found by one name.
 use Rattle.std.proofs.Common.{◌≡◌, ℕ, Bool, true, false, ◌&&◌, nat_eq, List, [], ◌∷◌, map, position, refl, ap, ◌∙◌}
 use Rattle.std.specs.Str.{bytes_eq}
-use Rattle.pm_lists.specs.NamedList.{place_named}
+use Rattle.pm_model.specs.NamedList.{place_named}
 use Rattle.pm_plantree.specs.Places.{first_fault}
 use Rattle.pm_plantree.specs.declared.place.Section.TheVariants.{Link}
 use Rattle.pm_plantree.specs.declared.raw.RawLink.{RawLink}

@@ -5,7 +5,7 @@ use Rattle.std.specs.Option.{option_map_or}
 use Rattle.std.specs.Str.{bytes_eq}
 use Rattle.std.proofs.lemmas.Bool.Decides.{nat_tests}
 use Rattle.std.proofs.lemmas.List.{length-map}
-use Rattle.pm_lists.specs.NamedList.{place_named}
+use Rattle.pm_model.specs.NamedList.{place_named}
 
 first_map : {A B : Type 0} (p : B → Bool) (g : A → B) (q : A → Bool) → ((x : A) → p (g x) ≡ q x) → (xs : List A) → position_or_len p (map g xs) ≡ position_or_len q xs
 first_map p g q same [] = refl

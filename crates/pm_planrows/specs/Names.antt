@@ -4,7 +4,7 @@ use Rattle.std.specs.Prelude.{◌≡◌, ℕ, Bool, true, false, not, ◌&&◌, 
 use Rattle.std.specs.Option.{option_map_or, option_or}
 use Rattle.std.specs.Str.{bytes_eq}
 use Rattle.pm_model.specs.IsPlan.{is_caller_name, is_name}
-use Rattle.pm_lists.specs.NamedList.{place_named}
+use Rattle.pm_model.specs.NamedList.{place_named}
 use Rattle.pm_names.specs.Table.{all_distinct}
 use Rattle.pm_plantree.specs.Places.{first_fault}
 use Rattle.pm_plantree.specs.declared.place.Place.{Place}

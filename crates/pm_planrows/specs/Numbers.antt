@@ -2,7 +2,6 @@
 -- that no callback may answer, by their place in their list.
 use Rattle.std.specs.Prelude.{ℕ, Bool, not, ◌&&◌, List, [], Option, ℤ, option_map, unwrap_or}
 use Rattle.std.specs.Option.{option_or}
-use Rattle.pm_base.specs.declared.limits.TheConstants.{MAX_LINES, MAX_MS}
 use Rattle.pm_model.specs.IsPlan.{is_code}
 use Rattle.pm_plantree.specs.Places.{first_fault, first_place, place}
 use Rattle.pm_plantree.specs.declared.place.Place.{Place}
@@ -13,7 +12,7 @@ use Rattle.pm_planrows.specs.Faults.{fault_if}
 use Rattle.pm_planrows.specs.Rows.{is_within}
 
 abbrev pub has_times : RawDevice → Bool
-has_times row = is_within 0 MAX_MS row.idle_ms && is_within 0 MAX_MS row.suspend_ms && is_within 0 MAX_MS row.resume_ms
+has_times row = is_within 0 1000000 row.idle_ms && is_within 0 1000000 row.suspend_ms && is_within 0 1000000 row.resume_ms
 
 abbrev pub bad_time : ℕ → RawDevice → Option Place
 bad_time i row = fault_if Device i (not (has_times row))
@@ -21,7 +20,7 @@ bad_time i row = fault_if Device i (not (has_times row))
 -- `lines` is named before `trace`
 unfoldable pub number_fault : RawPlan → Option Place
 number_fault raw =
-    option_or (fault_if Top raw.lines_at (not (is_within 1 MAX_LINES raw.lines)))
+    option_or (fault_if Top raw.lines_at (not (is_within 1 200000 raw.lines)))
     (option_or (fault_if Top raw.trace_at (not (is_within 1 2 raw.trace)))
     (first_fault bad_time 0 raw.devices))
 

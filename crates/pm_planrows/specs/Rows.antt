@@ -2,9 +2,8 @@
 use Rattle.std.specs.Prelude.{ℕ, Bool, ◌&&◌, List, Option, ℤ, pos, filter, int_le, map, nat_abs, option_and_then, option_map, unwrap_or, if◌then◌else◌}
 use Rattle.pm_base.specs.declared.DevId.{DevId}
 use Rattle.pm_base.specs.declared.DomId.{DomId}
-use Rattle.pm_base.specs.declared.limits.TheConstants.{MAX_MS}
 use Rattle.pm_model.specs.IsPlan.{is_code}
-use Rattle.pm_lists.specs.NamedList.{place_named}
+use Rattle.pm_model.specs.NamedList.{place_named}
 use Rattle.pm_model.specs.declared.rows.DomainRow.{DomainRow}
 use Rattle.pm_model.specs.declared.rows.DeviceRow.{DeviceRow}
 use Rattle.pm_model.specs.declared.rows.LinkRow.{LinkRow}
@@ -24,7 +23,7 @@ natural_within low high n = if is_within low high n then nat_abs n else low
 
 -- the milliseconds of a callback
 abbrev pub ms_of : ℤ → ℕ
-ms_of n = natural_within 0 MAX_MS n
+ms_of n = natural_within 0 1000000 n
 
 -- the codes that a callback may answer: where there are others, the plan is refused
 abbrev pub codes_of : List ℤ → List ℤ

@@ -2,7 +2,6 @@
 -- codes and commands the part is the limit.
 use Rattle.std.specs.Prelude.{ℕ, Bool, ◌||◌, false, List, Option, Some, None, length, nat_le, nat_lt, if◌then◌else◌}
 use Rattle.std.specs.Option.{option_map_or, option_or}
-use Rattle.pm_base.specs.declared.limits.TheConstants.{MAX_CALLERS, MAX_CODES, MAX_COMMANDS, MAX_DEVICES, MAX_DOMAINS, MAX_LINKS}
 use Rattle.pm_plantree.specs.Places.{first_fault, place}
 use Rattle.pm_plantree.specs.declared.place.Place.{Place}
 use Rattle.pm_plantree.specs.declared.place.Section.{Section}
@@ -21,23 +20,23 @@ item_too_many section limit part i is_long =
     if nat_le limit i then Some (place section i 0) else if is_long then Some (place section i part) else None
 
 abbrev pub are_many_codes : {A : Type 0} → List A → Bool
-are_many_codes codes = nat_lt MAX_CODES (length codes)
+are_many_codes codes = nat_lt 64 (length codes)
 
 abbrev pub has_many_codes : RawDevice → Bool
 has_many_codes row = option_map_or are_many_codes row.idle false || are_many_codes row.suspend || are_many_codes row.resume
 
 abbrev pub device_too_many : ℕ → RawDevice → Option Place
-device_too_many i row = item_too_many Device MAX_DEVICES MAX_CODES i (has_many_codes row)
+device_too_many i row = item_too_many Device 1024 64 i (has_many_codes row)
 
 abbrev pub has_many_commands : RawCaller → Bool
-has_many_commands row = nat_lt MAX_COMMANDS (length row.script)
+has_many_commands row = nat_lt 1000 (length row.script)
 
 abbrev pub caller_too_many : ℕ → RawCaller → Option Place
-caller_too_many i row = item_too_many Caller MAX_CALLERS MAX_COMMANDS i (has_many_commands row)
+caller_too_many i row = item_too_many Caller 16 1000 i (has_many_commands row)
 
 unfoldable pub too_many_fault : RawPlan → Option Place
 too_many_fault raw =
-    option_or (past_limit Domain MAX_DOMAINS (length raw.domains))
+    option_or (past_limit Domain 128 (length raw.domains))
     (option_or (first_fault device_too_many 0 raw.devices)
-    (option_or (past_limit Link MAX_LINKS (length raw.links))
+    (option_or (past_limit Link 1024 (length raw.links))
     (first_fault caller_too_many 0 raw.callers)))

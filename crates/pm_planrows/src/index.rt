@@ -1,13 +1,13 @@
 //! Names that are found by their bytes.
 
 ghost use Rattle.std.specs.Prelude.{◌≡◌, ◌<◌, ◌^◌, true, length, map, vec_len, IfOk, IfSome, IsTrue};
-ghost use Rattle.pm_lists.specs.NamedList.{place_named};
+ghost use Rattle.pm_model.specs.NamedList.{place_named};
 ghost use Rattle.pm_names.specs.Table.{all_distinct};
 
 use crate::apart::are_apart;
 use pm_base::NoMemory;
-use pm_finder::Finder;
 use pm_model::{Name, Named, NamedList};
+use pm_names::Finder;
 use std::alloc::Global;
 use std::marker::Model;
 

@@ -2,7 +2,7 @@
 
 ghost use Rattle.std.specs.Prelude.{◌≡◌, ◌≤◌, length, map, option_and_then, option_map, unwrap_or, IfOk};
 ghost use Rattle.pm_base.specs.declared.limits.TheConstants.{MAX_DEVICES};
-ghost use Rattle.pm_lists.specs.NamedList.{place_named};
+ghost use Rattle.pm_model.specs.NamedList.{place_named};
 ghost use Rattle.pm_planrows.specs.Few.{AreFew};
 ghost use Rattle.pm_planrows.specs.Names.{AreNamesOf, names_in};
 ghost use Rattle.pm_planrows.specs.Rows.{codes_of, device_of, device_or_first, device_row, device_rows, domain_of, domain_row, domain_rows, link_row, link_rows, ms_of, natural_within};

@@ -4,7 +4,6 @@ use Rattle.std.specs.Prelude.{ℕ, Bool, true, false, List, [], Option, ℤ, pos
 use Rattle.toml.specs.Data.{Data, Members, as_array, as_bool, as_integer, as_str, as_table, get_member}
 use Rattle.std.specs.List.{filter_map}
 use Rattle.std.specs.Str.{bytes_eq}
-use Rattle.pm_base.specs.declared.limits.TheConstants.{DEFAULT_LINES}
 use Rattle.pm_plantree.specs.Places.{first_place}
 use Rattle.pm_plantree.specs.Tree.{items_list, list_at, member_keys}
 use Rattle.pm_plantree.specs.declared.raw.RawDomain.{RawDomain}
@@ -83,7 +82,7 @@ key_place key members = unwrap_or (first_place (λ k. bytes_eq k key) 0 (member_
 
 unfoldable pub raw_plan : Members → RawPlan
 raw_plan members = record {
-  lines = unwrap_or (number_at (codes "lines") members) (pos DEFAULT_LINES);
+  lines = unwrap_or (number_at (codes "lines") members) (pos 20000);
   lines_at = key_place (codes "lines") members;
   trace = unwrap_or (number_at (codes "trace") members) (pos 1);
   trace_at = key_place (codes "trace") members;

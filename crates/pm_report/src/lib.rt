@@ -1,4 +1,4 @@
-//! The summary of a run, in numbers and as one line of text (this project's own).
+//! The summary of a run, in numbers and as one line of text.
 #![tactic(auto)]
 
 ghost use Rattle.std.specs.Prelude.{◌≡◌, ◌<◌, ◌^◌, ◌++◌, IfOk, OnOk, decimal, length};
@@ -6,8 +6,6 @@ ghost use Rattle.std.specs.String.{string_bytes};
 ghost use Rattle.pm_report.specs.Report.{begin_lines, begins, ending_word, summary, summary_text};
 
 mod counts;
-#[cfg(test)]
-mod tests;
 
 pub use counts::Summary;
 use pm_base::{Cb, NoMemory};

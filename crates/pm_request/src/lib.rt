@@ -120,29 +120,3 @@ impl Requests {
         self.entries[dev.0 as usize].deferred
     }
 }
-
-#[cfg(test)]
-mod tests {
-    use super::*;
-    use std::test::Fail;
-
-    #[test]
-    fn a_request_is_placed_run_and_cancelled(rt: HostRuntime) -> Result<(), Fail> {
-        let mut requests = Requests::fresh(rt.alloc(), 3)?;
-        assert!(rt; requests.entries.len() == 3);
-        let (a, b) = (DevId(0), DevId(2));
-        requests.place(a, Req::Idle);
-        requests.place(b, Req::Autosuspend);
-        requests.set_deferred(b, true);
-        requests.cancel(a);
-        assert!(rt; requests.queued(a) && requests.request(a) == Req::Nothing);
-        assert!(rt; !requests.deferred(a) && requests.deferred(b));
-        assert!(rt; requests.queued(b));
-        assert_eq!(rt; requests.run(b), Req::Autosuspend);
-        assert!(rt; !requests.queued(b) && requests.request(b) == Req::Nothing);
-        requests.place(a, Req::Resume);
-        requests.clear(a);
-        assert!(rt; !requests.queued(a) && requests.request(a) == Req::Nothing);
-        Ok(())
-    }
-}

@@ -1,4 +1,4 @@
-//! Whether a device is live, and how it stands with what it depends on (this project's own).
+//! Whether a device is live, and how it stands with what it depends on.
 #![tactic(auto)]
 
 mod answers;
@@ -8,7 +8,6 @@ mod running;
 
 pub use answers::{Bond, Inspect};
 pub use inspecting::inspect;
-pub use pm_kept::kept;
-pub use pm_running::{runs_are_exclusive, runs_are_safe};
-pub use pm_stuck::never_stuck;
-pub use pm_succeed::gets_succeed;
+pub use pm_law_gets::{gets_succeed, kept};
+pub use pm_law_safe::{runs_are_exclusive, runs_are_safe};
+pub use pm_law_turns::never_stuck;

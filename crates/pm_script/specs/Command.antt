@@ -3,7 +3,7 @@ use Rattle.std.specs.Prelude.{ℕ, ◌+◌, List, Option, Result, Ok, Err, ℤ, 
 use Rattle.std.specs.Str.{bytes_eq}
 use Rattle.pm_base.specs.declared.DevId.{DevId}
 use Rattle.pm_linetext.specs.Words.{all_helpers}
-use Rattle.pm_lists.specs.NamedList.{place_named}
+use Rattle.pm_model.specs.NamedList.{place_named}
 use Rattle.pm_model.specs.Spelling.{helper_word, operand_of, takes_device}
 use Rattle.pm_model.specs.declared.event.Command.{Command}
 use Rattle.pm_model.specs.declared.event.Helper.{Helper}

@@ -6,7 +6,6 @@ use Rattle.std.specs.List.{list_all}
 use Rattle.std.specs.Ordering.{int_eq}
 use Rattle.std.specs.Str.{bytes_eq}
 use Rattle.std.specs.Str.Parse.{digits_value}
-use Rattle.pm_base.specs.declared.limits.TheConstants.{MAX_MS}
 use Rattle.pm_model.specs.IsPlan.{least_ms}
 use Rattle.pm_model.specs.declared.event.Helper.{Helper}
 
@@ -26,7 +25,7 @@ number_in (c ∷ text) =
 
 -- the helper takes this number
 abbrev pub is_taken : Helper → ℤ → Bool
-is_taken h n = int_le (least_ms h) n && int_le n (pos MAX_MS)
+is_taken h n = int_le (least_ms h) n && int_le n (pos 1000000)
 
 -- the number, where the helper takes it
 abbrev pub taken : Helper → ℤ → Option ℤ

@@ -13,10 +13,9 @@ use crate::fault::ScriptFault;
 use crate::numbers::{milliseconds_in, switch_in};
 use crate::words::{FirstWords, first_words};
 use pm_base::DevId;
-use pm_finder::{Finder, find, is_same};
 use pm_linetext::{helper_of, helper_place, operand_of, takes_device};
 use pm_model::{Command, DeviceList, Helper, Operand, Plan};
-use pm_names::helpers;
+use pm_names::{Finder, find, helpers, is_same};
 
 /// The command that these bytes are over the devices of a plan, or why they are none.
 ///

@@ -8,8 +8,6 @@
 mod command;
 mod fault;
 mod numbers;
-#[cfg(test)]
-mod tests;
 mod words;
 
 pub use command::{read_command, read_command_of};

@@ -1,4 +1,4 @@
-//! Runs a plan on one thread (this project's own).
+//! Runs a plan on one thread.
 #![tactic(auto)]
 
 mod running;

@@ -9,8 +9,8 @@ ghost use Rattle.pm_serial.specs.Ends.{GoesOn, HasMemory, HasTime, IsEnd, IsSeri
 
 use pm_base::{ActorId, NoMemory};
 use pm_book::{Book, Step};
-use pm_bounds::due_moments;
-use pm_stuck::{serial_ends, serial_stops};
+use pm_law_bounds::due_moments;
+use pm_law_turns::{serial_ends, serial_stops};
 
 /// Milliseconds from one line to the next on one thread, at most.
 const STEP: u64 = 1_000_000;
@@ -18,7 +18,7 @@ const STEP: u64 = 1_000_000;
 /// The lines of a book that is drained come no later, in milliseconds of the run.
 const LATEST: u64 = 1 << 62;
 
-/// How a run on one thread ended (this project's own).
+/// How a run on one thread ended.
 #[derive(Clone, Copy, Debug, PartialEq, Eq)]
 pub enum End {
     /// The run is finished.
@@ -63,7 +63,7 @@ fn write(book: &mut Book, actor: ActorId, now: u64) -> Result<(), NoMemory>
 }
 
 /// A book without lines has time for all lines of its plan, of which there are at most 200,000: the
-/// condition of `drain` (this project's own).
+/// condition of `drain`.
 pub fn fresh_books_have_time()
     ensures { (plan : Plan) → HasTime plan [] }
 {}
@@ -83,9 +83,8 @@ pub fn has_time(book: &Book) -> bool
 }
 
 /// Lets the run of a book go on by the order of turns on one thread, until it is finished or has all the
-/// lines that its plan allows (this project's own). `Finished` comes exactly where the run is finished,
-/// `AtLimit` exactly where the list is full and the run isn't finished. From a book without lines the
-/// lines are those of `serial`.
+/// lines that its plan allows. `Finished` comes exactly where the run is finished, `AtLimit` exactly where
+/// the list is full and the run isn't finished. From a book without lines the lines are those of `serial`.
 ///
 /// The time of the last line, in milliseconds of the run, and 1,000,000 for each line that the plan
 /// still allows are together at most 2^62, as they are for a book without lines.

@@ -7,7 +7,7 @@ use Rattle.pm_model.specs.declared.stage.Stage.{Stage}
 use Rattle.pm_model.specs.Views.{Views}
 use Rattle.pm_model.specs.WellFormed.{is_well_formed}
 use Rattle.pm_model.specs.World.{World, start, start_views, with_place}
-use Rattle.pm_place.specs.Places.{Stacks}
+use Rattle.pm_state.specs.Places.{Stacks}
 use Rattle.pm_state.specs.Standing.{can_go_on, is_awake}
 use Rattle.pm_state.proofs.ChainLemmas.{map_constant}
 

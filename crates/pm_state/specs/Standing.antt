@@ -20,7 +20,7 @@ use Rattle.pm_model.specs.Views.{Views}
 use Rattle.pm_model.specs.WellFormed.{is_well_formed}
 use Rattle.pm_model.specs.World.{World, called_by, counts_call, place, stage_at, with_place}
 use Rattle.pm_device.specs.Parts.{Counters, IsFor, Shape}
-use Rattle.pm_stacks.specs.Depth.{longest_chain}
+use Rattle.pm_law_stacks.specs.Depth.{longest_chain}
 
 -- what the counters were made for, where the run stands, and for how many open stages each actor's place has room
 pub record Standing : Type 0 where

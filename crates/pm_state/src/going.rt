@@ -5,8 +5,8 @@ ghost use Rattle.pm_model.specs.Handing.{after_then};
 ghost use Rattle.pm_model.specs.World.{counts_call, place, with_place};
 ghost use Rattle.pm_state.specs.Standing.{HasRoomFor, IsActor, IsOf, Takes, after_write, can_count};
 
+use crate::apply;
 use crate::state::State;
-use pm_apply::apply;
 use pm_base::ActorId;
 use pm_model::{Change, Event, Plan, Then};
 

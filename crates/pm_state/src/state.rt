@@ -1,21 +1,20 @@
 //! The state of a run, and at which stage each actor stands.
 
-ghost use Rattle.std.specs.Prelude.{◌≡◌, ◌<◌, map, length, option_map, slice_get, IfOk, None};
+ghost use Rattle.std.specs.Prelude.{◌≡◌, ◌<◌, map, length, option_map, reverse, slice_get, IfOk, None};
 ghost use Rattle.std.specs.Option.{option_and_then, option_copied};
 ghost use Rattle.pm_model.specs.World.{due, place, ready, stage_at, start, top};
 ghost use Rattle.pm_state.specs.Standing.{IsActor, IsOf, counters};
 
+use crate::Places;
 use crate::rooms::stack_room;
 use pm_base::{ActorId, DevId, NoMemory};
 use pm_device::Parts;
 use pm_model::{Command, HelperStage, Plan, Stage};
-use pm_place::Places;
 use std::alloc::{AllocError, Global};
 use std::marker::Model;
 
 /// Where a run of a plan stands, which contracts see as the views, the places of all actors with the
 /// room of each, and the number of commands that each caller has called.
-#[derive(Drop)]
 pub struct State {
     pub(crate) parts: Parts,
     pub(crate) callers: Places,
@@ -23,6 +22,23 @@ pub struct State {
     pub(crate) timers: Places,
     // How many commands each caller has called.
     pub(crate) called: Vec<u32>,
+}
+
+impl Drop for State {
+    fn drop(self) {
+        let State {
+            parts,
+            callers,
+            works,
+            timers,
+            called,
+        } = self;
+        drop(parts);
+        drop(callers);
+        drop(works);
+        drop(timers);
+        drop(called);
+    }
 }
 
 impl Model for State {
@@ -70,12 +86,32 @@ impl State {
         let devices = plan.devices.len();
         let room = stack_room(alloc, plan)?;
         Ok(State {
-            parts: Parts::fresh(alloc, plan)?,
             callers: Places::empty(alloc, plan.callers.len(), room)?,
             works: Places::empty(alloc, devices, room)?,
             timers: Places::empty(alloc, devices, room)?,
             called: none_called(alloc, plan.callers.as_slice())?,
+            parts: Parts::fresh(alloc, plan)?,
         })
+    }
+
+    /// The open stages of an actor, of which the one that writes next is the last.
+    pub fn open(&self, plan: &Plan, actor: ActorId) -> &[Stage]
+        requires is_of { IsOf plan.now self.now }
+        requires in_range { IsActor plan.now actor }
+        ensures { reverse result.now ≡ place self.now.world actor }
+    {
+        match actor {
+            ActorId::Caller(caller) => self.callers.stages(caller as usize),
+            ActorId::Work(device) => self.works.stages(device as usize),
+            ActorId::Timer(device) => self.timers.stages(device as usize),
+        }
+    }
+
+    /// How many commands each caller has called.
+    pub fn called(&self) -> &[u32]
+        ensures { result.now ≡ self.now.world.called }
+    {
+        self.called.as_slice()
     }
 
     /// The counters.

@@ -2,7 +2,7 @@
 use Rattle.std.specs.Prelude.{◌≡◌, ◌<◌, ◌≤◌, ◌⊎◌, ◌^◌, ℕ, List, Option, None, length, option_map, slice_index_or}
 use Rattle.pm_base.specs.declared.Armed.{Armed}
 use Rattle.pm_base.specs.declared.DevId.{DevId}
-use Rattle.pm_moments.specs.Moments.{moment_of}
+use Rattle.pm_index.specs.Moments.{moment_of}
 
 -- the timer of a device, if it is armed
 abbrev pub timer_of : List (Option Armed) → DevId → Option Armed

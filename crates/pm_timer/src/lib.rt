@@ -6,7 +6,7 @@ ghost use Rattle.pm_base.specs.declared.DevId.{DevId as Dev};
 ghost use Rattle.pm_timer.specs.Timers.{IsNoLater, deadline_of, timer_of};
 
 use pm_base::{Armed, DevId, NoMemory};
-use pm_moments::Moments;
+use pm_index::Moments;
 use std::alloc::Global;
 use std::marker::Model;
 
@@ -83,52 +83,5 @@ impl Timers {
     {
         let (deadline, device) = self.deadlines.first()?;
         Some((deadline, DevId(device as u32)))
-    }
-}
-
-#[cfg(test)]
-mod tests {
-    use super::*;
-    use std::test::Fail;
-
-    #[test]
-    fn the_least_deadline_comes_first_and_then_the_least_device(
-        rt: HostRuntime,
-    ) -> Result<(), Fail> {
-        let mut timers = Timers::fresh(rt.alloc(), 5)?;
-        assert!(rt; timers.timers.len() == 5);
-        assert_eq!(rt; timers.earliest(), None);
-        timers.arm(DevId(3), 7, true);
-        assert_eq!(rt; timers.earliest(), Some((7, DevId(3))));
-        timers.arm(DevId(4), 7, false);
-        timers.arm(DevId(1), 9, false);
-        assert_eq!(rt; timers.earliest(), Some((7, DevId(3))));
-        assert!(rt;
-            timers.armed(DevId(3))
-                == Some(Armed {
-                    deadline: 7,
-                    autosuspends: true
-                })
-        );
-        assert!(rt; timers.armed(DevId(0)) == None);
-        timers.arm(DevId(3), 12, true);
-        assert_eq!(rt; timers.earliest(), Some((7, DevId(4))));
-        timers.disarm(DevId(4));
-        assert_eq!(rt; timers.earliest(), Some((9, DevId(1))));
-        timers.arm(DevId(0), 9, false);
-        assert_eq!(rt; timers.earliest(), Some((9, DevId(0))));
-        Ok(())
-    }
-
-    #[test]
-    fn no_device_and_one_device(rt: HostRuntime) -> Result<(), Fail> {
-        assert_eq!(rt; Timers::fresh(rt.alloc(), 0)?.earliest(), None);
-        let mut timers = Timers::fresh(rt.alloc(), 1)?;
-        assert!(rt; timers.timers.len() == 1);
-        timers.arm(DevId(0), 0, false);
-        assert_eq!(rt; timers.earliest(), Some((0, DevId(0))));
-        timers.disarm(DevId(0));
-        assert_eq!(rt; timers.earliest(), None);
-        Ok(())
     }
 }

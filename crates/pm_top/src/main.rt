@@ -1,8 +1,8 @@
 //! Runs a plan of `pm_runtime_*` calls and writes one trace line per atomic step.
 #![tactic(auto)]
 
-use pm_commands::top;
-use pm_endings::{Fault, refuse_words};
+use pm_cmd_ends::{Fault, refuse_words};
+use pm_cmd_run::top;
 use pm_gate::{Quiet, Stopwatch};
 use pm_io::{DiskFiles, StdErr, StdOut};
 use std::process::ExitCode;

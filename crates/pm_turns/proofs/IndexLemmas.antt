@@ -5,16 +5,16 @@ use Rattle.std.proofs.lemmas.Option.{none-some, same_Some}
 use Rattle.pm_base.specs.declared.ActorId.{ActorId}
 use Rattle.pm_base.specs.declared.ActorId.TheVariants.{Caller, Work, Timer}
 use Rattle.pm_base.specs.declared.DevId.{DevId}
-use Rattle.pm_bits.specs.Marks.{NoneMarked, is_marked}
+use Rattle.pm_index.specs.Marks.{NoneMarked, is_marked}
 use Rattle.pm_model.specs.declared.event.Line.{Line}
 use Rattle.pm_model.specs.declared.plan.Plan.{Plan}
 use Rattle.pm_model.specs.History.{History}
 use Rattle.pm_model.specs.Serial.{next_turn}
 use Rattle.pm_model.specs.World.{world}
-use Rattle.pm_moments.specs.Moments.{moment_of}
-use Rattle.pm_order.specs.Told.{is_actor, wait_in}
-use Rattle.pm_order.proofs.Telling.{other_actor, same_actor}
-use Rattle.pm_waking.specs.Wakes.{turn_by, wakes}
+use Rattle.pm_index.specs.Moments.{moment_of}
+use Rattle.pm_law_turns.specs.Told.{is_actor, wait_in}
+use Rattle.pm_law_turns.proofs.Telling.{other_actor, same_actor}
+use Rattle.pm_law_turns.specs.Wakes.{turn_by, wakes}
 use Rattle.pm_turns.specs.Seats.{AreMoments, Asks, IsSeated, Seating, Sets, actor_at, moment_by, place_of, round_of, seat_after}
 use Rattle.pm_turns.specs.Turning.{Index, IsIndex, Looked, Noted, Touched, TouchedAny, is_listed, is_near, queue}
 use Rattle.pm_turns.proofs.QueueLemmas.{at_place, at_seat, place_below, place_kept, places_apart}

@@ -5,10 +5,10 @@ use Rattle.std.specs.List.{filter_map, cons_option}
 use Rattle.std.specs.Option.{option_or, option_map_or}
 use Rattle.pm_base.specs.declared.ActorId.{ActorId}
 use Rattle.pm_model.specs.Serial.{least}
-use Rattle.pm_moments.specs.Moments.{NoneWithin, moment_of}
-use Rattle.pm_moments.specs.Moments as moments
+use Rattle.pm_index.specs.Moments.{NoneWithin, moment_of}
+use Rattle.pm_index.specs.Moments as moments
 use Rattle.pm_turns.specs.Seats.{AreMoments, IsFirst, Seating, actor_at, round_of, span}
-use Rattle.pm_waking.specs.Wakes.{first_awake, is_within, or_least, turn_by}
+use Rattle.pm_law_turns.specs.Wakes.{first_awake, is_within, or_least, turn_by}
 
 find_joined : {X : Type 0} (p : X → Bool) (xs ys : List X) → find p (xs ++ ys) ≡ option_or (find p xs) (find p ys)
 find_joined p [] ys = refl

@@ -5,9 +5,9 @@ use Rattle.std.proofs.lemmas.Bool.Decides.{nat_tests}
 use Rattle.std.proofs.lemmas.List.{get_or-set_other, get_or-set_same, length-replicate, length-set}
 use Rattle.pm_base.specs.declared.ActorId.{ActorId}
 use Rattle.pm_base.specs.declared.ActorId.TheVariants.{Caller, Work, Timer}
-use Rattle.pm_bits.specs.Marks.{NoneMarked, is_marked}
-use Rattle.pm_order.specs.Told.{is_actor}
-use Rattle.pm_order.proofs.Telling.{is_itself}
+use Rattle.pm_index.specs.Marks.{NoneMarked, is_marked}
+use Rattle.pm_law_turns.specs.Told.{is_actor}
+use Rattle.pm_law_turns.proofs.Telling.{is_itself}
 use Rattle.pm_turns.specs.Seats.{IsSeated, Seating, actor_at, place_of}
 use Rattle.pm_turns.specs.Turning.{AreQueues}
 

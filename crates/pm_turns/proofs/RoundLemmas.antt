@@ -11,8 +11,8 @@ use Rattle.pm_model.specs.Lawful.{last_time}
 use Rattle.pm_model.specs.Serial.{callers_and_works, next_turn, round, seat, timer_actors}
 use Rattle.pm_model.specs.World.{world}
 use Rattle.pm_turns.specs.Seats.{Seating, actor_at, round_of, span}
-use Rattle.pm_waking.specs.Wakes.{turn_by, wakes}
-use Rattle.pm_waking.proofs.Turning.{next_is}
+use Rattle.pm_law_turns.specs.Wakes.{turn_by, wakes}
+use Rattle.pm_law_turns.proofs.Turning.{next_is}
 
 -- the seats are those of this plan, and the search begins after the last writer
 pub record IsRound (plan : Plan) (h : History) (s : Seating) : Type 0 where

@@ -7,7 +7,7 @@ use Rattle.std.proofs.lemmas.Option.{none-some, same_Some}
 use Rattle.pm_base.specs.declared.ActorId.{ActorId}
 use Rattle.pm_base.specs.declared.ActorId.TheVariants.{Work, Timer}
 use Rattle.pm_base.specs.declared.DevId.{DevId}
-use Rattle.pm_bits.specs.Marks.{is_marked}
+use Rattle.pm_index.specs.Marks.{is_marked}
 use Rattle.pm_model.specs.declared.event.Line.{Line}
 use Rattle.pm_model.specs.declared.plan.Plan.{Plan}
 use Rattle.pm_model.specs.declared.stage.ControlStage.TheVariants as control
@@ -21,12 +21,12 @@ use Rattle.pm_model.specs.Lawful.{IsLawful}
 use Rattle.pm_model.specs.Serial.{seat}
 use Rattle.pm_model.specs.WellFormed.{device_of, is_in}
 use Rattle.pm_model.specs.World.{World, place, ready, top, world}
-use Rattle.pm_order.specs.Looks.{device_at, device_in, looks}
-use Rattle.pm_order.specs.Told.{IsShown, is_actor, told_wait, touches, touches_any, wait_in}
-use Rattle.pm_order.proofs.Telling.{all_shown, same_actor}
-use Rattle.pm_order.proofs.Touching.{only_touched}
-use Rattle.pm_stacks.proofs.Fitting.{stands_fit}
-use Rattle.pm_waking.specs.Wakes.{wakes}
+use Rattle.pm_law_turns.specs.Looks.{device_at, device_in, looks}
+use Rattle.pm_law_turns.specs.Told.{IsShown, is_actor, told_wait, touches, touches_any, wait_in}
+use Rattle.pm_law_turns.proofs.Telling.{all_shown, same_actor}
+use Rattle.pm_law_turns.proofs.Touching.{only_touched}
+use Rattle.pm_law_stacks.proofs.Fitting.{stands_fit}
+use Rattle.pm_law_turns.specs.Wakes.{wakes}
 use Rattle.pm_turns.specs.Seats.{Asks, IsSeated, Seating, moment_by, place_of}
 use Rattle.pm_turns.specs.Turning.{Index, IsIndex, Leads, Noted, TouchedAny, is_listed, is_near, queue}
 use Rattle.pm_turns.proofs.QueueLemmas.{place_kept}

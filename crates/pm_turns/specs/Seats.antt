@@ -2,7 +2,7 @@
 use Rattle.std.specs.Prelude.{◌≡◌, ◌≢◌, ◌+◌, ◌*◌, ◌-◌, ◌<◌, ◌≤◌, ◌^◌, ◌⊎◌, ℕ, zero, suc, true, List, [], ◌∷◌, ◌++◌, Option, nat_lt, if◌then◌else◌}
 use Rattle.pm_base.specs.declared.ActorId.{ActorId}
 use Rattle.pm_base.specs.declared.ActorId.TheVariants.{Caller, Work, Timer}
-use Rattle.pm_moments.specs.Moments.{NoneWithin, is_within, moment_of}
+use Rattle.pm_index.specs.Moments.{NoneWithin, is_within, moment_of}
 
 -- how many callers and devices there are, the moment of each seat, the seat at which the search begins, and the time of
 -- the last line

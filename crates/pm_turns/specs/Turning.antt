@@ -3,7 +3,7 @@ use Rattle.std.specs.Prelude.{◌≡◌, ◌+◌, ◌*◌, ◌<◌, ℕ, Bool, t
 use Rattle.pm_base.specs.declared.ActorId.{ActorId}
 use Rattle.pm_base.specs.declared.ActorId.TheVariants.{Work, Timer}
 use Rattle.pm_base.specs.declared.DevId.{DevId}
-use Rattle.pm_bits.specs.Marks.{is_marked}
+use Rattle.pm_index.specs.Marks.{is_marked}
 use Rattle.pm_model.specs.declared.event.Line.{Line}
 use Rattle.pm_model.specs.declared.plan.Plan.{Plan}
 use Rattle.pm_model.specs.declared.stage.Stage.{Stage}
@@ -11,8 +11,8 @@ use Rattle.pm_model.specs.History.{History}
 use Rattle.pm_model.specs.Lawful.{IsLawful, last_time}
 use Rattle.pm_model.specs.Serial.{seat}
 use Rattle.pm_model.specs.World.{World, place, world}
-use Rattle.pm_order.specs.Told.{is_actor, told_wait, top_looks, wait_in}
-use Rattle.pm_waking.specs.Wakes.{wakes}
+use Rattle.pm_law_turns.specs.Told.{is_actor, told_wait, top_looks, wait_in}
+use Rattle.pm_law_turns.specs.Wakes.{wakes}
 use Rattle.pm_turns.specs.Seats.{Asks, IsSeated, Seating, moment_by, place_of, seat_after}
 
 -- the seats, and for each device a mark at each seat: whether who sits there is listed as waiting for the device

@@ -1,10 +1,10 @@
 //! Those who wait for one device.
 
 ghost use Rattle.std.specs.Prelude.{◌≡◌, ◌<◌, ◌≤◌, ◌^◌, false, true, length, replicate, slice_set, IfNone, IfOk, IfSome};
-ghost use Rattle.pm_bits.specs.Marks.{NoneMarked, is_marked};
+ghost use Rattle.pm_index.specs.Marks.{NoneMarked, is_marked};
 
 use pm_base::NoMemory;
-use pm_bits::Bits;
+use pm_index::Bits;
 use std::alloc::Global;
 use std::marker::Model;
 
@@ -18,7 +18,7 @@ pub struct Waiters {
 
 impl Model for Waiters {
     ghost use Rattle.std.specs.Prelude.{◌≡◌, Bool, List, false, length};
-    ghost use Rattle.pm_bits.specs.Marks.{NoneMarked};
+    ghost use Rattle.pm_index.specs.Marks.{NoneMarked};
 
     ghost Value = { List Bool };
 

@@ -2,12 +2,12 @@
 
 ghost use Rattle.std.specs.Prelude.{◌≡◌, ◌+◌, ◌*◌, ◌<◌, ◌≤◌, ◌^◌, ℕ, Option, None, replicate, IfNone, IfOk, IfSome};
 ghost use Rattle.pm_base.specs.declared.ActorId.{ActorId as AnActor};
-ghost use Rattle.pm_moments.specs.Moments.{NoneWithin};
-ghost use Rattle.pm_waking.specs.Wakes.{first_awake, turn_by};
+ghost use Rattle.pm_index.specs.Moments.{NoneWithin};
+ghost use Rattle.pm_law_turns.specs.Wakes.{first_awake, turn_by};
 ghost use Rattle.pm_turns.specs.Seats.{AreMoments, IsFirst, IsSeated, Sets, actor_at, place_of, round_of, seat_after};
 
 use pm_base::{ActorId, NoMemory};
-use pm_moments::Moments;
+use pm_index::Moments;
 use std::alloc::Global;
 use std::marker::Model;
 

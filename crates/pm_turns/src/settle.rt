@@ -1,11 +1,11 @@
 //! What a line changes of the turns.
 
 ghost use Rattle.std.specs.Prelude.{◌≡◌, ◌+◌, ◌*◌, ◌<◌, ◌≤◌, ◌^◌, ◌∷◌, ◌⊎◌, false, IfNone, IfSome};
-ghost use Rattle.pm_bits.specs.Marks.{NoneMarked};
+ghost use Rattle.pm_index.specs.Marks.{NoneMarked};
 ghost use Rattle.pm_model.specs.History.{History};
-ghost use Rattle.pm_order.specs.Told.{is_actor};
+ghost use Rattle.pm_law_turns.specs.Told.{is_actor};
 ghost use Rattle.pm_state.specs.Standing.{AllStandWell, IsActor, IsOf};
-ghost use Rattle.pm_waking.specs.Wakes.{wakes};
+ghost use Rattle.pm_law_turns.specs.Wakes.{wakes};
 ghost use Rattle.pm_turns.specs.Seats.{Asks, IsSeated, actor_at, moment_by};
 ghost use Rattle.pm_turns.specs.Turning.{AreOf, IsIndex, Leads, Looked, Touched, TouchedAny, queue};
 

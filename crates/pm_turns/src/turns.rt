@@ -3,15 +3,15 @@
 ghost use Rattle.std.specs.Prelude.{◌≡◌, ◌+◌, ◌*◌, ◌<◌, ◌^◌, ℕ, Some, false, true, length, replicate, reverse, slice_get, IfOk, IfSome};
 ghost use Rattle.std.specs.Option.{option_copied};
 ghost use Rattle.pm_base.specs.declared.DevId.{DevId as ADevice};
-ghost use Rattle.pm_bits.specs.Marks.{is_marked};
+ghost use Rattle.pm_index.specs.Marks.{is_marked};
 ghost use Rattle.pm_model.specs.declared.plan.Plan.{Plan as APlan};
 ghost use Rattle.pm_model.specs.History.{History};
 ghost use Rattle.pm_model.specs.Lawful.{IsLawful, last_time};
 ghost use Rattle.pm_model.specs.Serial.{next_turn, seat};
 ghost use Rattle.pm_model.specs.World.{place, world};
-ghost use Rattle.pm_order.specs.Told.{top_looks};
+ghost use Rattle.pm_law_turns.specs.Told.{top_looks};
 ghost use Rattle.pm_state.specs.Standing.{AllStandWell, IsActor, IsOf};
-ghost use Rattle.pm_waking.specs.Wakes.{wakes};
+ghost use Rattle.pm_law_turns.specs.Wakes.{wakes};
 ghost use Rattle.pm_turns.specs.Seats.{Asks, IsSeated, actor_at, moment_by};
 ghost use Rattle.pm_turns.specs.Turning.{AreOf, IsIndex, Seen, is_listed, queue};
 
@@ -27,11 +27,18 @@ use std::marker::Model;
 
 /// Who writes the next line of a run on one thread, and when: from when each actor may write, and for
 /// each device who waits for it.
-#[derive(Drop)]
 pub struct Turns {
     pub(crate) rows: Rows,
     // For each device who waits for it, by seat.
     pub(crate) waiters: Vec<Waiters>,
+}
+
+impl Drop for Turns {
+    fn drop(self) {
+        let Turns { rows, waiters } = self;
+        drop(rows);
+        drop(waiters);
+    }
 }
 
 impl Model for Turns {

@@ -2,10 +2,10 @@
 
 ghost use Rattle.std.specs.Prelude.{◌≡◌, ◌≢◌, ◌+◌, ◌*◌, ◌<◌, ◌^◌, ℕ, false, true, slice_set, Some};
 ghost use Rattle.pm_base.specs.declared.DevId.{DevId as ADevice};
-ghost use Rattle.pm_bits.specs.Marks.{is_marked};
+ghost use Rattle.pm_index.specs.Marks.{is_marked};
 ghost use Rattle.pm_model.specs.World.{place};
-ghost use Rattle.pm_order.specs.Looks.{device_at, device_in, looks};
-ghost use Rattle.pm_order.specs.Told.{top_looks, wait_in};
+ghost use Rattle.pm_law_turns.specs.Looks.{device_at, device_in, looks};
+ghost use Rattle.pm_law_turns.specs.Told.{top_looks, wait_in};
 ghost use Rattle.pm_state.specs.Standing.{IsActor, IsOf};
 ghost use Rattle.pm_turns.specs.Seats.{IsSeated, seat_after};
 ghost use Rattle.pm_turns.specs.Turning.{Noted, queue};

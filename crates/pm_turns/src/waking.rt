@@ -8,7 +8,7 @@ ghost use Rattle.pm_model.specs.Views.{timer};
 ghost use Rattle.pm_model.specs.WellFormed.{is_well_formed};
 ghost use Rattle.pm_model.specs.declared.stage.Stage.TheVariants as the_stage;
 ghost use Rattle.pm_state.specs.Standing.{IsActor, IsOf, StandsWell};
-ghost use Rattle.pm_waking.specs.Wakes.{wakes, wakes_at};
+ghost use Rattle.pm_law_turns.specs.Wakes.{wakes, wakes_at};
 
 use pm_base::{ActorId, Cb, DevId};
 use pm_device::{Parts, ms_of};

@@ -13,7 +13,7 @@ use Rattle.pm_model.specs.declared.rows.DeviceRow.{DeviceRow}
 use Rattle.pm_model.specs.Counted.{only_if}
 use Rattle.pm_model.specs.Lawful.{IsLawful}
 use Rattle.pm_model.specs.Views.{Views, device}
-use Rattle.pm_bounds.proofs.Limits.{lines_bounded}
+use Rattle.pm_law_bounds.proofs.Limits.{lines_bounded}
 use Rattle.pm_why.specs.declared.gets.Count.{Count}
 use Rattle.pm_why.specs.declared.Reason.{Reason}
 use Rattle.pm_why.specs.declared.Reason.TheVariants as reason

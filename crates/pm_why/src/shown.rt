@@ -3,10 +3,10 @@
 ghost use Rattle.std.specs.Prelude.{◌≡◌, [], ◌∷◌, drop};
 ghost use Rattle.pm_base.specs.declared.Status.TheVariants.{Suspended};
 ghost use Rattle.pm_base.specs.declared.Why.TheVariants.{Caller};
-ghost use Rattle.pm_runs.specs.Counts.{disabled_get_plan, first_plan};
-ghost use Rattle.pm_runs.specs.Parents.{parents_plan};
-ghost use Rattle.pm_runs.specs.Suspends.{failed_suspend_plan};
-ghost use Rattle.pm_runs.specs.Words.{dev, minus, run_of};
+ghost use Rattle.pm_show_runs.specs.Counts.{disabled_get_plan, first_plan};
+ghost use Rattle.pm_show_runs.specs.Parents.{parents_plan};
+ghost use Rattle.pm_show_runs.specs.Suspends.{failed_suspend_plan};
+ghost use Rattle.pm_show_runs.specs.Words.{dev, minus, run_of};
 ghost use Rattle.pm_why.specs.declared.Reason.TheVariants as reason;
 ghost use Rattle.pm_why.specs.Reasons.{reasons};
 

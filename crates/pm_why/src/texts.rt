@@ -3,13 +3,13 @@
 ghost use Rattle.std.specs.Prelude.{◌≡◌, ◌+◌, ◌≤◌, ◌++◌, codes, decimal, length};
 ghost use Rattle.pm_model.specs.Spelling.{why_text};
 ghost use Rattle.pm_model.specs.Text.{names_of};
-ghost use Rattle.pm_shorttext.specs.declared.TheConstants.{SHORT_BYTES};
+ghost use Rattle.pm_linetext.specs.declared.short.TheConstants.{SHORT_BYTES};
 ghost use Rattle.pm_why.specs.Texts.{free_line, reason_line, reason_text, status_text};
 
 use crate::Reason;
 use pm_base::{Status, Why};
+use pm_linetext::ShortText;
 use pm_model::Plan;
-use pm_shorttext::ShortText;
 
 /// Appends the number of a line.
 fn push_line(text: &mut ShortText, line: u32)

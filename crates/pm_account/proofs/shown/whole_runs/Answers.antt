@@ -1,6 +1,6 @@
 -- By computing the whole run.
 use Rattle.std.proofs.Common.{refl}
-use Rattle.pm_runs.proofs.CallTable.{call_table}
+use Rattle.pm_show_runs.proofs.CallTable.{call_table}
 use Rattle.pm_account.proofs.shown.whole_runs.Goals as goal
 
 pub returns-clause-autosuspend : goal.returns-clause-autosuspend

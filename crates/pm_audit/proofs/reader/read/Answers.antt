@@ -1,6 +1,6 @@
 -- By what the taker answers.
 use Rattle.std.proofs.Common.{◌∙◌, ap}
-use Rattle.pm_judge.specs.Judging.{Judged}
+use Rattle.pm_book.specs.Judging.{Judged}
 use Rattle.pm_audit.proofs.Lines.{read_ok, spelled_as}
 use Rattle.pm_audit.proofs.reader.read.Goals as goal
 

@@ -1,9 +1,9 @@
 -- By the line that is offered, and its text.
 use Rattle.std.proofs.Common.{◌≡◌, ◌-◌, ◌<◌, true, subst}
 use Rattle.pm_model.specs.LineOf.{is_line_of}
-use Rattle.pm_judge.specs.Judging.{Judged}
-use Rattle.pm_judge.specs.Offering.{IsOfPlan, IsOffer, line_by}
-use Rattle.pm_judge.specs.Sometime.{Writes}
+use Rattle.pm_book.specs.Judging.{Judged}
+use Rattle.pm_book.specs.Offering.{IsOfPlan, IsOffer, line_by}
+use Rattle.pm_book.specs.Sometime.{Writes}
 use Rattle.pm_audit.specs.Offers.{base_of}
 use Rattle.pm_audit.proofs.Lines.{read_ok}
 use Rattle.pm_audit.proofs.Spelled.{at_write, is_offered, whole_line}

@@ -3,7 +3,7 @@ use Rattle.std.proofs.lemmas.List.{length-map}
 use Rattle.pm_model.specs.declared.rows.DeviceRow.{DeviceRow}
 use Rattle.pm_model.specs.declared.rows.DomainRow.{DomainRow}
 use Rattle.pm_model.specs.Views.{fresh_device, fresh_pending}
-use Rattle.pm_tally.specs.Marks.{Marks}
+use Rattle.pm_index.specs.OwnMarks.{Marks}
 use Rattle.pm_domain.specs.Domains.{place_of as domain_place}
 use Rattle.pm_device.specs.Children.{place_of}
 use Rattle.pm_device.proofs.FreshLemmas.{fresh_views, kept_as_fresh, parents_below}

@@ -1,6 +1,6 @@
 use Rattle.std.proofs.Common.{◌≡◌, ◌∙◌, ap, length, subst, sym, false}
 use Rattle.pm_model.specs.PlanRows.{chain}
-use Rattle.pm_tally.specs.Marks.{Marks}
+use Rattle.pm_index.specs.OwnMarks.{Marks}
 use Rattle.pm_domain.specs.Domains.{DomainViews, IsMadeFor}
 use Rattle.pm_domain.proofs.SwitchLemmas.{length-switched}
 use Rattle.pm_domain.proofs.WalkLemmas.{down-switched, down-walked}

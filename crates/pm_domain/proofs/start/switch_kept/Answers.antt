@@ -2,7 +2,7 @@ use Rattle.std.proofs.Common.{◌<◌, ◌∙◌, Some, ap, false, length, refl,
 use Rattle.std.proofs.lemmas.List.{get_or-replicate, length-map, length-replicate}
 use Rattle.pm_model.specs.declared.rows.DomainRow.{DomainRow}
 use Rattle.pm_model.specs.PlanRows.{chain}
-use Rattle.pm_tally.specs.Marks.{bit_at}
+use Rattle.pm_index.specs.OwnMarks.{bit_at}
 use Rattle.pm_domain.specs.Domains.{place_of}
 use Rattle.pm_domain.proofs.StartLemmas.{kept_all, kept_same, kept_switched}
 use Rattle.pm_domain.proofs.SwitchLemmas.{length-switched, marks_are}

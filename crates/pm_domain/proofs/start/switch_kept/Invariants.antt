@@ -1,6 +1,6 @@
 use Rattle.std.proofs.Common.{◌≡◌, ◌<◌, ℕ, length, take}
 use Rattle.std.specs.List.{enumerate_from, list_any}
-use Rattle.pm_tally.specs.Marks.{bit_at}
+use Rattle.pm_index.specs.OwnMarks.{bit_at}
 use Rattle.pm_domain.specs.Walk.{keeps_on}
 use Rattle.pm_domain.proofs.start.switch_kept.Given as goal
 

@@ -1,6 +1,6 @@
 use Rattle.std.proofs.Common.{◌≡◌, ◌+◌, ◌∙◌, add-zero, ap, cond, length, sym, arith}
 use Rattle.pm_model.specs.PlanRows.{chain, domain_parent}
-use Rattle.pm_tally.specs.Marks.{bit_at}
+use Rattle.pm_index.specs.OwnMarks.{bit_at}
 use Rattle.pm_domain.proofs.ChainLemmas.{chain_step, counted_more, few_off}
 use Rattle.pm_domain.proofs.walk.count_off.Goals.{then-not-is_marked, else-not-is_marked}
 use Rattle.pm_domain.proofs.walk.count_off.Goals as goal

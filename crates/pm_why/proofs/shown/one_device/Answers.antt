@@ -1,6 +1,6 @@
 -- By computing the whole runs.
 use Rattle.std.proofs.Common.{refl}
-use Rattle.pm_runs.proofs.CallTable.{call_table}
+use Rattle.pm_show_runs.proofs.CallTable.{call_table}
 use Rattle.pm_why.proofs.shown.one_device.Goals as goal
 
 pub returns-clause-free : goal.returns-clause-free

@@ -1,6 +1,6 @@
 -- By computing the run.
 use Rattle.std.proofs.Common.{refl}
-use Rattle.pm_runs.proofs.CallTable.{call_table}
+use Rattle.pm_show_runs.proofs.CallTable.{call_table}
 use Rattle.pm_why.proofs.shown.stored_error.Goals as goal
 
 pub returns : goal.returns

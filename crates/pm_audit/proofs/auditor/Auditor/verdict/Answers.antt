@@ -3,7 +3,7 @@ use Rattle.std.proofs.Common.{◌≡◌, List, subst}
 use Rattle.pm_model.specs.declared.event.Line.{Line}
 use Rattle.pm_model.specs.Lawful.{is_finished}
 use Rattle.pm_model.specs.World.{world}
-use Rattle.pm_judge.specs.Judging.{JudgeStandsFor}
+use Rattle.pm_book.specs.Judging.{JudgeStandsFor}
 use Rattle.pm_audit.proofs.Telling.{end_finished, end_open}
 use Rattle.pm_audit.proofs.auditor.Auditor.verdict.Goals as goal
 

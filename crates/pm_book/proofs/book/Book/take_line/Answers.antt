@@ -1,7 +1,7 @@
 -- By what a judge says of the line.
 use Rattle.std.proofs.Common.{◌∙◌, Ok, reverse, subst, sym}
-use Rattle.pm_judge.proofs.Moves.{permits}
-use Rattle.pm_judge.specs.Judging.{IsAnswer}
+use Rattle.pm_book.proofs.Moves.{permits}
+use Rattle.pm_book.specs.Judging.{IsAnswer}
 use Rattle.pm_book.specs.Pages.{Pages}
 use Rattle.pm_book.specs.Takes.{judged_as}
 use Rattle.pm_book.proofs.TakeLemmas.{lacks, refuses, room_of}

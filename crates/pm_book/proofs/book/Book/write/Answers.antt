@@ -1,11 +1,11 @@
 use Rattle.std.proofs.Common.{◌≡◌, ◌∙◌, ◌+◌, List, [], ◌∷◌, ◌++◌, reverse, ap, subst, sym}
 use Rattle.pm_model.specs.declared.event.Line.{Line}
-use Rattle.pm_sums.specs.Sums.{one}
+use Rattle.pm_law_counts.specs.Sums.{one}
 use Rattle.pm_state.specs.Standing.{AllStandWell, IsActor, IsOf, Standing, after_write}
 use Rattle.pm_turns.specs.Turning.{Leads}
 use Rattle.pm_book.specs.Pages.{IsKept, MayWrite, Pages}
 use Rattle.pm_book.specs.Sheets.{begins_callback}
-use Rattle.pm_judge.proofs.Moves.{stays_of}
+use Rattle.pm_book.proofs.Moves.{stays_of}
 use Rattle.pm_book.proofs.PageLemmas.{kept_step, leads, reverse-push}
 use Rattle.pm_book.proofs.RunningLemmas.{room_goes}
 use Rattle.pm_book.proofs.book.Book.write.Goals as goal

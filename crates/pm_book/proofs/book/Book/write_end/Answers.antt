@@ -4,7 +4,7 @@ use Rattle.pm_state.specs.Standing.{AllStandWell, IsActor, IsOf, Standing, after
 use Rattle.pm_state.specs.Turns.{is_running}
 use Rattle.pm_turns.specs.Turning.{Leads}
 use Rattle.pm_book.specs.Pages.{IsKept, MayWrite, Pages, world_of}
-use Rattle.pm_judge.proofs.Moves.{stays_of}
+use Rattle.pm_book.proofs.Moves.{stays_of}
 use Rattle.pm_book.proofs.PageLemmas.{kept_step, leads, reverse-push}
 use Rattle.pm_book.proofs.RunningLemmas.{room_ends, room_is}
 use Rattle.pm_book.proofs.book.Book.write_end.Goals as goal

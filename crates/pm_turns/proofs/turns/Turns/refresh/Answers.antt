@@ -1,5 +1,5 @@
 use Rattle.std.proofs.Common.{subst}
-use Rattle.pm_waking.specs.Wakes.{wakes}
+use Rattle.pm_law_turns.specs.Wakes.{wakes}
 use Rattle.pm_turns.specs.Seats.{Asks}
 use Rattle.pm_turns.specs.Turning.{Index}
 use Rattle.pm_turns.proofs.IndexLemmas.{asks_one}

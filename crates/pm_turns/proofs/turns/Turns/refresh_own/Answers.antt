@@ -1,6 +1,6 @@
 use Rattle.std.proofs.Common.{arith}
 use Rattle.pm_base.specs.declared.ActorId.TheVariants.{Work}
-use Rattle.pm_waking.specs.Wakes.{wakes}
+use Rattle.pm_law_turns.specs.Wakes.{wakes}
 use Rattle.pm_turns.proofs.IndexLemmas.{stays_right}
 use Rattle.pm_turns.proofs.turns.Turns.refresh_own.Goals as goal
 

@@ -1,7 +1,7 @@
 use Rattle.std.proofs.Common.{◌≡◌, ◌⊎◌, Option, subst}
 use Rattle.pm_base.specs.declared.DevId.{DevId}
-use Rattle.pm_order.specs.Looks.{device_at, device_in}
-use Rattle.pm_waking.specs.Wakes.{wakes}
+use Rattle.pm_law_turns.specs.Looks.{device_at, device_in}
+use Rattle.pm_law_turns.specs.Wakes.{wakes}
 use Rattle.pm_turns.specs.Turning.{TouchedAny}
 use Rattle.pm_turns.proofs.SettleLemmas.{settles_by}
 use Rattle.pm_turns.proofs.turns.Turns.settle.Goals as goal

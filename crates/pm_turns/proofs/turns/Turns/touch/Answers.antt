@@ -1,4 +1,4 @@
-use Rattle.pm_waking.specs.Wakes.{wakes}
+use Rattle.pm_law_turns.specs.Wakes.{wakes}
 use Rattle.pm_turns.proofs.IndexLemmas.{touched_all}
 use Rattle.pm_turns.proofs.turns.Turns.touch.Goals as goal
 

@@ -1,2 +1,0 @@
-pub mod CalmLemmas
-pub mod CountLemmas

@@ -1,5 +1,0 @@
-use Rattle.pm_bonds.proofs.held_is_runtime.Goals as goal
-use Rattle.pm_bonds.proofs.Links as proof
-
-pub returns : goal.returns
-returns c = λ plan h l row lawful is. (proof.links_hold plan h l row lawful is).runtime

@@ -1,0 +1,7 @@
+pub mod NumberLemmas
+pub mod RequestLemmas
+pub mod SplitLemmas
+pub mod EndLemmas
+pub mod OutputLemmas
+pub mod ReadLemmas
+pub mod Writing

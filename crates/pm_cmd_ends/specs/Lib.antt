@@ -1,0 +1,10 @@
+pub mod Numbers
+pub mod Ordering
+pub mod Request
+pub mod Words
+pub mod Coming
+pub mod Ending
+pub mod Pieces
+pub mod Promised
+pub mod Reading
+pub mod Said

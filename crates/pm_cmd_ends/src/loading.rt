@@ -1,0 +1,25 @@
+//! Plans that are read from their files.
+
+ghost use Rattle.std.specs.Prelude.{◌≡◌, ◌≤◌, IfErr, IfOk};
+ghost use Rattle.pm_io.specs.Faults.{Rose};
+ghost use Rattle.pm_cmd_ends.specs.Coming.{IsUnread};
+ghost use Rattle.pm_cmd_ends.specs.Reading.{IsRead};
+
+use crate::ending::Fault;
+use pm_base::PLAN_BYTES;
+use pm_io::{Files, read_all};
+use pm_model::Plan;
+use pm_planread::read_plan;
+use std::alloc::Global;
+
+/// Reads the plan from its file.
+pub fn load<F: Files>(alloc: Global, plan: &str, files: &mut F) -> Result<Plan, Fault>
+    ensures read { IfOk result (IsRead F.tells_all (F.told files.old plan.now)) }
+    ensures unread { IfErr result (IsUnread F.tells_all (F.told files.old plan.now)
+        (Rose (F.faults files.old) (F.faults files.new))) }
+    ensures never_falls { F.faults files.old ≤ F.faults files.new }
+    ensures same { F.told files.new ≡ F.told files.old }
+{
+    let bytes = read_all(alloc, files, plan, PLAN_BYTES)?;
+    Ok(read_plan(alloc, &bytes)?)
+}

@@ -1,0 +1,6 @@
+mod ComesLemmas
+mod GatherLemmas
+mod OneRun
+mod DeskLemmas
+pub mod RunLemmas
+pub mod SummaryLemmas

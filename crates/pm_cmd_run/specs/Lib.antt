@@ -1,0 +1,4 @@
+pub mod Gathering
+pub mod Runs
+pub mod Commands
+pub mod Counts

@@ -1,4 +1,0 @@
-pub mod PlanStatuses
-pub mod TraceStatuses
-pub mod AskedStatuses
-pub mod FileCases

@@ -1,4 +1,0 @@
-pub mod EndLemmas
-pub mod OutputLemmas
-pub mod ReadLemmas
-pub mod Writing

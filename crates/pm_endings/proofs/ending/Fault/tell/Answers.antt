@@ -1,7 +1,0 @@
-use Rattle.pm_endings.proofs.ending.Fault.tell.Goals as goal
-
-pub returns-in-TraceTooLong : goal.returns-in-TraceTooLong
-returns-in-TraceTooLong g c = rw c.in-TraceTooLong.is c.say-in-TraceTooLong.ensures
-
-pub returns-in-NoDevice : goal.returns-in-NoDevice
-returns-in-NoDevice g c = rw c.in-NoDevice.is c.say-in-NoDevice.ensures

@@ -1,3 +1,0 @@
-mod ComesLemmas
-mod GatherLemmas
-mod OneRun

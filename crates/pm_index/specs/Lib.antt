@@ -1,0 +1,5 @@
+pub mod Marks
+pub mod Words
+pub mod Moments
+pub mod Tree
+pub mod OwnMarks

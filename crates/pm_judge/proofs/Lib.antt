@@ -1,4 +1,0 @@
-pub mod Alike
-pub mod Answering
-pub mod Coming
-pub mod Moves

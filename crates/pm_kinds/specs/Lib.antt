@@ -1,4 +1,0 @@
-pub mod Parts
-pub mod Needs
-pub mod Kinds
-pub mod LineKind

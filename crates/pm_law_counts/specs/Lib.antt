@@ -1,0 +1,4 @@
+pub mod Sums
+pub mod Owners
+pub mod Counts
+pub mod Sizes

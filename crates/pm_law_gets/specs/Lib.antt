@@ -1,0 +1,4 @@
+pub mod Answered
+pub mod Undisturbed
+pub mod Alone
+pub mod Shown

@@ -1,0 +1,13 @@
+pub mod Acting
+pub mod Idling
+pub mod Waking
+pub mod Turning
+pub mod Nearness
+pub mod Leading
+pub mod Frames
+pub mod Telling
+pub mod Touching
+pub mod Earlier
+pub mod Asleep
+pub mod Finishing
+pub mod Ending

@@ -1,3 +1,0 @@
-pub mod Owners
-pub mod Counts
-pub mod Sizes

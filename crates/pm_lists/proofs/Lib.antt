@@ -1,3 +1,0 @@
-pub mod CommonLen
-mod NameSearch
-pub mod PlaceNamed

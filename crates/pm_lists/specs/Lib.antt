@@ -1,2 +1,0 @@
-pub mod NameOrder
-pub mod NamedList

@@ -1,8 +1,0 @@
-use Rattle.pm_moments.proofs.TreeLemmas.{Descent}
-use Rattle.pm_moments.proofs.tree.descend.Given as goal
-
-abbrev pub invariant-loop-below : goal.invariant-loop-below
-invariant-loop-below l = Descent l.nodes l.bound l.node l.levels l.at l.below
-
-abbrev pub decreases-loop-below : goal.decreases-loop-below
-decreases-loop-below l = l.below

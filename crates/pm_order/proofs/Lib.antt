@@ -1,5 +1,0 @@
-pub mod Nearness
-pub mod Leading
-pub mod Frames
-pub mod Telling
-pub mod Touching

@@ -1,3 +1,0 @@
-pub mod Glance
-pub mod Looks
-pub mod Told

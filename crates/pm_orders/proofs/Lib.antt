@@ -1,0 +1,4 @@
+mod Ways
+mod Rounds
+mod Serially
+mod MarkLemmas

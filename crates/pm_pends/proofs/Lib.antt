@@ -1,7 +1,0 @@
-pub mod Pending
-pub mod Askings
-pub mod Falling
-pub mod ResumePends
-pub mod Needing
-pub mod Takings
-pub mod Supplying

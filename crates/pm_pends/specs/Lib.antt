@@ -1,2 +1,0 @@
-pub mod Pends
-pub mod Supplied

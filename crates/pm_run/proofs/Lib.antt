@@ -1,2 +1,0 @@
-mod DeskLemmas
-pub mod RunLemmas

@@ -1,4 +1,0 @@
-pub mod Running
-pub mod Exclusive
-pub mod Gathering
-pub mod Safe

@@ -1,0 +1,5 @@
+pub mod Lists
+pub mod Putting
+pub mod TreeLemmas
+pub mod Leading
+pub mod Reaching

@@ -1,0 +1,15 @@
+//! Exhaustive search of a graph: all that is reached from a start by steps of which at most so many spend
+//! (this project's own).
+#![tactic(auto)]
+
+mod found;
+mod graph;
+mod rounds;
+mod spread;
+#[cfg(test)]
+mod tests;
+mod tree;
+
+pub use found::{Ended, Found, search};
+pub use graph::{Graph, Stop};
+pub use tree::{Tree, way_back};

@@ -1,0 +1,35 @@
+//! One node is spread.
+
+ghost use Rattle.std.specs.Prelude.{◌≡◌, ◌≢◌, ◌<◌, Some, Err, OnOk, map, slice_get, length};
+ghost use Rattle.pm_search.specs.declared.graph.Stop.TheVariants.{Full, NoMemory, TooFar};
+ghost use Rattle.pm_search.specs.Growing.{Grows, IsSpread};
+ghost use Rattle.pm_search.specs.Trees.{IsTree};
+
+use crate::graph::{Graph, Stop};
+use crate::tree::{Tree, add};
+use std::alloc::Global;
+use std::hash::Hash;
+
+// Puts all nodes that follow one at the end, where they aren't there.
+pub fn spread<N: Eq + Hash + Drop, G: Graph<N>>(
+    alloc: Global,
+    graph: &G,
+    tree: &mut Tree<N>,
+    at: usize,
+    spends: bool,
+) -> Result<(), Stop>
+    requires within { at < length tree.old.nodes.keys }
+    requires tree { IsTree (G.Follows graph.now) (G.start graph.now) (map (G.point graph.now) tree.old.nodes.keys) tree.old.parents.items }
+    ensures tree { IsTree (G.Follows graph.now) (G.start graph.now) (map (G.point graph.now) tree.new.nodes.keys) tree.new.parents.items }
+    ensures points { (p : G.Point) → slice_get (map (G.point graph.now) tree.old.nodes.keys) at ≡ Some p → Grows (G.Follows graph.now spends p) (map (G.point graph.now) tree.old.nodes.keys) (map (G.point graph.now) tree.new.nodes.keys) }
+    ensures parents { Grows (λ parent. parent ≡ at) tree.old.parents.items tree.new.parents.items }
+    ensures spread { OnOk result ((p : G.Point) → slice_get (map (G.point graph.now) tree.old.nodes.keys) at ≡ Some p → IsSpread (G.Follows graph.now) spends (map (G.point graph.now) tree.new.nodes.keys) p) }
+    ensures too_far { result ≡ Err Stop.TooFar → G.IsTooFar graph.now (map (G.point graph.now) tree.new.nodes.keys) tree.new.parents.items at }
+    ensures never_full { result ≢ Err Stop.Full }
+{
+    let mut next = graph.successors(alloc, tree, at, spends)?;
+    while let Some(node) = next.pop() {
+        add(graph, tree, node, at)?;
+    }
+    Ok(())
+}

@@ -1,0 +1,141 @@
+//! A judge, and a book, of a plan with one delay, which allows two lines.
+
+ghost use Rattle.std.specs.Prelude.{◌≡◌, ◌<◌, ◌^◌, IfSome};
+ghost use Rattle.pm_state.specs.Standing.{IsActor};
+
+use pm_base::{ActorId, NoMemory};
+use pm_book::{Bad, Book, Judge, TakeFault};
+use pm_lineread::read_line;
+use pm_model::{Event, Line, Move, Plan};
+use pm_planread::{PlanFault, read_plan};
+use std::alloc::Global;
+
+/// A caller waits for 5 milliseconds.
+static DELAY: &[u8] = b"lines = 2
+caller = [{name = 'c', script = ['delay 5']}]
+";
+
+/// The delay's call, and its end.
+const CALL: &str = "7 c pm_call: delay 5";
+
+const RET: &str = "12 c pm_ret: delay 0";
+
+/// Lines in the order in which they are told, and what is wrong with each.
+static TAKEN: [(&str, Option<Bad>); 5] = [
+    ("7 c pm_call: delay 6", Some(Bad::Step)),
+    (CALL, None),
+    ("11 c pm_ret: delay 0", Some(Bad::Time)),
+    (RET, None),
+    (RET, Some(Bad::Limit)),
+];
+
+/// Times, and the line that is offered then.
+static OFFERED: [(u64, Option<&str>); 4] = [
+    (7, Some(CALL)),
+    (11, None),
+    (12, Some(RET)),
+    (13, None),
+];
+
+fn judge(alloc: Global) -> Result<Judge, PlanFault> {
+    match Judge::start(alloc, read_plan(alloc, DELAY)?) {
+        Ok(judge) => Ok(judge),
+        Err((_plan, error)) => Err(error.into()),
+    }
+}
+
+fn book(alloc: Global) -> Result<Book, PlanFault> {
+    match Book::start(alloc, read_plan(alloc, DELAY)?) {
+        Ok(book) => Ok(book),
+        Err((_plan, error)) => Err(error.into()),
+    }
+}
+
+/// The line of a caller with this text.
+fn line_of(plan: &Plan, text: &str) -> Option<Line>
+    ensures of_plan { IfSome result (λ line. IsActor plan.now line.actor) }
+    ensures in_time { IfSome result (λ line. line.time < 2 ^ 63) }
+{
+    let Ok(line) = read_line(plan, text.as_bytes()) else {
+        return None;
+    };
+    let ActorId::Caller(caller) = line.actor else {
+        return None;
+    };
+    if caller as usize >= plan.callers.len() || line.time >= 1 << 63 {
+        return None;
+    }
+    Some(line)
+}
+
+/// What is wrong with the line that is told, if there is such a line.
+fn judged(judge: &mut Judge, text: &str) -> Option<Option<Bad>> {
+    let line = line_of(judge.plan(), text)?;
+    Some(judge.judge(&line).err())
+}
+
+/// The same of a book.
+fn taken(book: &mut Book, text: &str) -> Option<Option<TakeFault>> {
+    let line = line_of(book.plan(), text)?;
+    Some(book.take_line(&line).err())
+}
+
+/// Takes the line that the caller may write at this time, if there is one, and tells its event.
+fn take_offered(judge: &mut Judge, time: u64) -> Option<Event> {
+    if judge.plan().callers.len() == 0 || time >= 1 << 63 {
+        return None;
+    }
+    let actor = ActorId::Caller(0);
+    let mut row = Move::Late(0);
+    if !judge.offer(actor, time, &mut row) {
+        return None;
+    }
+    let Move::Write(event, change, next) = &row else {
+        return None;
+    };
+    judge.accept(time, actor, event, change, next);
+    Some(*event)
+}
+
+/// A judge takes the delay's lines, says what is wrong with others, and knows where it is.
+pub fn judge_takes(alloc: Global) -> Result<bool, PlanFault> {
+    let mut judge = judge(alloc)?;
+    for (text, bad) in &TAKEN {
+        if judged(&mut judge, text) != Some(*bad) {
+            return Ok(false);
+        }
+    }
+    Ok(judge.last_time() == 12 && judge.lines() == 2 && judge.finished())
+}
+
+/// What the judge offers is taken, and the run is finished then and not before.
+pub fn judge_offers(alloc: Global) -> Result<bool, PlanFault> {
+    let mut judge = judge(alloc)?;
+    if judge.finished() {
+        return Ok(false);
+    }
+    for (time, text) in &OFFERED {
+        let line = text.and_then(|text| line_of(judge.plan(), text));
+        let event = line.map(|line| line.event);
+        if event.is_some() != text.is_some() || take_offered(&mut judge, *time) != event {
+            return Ok(false);
+        }
+    }
+    Ok(judge.finished())
+}
+
+/// A book takes the delay's lines, says what is wrong with others, and has those that it took.
+pub fn book_takes(alloc: Global) -> Result<bool, PlanFault> {
+    let mut book = book(alloc)?;
+    for (text, bad) in &TAKEN {
+        let fault = bad.map(TakeFault::from);
+        if taken(&mut book, text) != Some(fault) {
+            return Ok(false);
+        }
+    }
+    let [first, second] = book.lines() else {
+        return Ok(false);
+    };
+    let is_first = Some(*first) == line_of(book.plan(), CALL);
+    Ok(is_first && Some(*second) == line_of(book.plan(), RET))
+}

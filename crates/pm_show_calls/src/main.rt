@@ -1,0 +1,121 @@
+//! Shows of judges, books, auditors, inspections and commands what no clause says: each case is named by what
+//! it shows, and tells whether it did (this project's own).
+//!
+//! What is expected was worked out from the rules by hand or by another program, and none of it is this
+//! project's own.
+#![tactic(auto)]
+
+mod audits;
+mod calls;
+mod edits;
+mod judges;
+mod standing;
+mod texts;
+
+use anyhow::Result;
+use audits::{SAID, is_said};
+use calls::{by_few_bytes, ends_whole, failed_reads, failed_writes};
+use edits::{Usb, judged_as_told, stored_usb};
+use judges::{book_takes, judge_offers, judge_takes};
+use pm_io::DiskFiles;
+use pm_planread::PlanFault;
+use standing::{CUTS, stands};
+use std::alloc::Global;
+use std::io;
+use std::io::Print;
+use std::sync::Wait;
+use std::thread::Threads;
+use texts::{LONG, RUNS};
+
+fn main(rt: HostRuntime) -> Result<()> {
+    let alloc = rt.alloc();
+    tell_audits(&rt, alloc)?;
+    tell_judges(&rt, alloc)?;
+    tell_stands(&rt, alloc)?;
+    tell_runs(&rt, alloc)?;
+    let usb = stored_usb(alloc, &mut DiskFiles::new(&rt))?;
+    tell_edits(&rt, alloc, &usb)?;
+    tell_long_texts(&rt, alloc)?;
+    Ok(())
+}
+
+/// What a case came to.
+fn word(case: Result<bool, PlanFault>) -> &'static str {
+    match case {
+        Ok(true) => "yes",
+        Ok(false) => "no",
+        Err(_) => "not tried, for want of memory or of a plan",
+    }
+}
+
+/// Tells what is said of traces.
+fn tell_audits<P: Print>(rt: &P, alloc: Global) -> io::Result<()> {
+    for said in &SAID {
+        let (shows, case) = (said.shows, word(is_said(alloc, said)));
+        println!(rt; "{shows}: {case}")?;
+    }
+    Ok(())
+}
+
+/// Tells what judges and books take.
+fn tell_judges<P: Print>(rt: &P, alloc: Global) -> io::Result<()> {
+    let takes = word(judge_takes(alloc));
+    println!(rt; "a judge takes a delay's lines, and no other: {takes}")?;
+    let offers = word(judge_offers(alloc));
+    println!(rt; "what a judge offers is taken: {offers}")?;
+    let takes = word(book_takes(alloc));
+    println!(rt; "a book takes a delay's lines, and no other: {takes}")
+}
+
+/// Tells how devices stand.
+fn tell_stands<P: Print>(rt: &P, alloc: Global) -> io::Result<()> {
+    for cut in &CUTS {
+        let (shows, case) = (cut.shows, word(stands(alloc, cut)));
+        println!(rt; "{shows}: {case}")?;
+    }
+    Ok(())
+}
+
+/// Tells how commands end whose calls fail or take few bytes.
+fn tell_runs<R: Print + Threads + Wait + Sync>(rt: &R, alloc: Global) -> io::Result<()> {
+    for (count, run) in &RUNS {
+        let shows = run.shows;
+        let reads = word(failed_reads(rt, alloc, run, *count));
+        let writes = word(failed_writes(rt, alloc, run));
+        let bytes = word(by_few_bytes(rt, alloc, run));
+        println!(rt;
+            "{shows}: each read fails: {reads}, each write fails: {writes}, few bytes at a time: {bytes}"
+        )?;
+    }
+    Ok(())
+}
+
+/// Tells what the audit says of changed traces.
+fn tell_edits<R: Print + Threads + Wait + Sync>(
+    rt: &R,
+    alloc: Global,
+    usb: &Usb,
+) -> io::Result<()> {
+    for (kind, shows) in [
+        ("left_out", "lines left out"),
+        ("repeated", "lines repeated"),
+        ("one_more", "codes one more"),
+        ("one_less", "codes one less"),
+    ] {
+        let (count, case) = match judged_as_told(rt, alloc, usb, kind) {
+            Ok((count, is_so)) => (count, word(Ok(is_so))),
+            Err(fault) => (0, word(Err(fault))),
+        };
+        println!(rt; "the USB run with {shows}, {count} of them: {case}")?;
+    }
+    Ok(())
+}
+
+/// Tells how commands over long texts end.
+fn tell_long_texts<R: Print + Threads + Wait + Sync>(rt: &R, alloc: Global) -> io::Result<()> {
+    for run in &LONG {
+        let (shows, case) = (run.shows, word(ends_whole(rt, alloc, run)));
+        println!(rt; "{shows}: {case}")?;
+    }
+    Ok(())
+}

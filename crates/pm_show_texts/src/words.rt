@@ -1,0 +1,68 @@
+//! Cases of the words that name commands.
+
+use crate::rows::stored;
+use crate::told::{Case, NotTried, lines, rows};
+use pm_cmd_ends::{Request, read_words};
+use pm_io::Files;
+use std::alloc::Global;
+
+pub fn cases<F: Files>(alloc: Global, files: &mut F) -> Result<Vec<Case>, NotTried> {
+    let refused = stored(alloc, files, "words.refused")?;
+    let named = rows(&NAMED, |row| is_read(alloc, row.0, Some(row.1)))?;
+    let refused = lines(refused.as_str(), |row| is_read(alloc, row, None))?;
+    let cases = [
+        ("the words of each command are read", named),
+        ("other words are none of the commands", refused),
+    ];
+    Ok(Vec::from_slice(alloc, &cases)?)
+}
+
+/// Whether these words name that, or nothing.
+fn is_read(alloc: Global, line: &str, named: Option<Request<'_>>) -> Result<bool, NotTried> {
+    let mut words = Vec::new(alloc);
+    for word in line.split_whitespace() {
+        words.push(String::from_str(alloc, word)?)?;
+    }
+    Ok(read_words(&words) == named)
+}
+
+macro_rules! named {
+    ($words:literal $command:ident $($fields:tt)*) => {
+        ($words, Request::$command { $($fields)* })
+    };
+}
+
+/// Words with a blank between them, and what they name.
+static NAMED: [(&str, Request); 31] = [
+    named!("serial p" Serial plan: "p"),
+    named!("serial -- p" Serial plan: "p"),
+    named!("serial p --" Serial plan: "p"),
+    named!("serial -" Serial plan: "-"),
+    named!("serial -- --" Serial plan: "--"),
+    named!("serial -- -p" Serial plan: "-p"),
+    named!("check p" Check plan: "p"),
+    named!("desk p" Desk plan: "p"),
+    named!("run p" Run plan: "p", hands: 4),
+    named!("run p --hands 1" Run plan: "p", hands: 1),
+    named!("run --hands 16 p" Run plan: "p", hands: 16),
+    named!("run --hands=2 p" Run plan: "p", hands: 2),
+    named!("run p --hands=2" Run plan: "p", hands: 2),
+    named!("run --hands 3 -- p" Run plan: "p", hands: 3),
+    named!("run p --hands=3 --" Run plan: "p", hands: 3),
+    named!("run -- --hands" Run plan: "--hands", hands: 4),
+    named!("run --hands 00000000000000000016 p" Run plan: "p", hands: 16),
+    named!("audit p t" Audit plan: "p", trace: "t"),
+    named!("audit p -- -t" Audit plan: "p", trace: "-t"),
+    named!("audit -- p t" Audit plan: "p", trace: "t"),
+    named!("convert p t" Convert plan: "p", trace: "t"),
+    named!("times p t" Times plan: "p", trace: "t"),
+    named!("times - -" Times plan: "-", trace: "-"),
+    named!("why p t d" Why plan: "p", trace: "t", device: "d"),
+    named!("why p t -- d" Why plan: "p", trace: "t", device: "d"),
+    named!("why p -- t --" Why plan: "p", trace: "t", device: "--"),
+    named!("make 0 1" Make number: 0, devices: 1),
+    named!("make 7 1024" Make number: 7, devices: 1024),
+    named!("make 18446744073709551615 3" Make number: u64::MAX, devices: 3),
+    named!("make 00000000000000000007 01" Make number: 7, devices: 1),
+    named!("make -- 7 2" Make number: 7, devices: 2),
+];

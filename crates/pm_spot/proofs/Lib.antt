@@ -1,0 +1,11 @@
+mod Lists
+mod IdleStageAlike
+mod SuspendStageAlike
+mod PurposeAlike
+mod ResumeStageAlike
+mod HelperStageAlike
+mod ControlStageAlike
+mod AwaitAlike
+mod StageAlike
+mod ViewsAlike
+pub mod SpotAlike

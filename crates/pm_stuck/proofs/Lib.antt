@@ -1,4 +1,0 @@
-pub mod Earlier
-pub mod Asleep
-pub mod Finishing
-pub mod Ending

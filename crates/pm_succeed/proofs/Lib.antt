@@ -1,9 +1,0 @@
-pub mod Bools
-pub mod Handing
-pub mod Calmly
-pub mod ResumeRows
-pub mod OtherRows
-pub mod Depths
-pub mod Holding
-pub mod Known
-pub mod Succeeding

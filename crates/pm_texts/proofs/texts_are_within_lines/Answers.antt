@@ -1,6 +1,0 @@
--- By the text of each event.
-use Rattle.pm_texts.proofs.OneLine.{line_clean}
-use Rattle.pm_texts.proofs.texts_are_within_lines.Goals as goal
-
-pub returns : goal.returns
-returns c = line_clean

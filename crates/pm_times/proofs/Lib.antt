@@ -1,3 +1,0 @@
-pub mod Timeless
-pub mod Deciding
-pub mod Testing

@@ -1,4 +1,0 @@
-pub mod Numbers
-pub mod Ordering
-pub mod Request
-pub mod Words
