@@ -37,7 +37,7 @@ use Rattle.pm_cmd_answers.specs.Audited.{HasVerdict, TookAll, verdict_status}
 use Rattle.pm_cmd_answers.proofs.PlanStatuses.{IsEndOver, over_plan}
 
 -- a plan is what stands in it
-make : (c : Contents) → is_plan c.lines c.trace c.domains c.devices c.links c.callers ≡ true → Plan
+abbrev make : (c : Contents) → is_plan c.lines c.trace c.domains c.devices c.links c.callers ≡ true → Plan
 make c law = record { lines = c.lines; trace = c.trace; domains = c.domains; devices = c.devices; links = c.links; callers = c.callers; law = law }
 
 same_make : (c d : Contents) → c ≡ d → (p : is_plan c.lines c.trace c.domains c.devices c.links c.callers ≡ true) (q : is_plan d.lines d.trace d.domains d.devices d.links d.callers ≡ true)
@@ -49,11 +49,11 @@ same_make c d same p q =
 pub one_plan : (a b : Plan) → contents_of a ≡ contents_of b → a ≡ b
 one_plan a b same = same_make (contents_of a) (contents_of b) same a.law b.law
 
-got : Contents → Result Contents PlanFault → Contents
+abbrev got : Contents → Result Contents PlanFault → Contents
 got other (Ok c) = c
 got other (Err f) = other
 
-same_ok : (c d : Contents) → Ok c ≡ Ok d → c ≡ d
+same_ok : (c d : Contents) → ◌≡◌ {A = Result Contents PlanFault} (Ok c) (Ok d) → c ≡ d
 same_ok c d is = ap (got c) is
 
 pub read_alike : (bytes : List ℕ) (a b : Plan) → plan_of bytes ≡ Ok (contents_of a) → plan_of bytes ≡ Ok (contents_of b) → a ≡ b

@@ -29,19 +29,19 @@ use Rattle.pm_cmd_answers.specs.Page.{AreThePlan, Exactly, FinishesAlone, IsBadT
 use Rattle.pm_cmd_answers.proofs.AuditLemmas.{read_alike}
 use Rattle.pm_cmd_answers.proofs.TraceStatuses.{found}
 
-pub zero_six : 0 ≢ 6
+pub zero_six : ◌≢◌ {A = ℕ} 0 6
 zero_six is = omega (arith, is)
 
-pub zero_one : 0 ≢ 1
+pub zero_one : ◌≢◌ {A = ℕ} 0 1
 zero_one is = omega (arith, is)
 
-pub zero_three : 0 ≢ 3
+pub zero_three : ◌≢◌ {A = ℕ} 0 3
 zero_three is = omega (arith, is)
 
-pub one_three : 1 ≢ 3
+pub one_three : ◌≢◌ {A = ℕ} 1 3
 one_three is = omega (arith, is)
 
-pub six_three : 6 ≢ 3
+pub six_three : ◌≢◌ {A = ℕ} 6 3
 six_three is = omega (arith, is)
 
 -- of three things that exclude one another one comes, each with its own status

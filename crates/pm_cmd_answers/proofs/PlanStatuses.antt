@@ -81,7 +81,7 @@ over_bytes {bytes = bytes} is_one (read plan is ending ends) = record { bytes = 
 
 pub over_plan : {Ends : Plan → Ending → Type 0} {all : Bool} (told : Option (List ℕ)) {ending : Ending} → IsPlan told → OfPlan all told Ends ending → IsEndOver told Ends ending
 over_plan None is_one ends = absurd is_one
-over_plan (Some bytes) is_one (too_long long) = let bad = rw (too_long_refused bytes long) at is_one in cc
+over_plan (Some bytes) is_one (too_long long) = let bad = rw (too_long_refused bytes long.longer) at is_one in cc
 over_plan {Ends} (Some bytes) is_one (held known holds ending ends) =
     subst (λ (b : List ℕ). IsEndOver (Some b) Ends ending) holds.told_so (over_bytes (subst (λ (b : List ℕ). IsOk (plan_of b)) (sym holds.told_so) is_one) ends)
 
