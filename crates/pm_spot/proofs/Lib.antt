@@ -1,4 +1,5 @@
 mod Lists
+mod Backward
 mod IdleStageAlike
 mod SuspendStageAlike
 mod PurposeAlike
