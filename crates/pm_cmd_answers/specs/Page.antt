@@ -24,7 +24,8 @@ pub record IsUndisturbed (status old new : ℕ) (out : Taking) : Type 0 where
 abbrev pub AreThePlan : List ℕ → Plan → Type 0
 AreThePlan bytes plan = plan_of bytes ≡ Ok (contents_of plan)
 
--- they are a plan whose run on one thread is finished, or has all the lines that the plan allows and isn't
+-- they are a plan whose run on one thread is finished, or isn't, and so has all the lines that the plan allows
+-- (`pm_law_turns::serial_ends`)
 abbrev pub FinishesAlone : List ℕ → Type 0
 FinishesAlone bytes = (plan : Plan) × AreThePlan bytes plan × IsFinished plan (reverse (serial plan))
 

@@ -12,8 +12,9 @@ ghost use Rattle.pm_cmd_trace.specs.Commands.{OfAudit, OfConvert, OfTimes, OfWhy
 ghost use Rattle.pm_cmd_answers.specs.Complete.{HasDevice};
 ghost use Rattle.pm_cmd_answers.specs.Page.{Exactly, FinishesAlone, IsBadTrace, IsCutAlone, IsLawfulTrace, IsRefusedTrace, IsRefusedWhy, IsUndisturbed, MadeFinishes, MadeIsCut, TookAlone, TookSomeRun};
 
-/// `serial` answers 0 exactly where the plan's run on one thread is finished, 6 exactly where that has all the lines that
-/// the plan allows and isn't, and 3 exactly where the bytes are no plan. At 0 and 6 it wrote the text of that run.
+/// `serial` answers 0 exactly where the plan's run on one thread is finished, 6 exactly where that isn't, and so has all the
+/// lines that the plan allows (`pm_law_turns::serial_ends`), and 3 exactly where the bytes are no plan. At 0 and 6 it wrote
+/// the text of that run.
 pub fn serial_says()
     ensures finished { (all : Bool) (plan : List ℕ) (status old new : ℕ) (out err : Taking) → IsUndisturbed status old new out
         → Answered (OfPlan all (Some plan) SerialEnds) status (Rose old new) out err → Exactly status 0 (FinishesAlone plan) }
