@@ -9,3 +9,4 @@ pub mod ScriptLemmas
 pub mod GrowLemmas
 pub mod TakeLemmas
 pub mod TakerLemmas
+pub mod TurnLemmas

@@ -6,3 +6,4 @@ pub mod Pages
 pub mod Sheets
 pub mod Takes
 pub mod Takings
+pub mod Turn

@@ -10,13 +10,14 @@ ghost use Rattle.pm_model.specs.World.{start};
 ghost use Rattle.pm_model.specs.Serial.{next_turn};
 ghost use Rattle.pm_turns.specs.Turning.{IsIndex};
 ghost use Rattle.pm_book.specs.Pages.{HasSpare, Keeps, is_full, world_of};
+ghost use Rattle.pm_book.specs.Turn.{IsTurn};
 ghost use Rattle.pm_device.specs.Parts.{IsFor};
 
 use crate::laws::all_stand_well;
 use crate::lines::Lines;
 use pm_base::{ActorId, NoMemory};
 use pm_device::Parts;
-use pm_law_bounds::lines_are_of_plan;
+use pm_law_bounds::{due_moments, lines_are_of_plan};
 use pm_law_counts::sizes;
 use pm_law_turns::serial_stops;
 use pm_model::{Line, Plan};
@@ -163,16 +164,24 @@ impl Book {
         self.state.is_finished(&self.plan)
     }
 
+    // Who writes the next line on one thread, and when, by the index of turns.
+    fn turn_by_index(&self) -> Option<(ActorId, u64)>
+        ensures turn { result ≡ next_turn self.now.plan self.now.lines }
+        ensures in_range { IfSome result (λ turn. IsActor self.now.plan turn.0) }
+    {
+        self.turns.next()
+    }
+
     /// Who writes the next line on one thread, and when; nobody exactly where the run is finished. It takes
     /// no memory, and a number of steps that is logarithmic in the number of actors.
     pub fn next_turn(&self) -> Option<(ActorId, u64)>
         ensures turn { result ≡ next_turn self.now.plan self.now.lines }
-        ensures in_range { IfSome result (λ turn. IsActor self.now.plan turn.0) }
         ensures none { IfNone result (IsFinished self.now.plan self.now.lines) }
-        ensures some { IfSome result (λ turn. ¬ IsFinished self.now.plan self.now.lines) }
+        ensures some { IfSome result (λ turn. IsTurn self.now turn.0 turn.1) }
     {
+        due_moments();
         serial_stops();
         let _ = self.lines();
-        self.turns.next()
+        self.turn_by_index()
     }
 }

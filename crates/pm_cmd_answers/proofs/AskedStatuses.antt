@@ -5,7 +5,7 @@ use Rattle.std.specs.declared.option.Option.{Option}
 use Rattle.pm_cmd_ends.specs.Ending.{Answered, Ending, Failed, Taking, status_of}
 use Rattle.pm_cmd_ends.specs.declared.ending.TheConstants.{NO_MEMORY}
 use Rattle.pm_cmd_ends.specs.Request.{Asked, Audit, Check, Convert, Desk, Make, Run, Serial, Times, Why}
-use Rattle.pm_cmd_run.specs.Commands.{AskedEnds}
+use Rattle.pm_cmd_top.specs.Commands.{AskedEnds}
 use Rattle.pm_cmd_answers.specs.Complete.{HasAll, IsMissing, IsRefused, statuses_of}
 use Rattle.pm_cmd_answers.proofs.PlanStatuses.{IsRefusal, check_statuses, make_statuses, own_statuses, plan_missing, plan_refusal, plan_refused, serial_statuses, thread_statuses}
 use Rattle.pm_cmd_answers.proofs.TraceStatuses.{audit_statuses, convert_statuses, times_statuses, trace_long, trace_missing, why_statuses, why_trace_refused, why_unknown}

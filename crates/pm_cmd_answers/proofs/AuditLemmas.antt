@@ -30,9 +30,9 @@ use Rattle.pm_serial.specs.declared.running.End.TheVariants as end
 use Rattle.pm_cmd_ends.specs.Ending.{Answered, AtLimit, Done, Ending, Failed, NotLawful, Refused, SaidNo, Taking, Took, TookText, ended, no_memory, status_of, text_of, unread, unwritten}
 use Rattle.pm_cmd_ends.specs.Reading.{Holds, OfBytes, OfPlan, held, read, refused, too_long}
 use Rattle.pm_cmd_ends.specs.Said.{finished_line, no_line, open_line, verdict_line}
-use Rattle.pm_cmd_run.specs.Runs.{IsRun, RunEnds, SerialEnds, cut, run_ending, whole}
-use Rattle.pm_cmd_trace.specs.Commands.{AuditEnds, ConvertEnds, OfAudit, OfConvert, is_finished, is_open}
-use Rattle.pm_cmd_trace.specs.Traces.{OfTrace, bad, stands, too_many}
+use Rattle.pm_cmd_top.specs.Runs.{IsRun, RunEnds, SerialEnds, cut, run_ending, whole}
+use Rattle.pm_cmd_top.specs.TraceCommands.{AuditEnds, ConvertEnds, OfAudit, OfConvert, is_finished, is_open}
+use Rattle.pm_cmd_top.specs.Traces.{OfTrace, bad, stands, too_many}
 use Rattle.pm_cmd_answers.specs.Audited.{HasVerdict, TookAll, verdict_status}
 use Rattle.pm_cmd_answers.proofs.PlanStatuses.{IsEndOver, over_plan}
 

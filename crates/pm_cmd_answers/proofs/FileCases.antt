@@ -13,7 +13,8 @@ use Rattle.pm_base.specs.declared.limits.TheConstants.{TRACE_BYTES}
 use Rattle.pm_planread.specs.PlanOf.{Contents, plan_of}
 use Rattle.pm_planread.specs.declared.refusal.PlanFault.{PlanFault}
 use Rattle.pm_cmd_ends.specs.Request.{Asked, Audit, Check, Convert, Desk, Make, Run, Serial, Times, Why}
-use Rattle.pm_cmd_answers.specs.Complete.{HasAll, HasDevice, IsLong, IsMissing, IsNoPlan, IsPlan, IsRefused, IsShort, LacksDevice, Names}
+use Rattle.pm_cmd_ends.specs.Told.{HasDevice, IsNoPlan, IsPlan, LacksDevice, Names}
+use Rattle.pm_cmd_answers.specs.Complete.{HasAll, IsLong, IsMissing, IsRefused, IsShort}
 
 -- a name is among others or isn't
 decided : (name : List ℕ) (names : List (List ℕ)) (found : Bool) → list_any (bytes_eq name) names ≡ found → Contains names name ⊎ (¬ Contains names name)

@@ -20,11 +20,11 @@ use Rattle.pm_serial.specs.declared.running.End.{End}
 use Rattle.pm_serial.specs.declared.running.End.TheVariants as end
 use Rattle.pm_cmd_ends.specs.Ending.{Answered, Ending, Failed, NotLawful, Taking, Took, TookText, ended, no_memory, status_of, text_of, unread, unwritten}
 use Rattle.pm_cmd_ends.specs.Reading.{OfBytes, OfPlan, held, read, refused, too_long}
-use Rattle.pm_cmd_run.specs.Commands.{CheckEnds, MakeEnds}
-use Rattle.pm_cmd_run.specs.Runs.{IsRun, RunEnds, SerialEnds, cut, run_ending, whole}
-use Rattle.pm_cmd_trace.specs.Commands.{AuditEnds, ConvertEnds, OfWhy, TimesEnds, WhyEnds, is_finished, is_open, named, unknown}
-use Rattle.pm_cmd_trace.specs.Traces.{OfTrace, bad, stands, too_many}
-use Rattle.pm_cmd_answers.specs.Complete.{HasDevice, LacksDevice, Names}
+use Rattle.pm_cmd_top.specs.Commands.{CheckEnds, MakeEnds}
+use Rattle.pm_cmd_top.specs.Runs.{IsRun, RunEnds, SerialEnds, cut, run_ending, whole}
+use Rattle.pm_cmd_top.specs.TraceCommands.{AuditEnds, ConvertEnds, OfWhy, TimesEnds, WhyEnds, is_finished, is_open, named, unknown}
+use Rattle.pm_cmd_top.specs.Traces.{OfTrace, bad, stands, too_many}
+use Rattle.pm_cmd_ends.specs.Told.{HasDevice, LacksDevice, Names}
 use Rattle.pm_cmd_answers.specs.Page.{AreThePlan, Exactly, FinishesAlone, IsBadTrace, IsCutAlone, IsLawfulTrace, IsRefusedTrace, IsRefusedWhy, IsUndisturbed, MadeFinishes, MadeIsCut, TookAlone, TookSomeRun}
 use Rattle.pm_cmd_answers.proofs.AuditLemmas.{read_alike}
 use Rattle.pm_cmd_answers.proofs.TraceStatuses.{found}

@@ -11,12 +11,13 @@ use Rattle.pm_planread.specs.PlanOf.{contents_of, plan_of}
 use Rattle.pm_plantree.specs.declared.place.Section.TheVariants.{Top}
 use Rattle.pm_serial.specs.declared.running.End.{End}
 use Rattle.pm_serial.specs.declared.running.End.TheVariants as end
-use Rattle.pm_cmd_run.specs.Runs.{RunEnds, SerialEnds, cut, run_ending, whole}
+use Rattle.pm_cmd_top.specs.Runs.{RunEnds, SerialEnds, cut, run_ending, whole}
 use Rattle.pm_cmd_ends.specs.Ending.{Answered, Ending, Failed, Taking, TookTextPart, ended, no_memory, status_of, text_of, unread, unwritten}
 use Rattle.pm_cmd_ends.specs.Reading.{OfBytes, OfPlan, held, read, refused, too_long}
 use Rattle.pm_cmd_ends.specs.declared.ending.TheConstants.{NO_MEMORY, REFUSED}
-use Rattle.pm_cmd_run.specs.Commands.{CheckEnds, MakeEnds}
-use Rattle.pm_cmd_answers.specs.Complete.{IsNoPlan, IsPlan, count_statuses, refused_statuses, run_statuses}
+use Rattle.pm_cmd_top.specs.Commands.{CheckEnds, MakeEnds}
+use Rattle.pm_cmd_ends.specs.Told.{IsNoPlan, IsPlan}
+use Rattle.pm_cmd_answers.specs.Complete.{count_statuses, refused_statuses, run_statuses}
 
 -- an ending of which nothing is written
 pub record IsRefusal (ending : Ending) : Type 0 where

@@ -12,9 +12,10 @@ use Rattle.pm_planread.specs.declared.refusal.PlanFault.{PlanFault}
 use Rattle.pm_cmd_ends.specs.Ending.{Ending, status_of}
 use Rattle.pm_cmd_ends.specs.Reading.{OfPlan}
 use Rattle.pm_cmd_ends.specs.declared.ending.TheConstants.{DONE, NOT_LAWFUL}
-use Rattle.pm_cmd_trace.specs.Commands.{AuditEnds, OfAudit, OfConvert, OfDevice, OfTimes, OfWhy, is_finished, is_open, named, unknown}
-use Rattle.pm_cmd_trace.specs.Traces.{OfTrace, bad, stands, too_many}
-use Rattle.pm_cmd_answers.specs.Complete.{HasDevice, IsLong, IsPlan, IsShort, LacksDevice, Names, trace_statuses}
+use Rattle.pm_cmd_top.specs.TraceCommands.{AuditEnds, OfAudit, OfConvert, OfDevice, OfTimes, OfWhy, is_finished, is_open, named, unknown}
+use Rattle.pm_cmd_top.specs.Traces.{OfTrace, bad, stands, too_many}
+use Rattle.pm_cmd_ends.specs.Told.{HasDevice, IsPlan, LacksDevice, Names}
+use Rattle.pm_cmd_answers.specs.Complete.{IsLong, IsShort, trace_statuses}
 use Rattle.pm_cmd_answers.proofs.PlanStatuses.{IsEndOver, IsRefusal, over_plan}
 
 -- a trace of no more bytes than it may have: it is the text of no lawful list, or the command is done with its list

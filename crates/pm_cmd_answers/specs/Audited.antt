@@ -7,7 +7,7 @@ use Rattle.pm_planread.specs.PlanOf.{contents_of, plan_of}
 use Rattle.pm_cmd_ends.specs.Ending.{Answered, Failed, Taking, Took}
 use Rattle.pm_cmd_ends.specs.Reading.{OfPlan}
 use Rattle.pm_cmd_ends.specs.Said.{verdict_line}
-use Rattle.pm_cmd_trace.specs.Commands.{OfAudit}
+use Rattle.pm_cmd_top.specs.TraceCommands.{OfAudit}
 
 -- these bytes are a plan, and of those, no more than a trace may have, this is said by it: they are the text of a lawful
 -- list that is finished, or of one that isn't, or this line of theirs is the first bad one

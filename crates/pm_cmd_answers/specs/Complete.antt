@@ -1,7 +1,7 @@
 -- What a command needs of its files, and which statuses it may answer (this project's own). Of a file its bytes are told, or
 -- nothing is.
-use Rattle.std.specs.Prelude.{ℕ, ◌<◌, ◌≤◌, ◌⊎◌, List, [], ◌∷◌, Option, Contains, IsErr, IsNone, IsOk, IsOkAnd, IsSomeAnd, length, map}
-use Rattle.pm_planread.specs.PlanOf.{Contents, plan_of}
+use Rattle.std.specs.Prelude.{ℕ, ◌<◌, ◌≤◌, ◌⊎◌, List, [], ◌∷◌, Option, IsNone, IsSomeAnd, length}
+use Rattle.pm_cmd_ends.specs.Told.{HasDevice, IsNoPlan, IsPlan, LacksDevice}
 use Rattle.pm_cmd_ends.specs.Request.{Asked, Audit, Check, Convert, Desk, Make, Run, Serial, Times, Why}
 
 -- where the command is refused, or a file of its isn't there
@@ -31,23 +31,6 @@ statuses_of (Audit plan trace) = trace_statuses
 statuses_of (Convert plan trace) = trace_statuses
 statuses_of (Times plan trace) = trace_statuses
 statuses_of (Why plan trace device) = trace_statuses
-
--- what is told of a file is a plan, or is none
-abbrev pub IsPlan : Option (List ℕ) → Type 0
-IsPlan told = IsSomeAnd told (λ bytes. IsOk (plan_of bytes))
-
-abbrev pub IsNoPlan : Option (List ℕ) → Type 0
-IsNoPlan told = IsSomeAnd told (λ bytes. IsErr (plan_of bytes))
-
--- it is a plan, and a device of it has the name, or none has
-abbrev pub Names : List ℕ → Contents → Type 0
-Names name plan = Contains (map (λ row. row.name) plan.devices) name
-
-abbrev pub HasDevice : Option (List ℕ) → List ℕ → Type 0
-HasDevice told name = IsSomeAnd told (λ bytes. IsOkAnd (plan_of bytes) (Names name))
-
-abbrev pub LacksDevice : Option (List ℕ) → List ℕ → Type 0
-LacksDevice told name = IsSomeAnd told (λ bytes. IsOkAnd (plan_of bytes) (λ plan. ¬ Names name plan))
 
 -- it has as many bytes as a trace may have, or more
 abbrev pub IsShort : Option (List ℕ) → Type 0

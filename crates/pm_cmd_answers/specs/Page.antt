@@ -12,7 +12,7 @@ use Rattle.pm_make.specs.Generator.{IsGenerated}
 use Rattle.pm_planread.specs.PlanOf.{contents_of, plan_of}
 use Rattle.pm_cmd_ends.specs.Ending.{Answered, Ending, Failed, Taking, Took}
 use Rattle.pm_cmd_ends.specs.Reading.{OfPlan}
-use Rattle.pm_cmd_answers.specs.Complete.{HasDevice, LacksDevice}
+use Rattle.pm_cmd_ends.specs.Told.{HasDevice, LacksDevice}
 
 -- a call that answered this status was disturbed by nothing: no read and no write failed, and memory didn't run out
 pub record IsUndisturbed (status old new : ℕ) (out : Taking) : Type 0 where

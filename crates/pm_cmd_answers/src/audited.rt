@@ -3,10 +3,10 @@
 ghost use Rattle.std.specs.Prelude.{ℕ, Bool, List, Some};
 ghost use Rattle.pm_io.specs.Faults.{Rose};
 ghost use Rattle.pm_model.specs.Verdict.{Verdict, YesFinished, YesOpen};
-ghost use Rattle.pm_cmd_run.specs.Runs.{RunEnds, SerialEnds};
+ghost use Rattle.pm_cmd_top.specs.Runs.{RunEnds, SerialEnds};
 ghost use Rattle.pm_cmd_ends.specs.Ending.{Answered, Taking};
 ghost use Rattle.pm_cmd_ends.specs.Reading.{OfPlan};
-ghost use Rattle.pm_cmd_trace.specs.Commands.{OfConvert};
+ghost use Rattle.pm_cmd_top.specs.TraceCommands.{OfConvert};
 ghost use Rattle.pm_cmd_answers.specs.Audited.{AuditSays, HasVerdict, TookAll};
 
 /// `audit` answers exactly what is so: status 0 and `yes finished` or `yes open` where the bytes are the text of a lawful

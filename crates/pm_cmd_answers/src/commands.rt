@@ -4,7 +4,7 @@ ghost use Rattle.std.specs.Prelude.{ℕ, ◌⊎◌, Bool, List, Option, Contains
 ghost use Rattle.pm_io.specs.Faults.{Rose};
 ghost use Rattle.pm_cmd_ends.specs.Ending.{Answered, Failed, Taking};
 ghost use Rattle.pm_cmd_ends.specs.Request.{Asked, asked_by};
-ghost use Rattle.pm_cmd_run.specs.Commands.{AskedEnds};
+ghost use Rattle.pm_cmd_top.specs.Commands.{AskedEnds};
 ghost use Rattle.pm_cmd_answers.specs.Complete.{HasAll, IsMissing, IsRefused, refused_statuses, statuses_of};
 
 /// A command that has all that it needs answers one of its own statuses, where neither reading nor writing

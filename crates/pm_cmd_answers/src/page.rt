@@ -3,13 +3,13 @@
 
 ghost use Rattle.std.specs.Prelude.{◌≡◌, ◌⊎◌, ℕ, Bool, List, Some, IsErr, IsOk};
 ghost use Rattle.pm_io.specs.Faults.{Rose};
-ghost use Rattle.pm_cmd_run.specs.Commands.{CheckEnds, MakeEnds};
-ghost use Rattle.pm_cmd_run.specs.Runs.{RunEnds, SerialEnds};
+ghost use Rattle.pm_cmd_top.specs.Commands.{CheckEnds, MakeEnds};
+ghost use Rattle.pm_cmd_top.specs.Runs.{RunEnds, SerialEnds};
 ghost use Rattle.pm_planread.specs.PlanOf.{plan_of};
 ghost use Rattle.pm_cmd_ends.specs.Ending.{Answered, Taking};
 ghost use Rattle.pm_cmd_ends.specs.Reading.{OfPlan};
-ghost use Rattle.pm_cmd_trace.specs.Commands.{OfAudit, OfConvert, OfTimes, OfWhy};
-ghost use Rattle.pm_cmd_answers.specs.Complete.{HasDevice};
+ghost use Rattle.pm_cmd_top.specs.TraceCommands.{OfAudit, OfConvert, OfTimes, OfWhy};
+ghost use Rattle.pm_cmd_ends.specs.Told.{HasDevice};
 ghost use Rattle.pm_cmd_answers.specs.Page.{Exactly, FinishesAlone, IsBadTrace, IsCutAlone, IsLawfulTrace, IsRefusedTrace, IsRefusedWhy, IsUndisturbed, MadeFinishes, MadeIsCut, TookAlone, TookSomeRun};
 
 /// `serial` answers 0 exactly where the plan's run on one thread is finished, 6 exactly where that isn't, and so has all the

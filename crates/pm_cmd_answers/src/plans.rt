@@ -3,10 +3,10 @@
 ghost use Rattle.std.specs.Prelude.{ℕ, Bool, List, Some, None, Contains, IsErr, IsOk, IsTrue};
 ghost use Rattle.pm_io.specs.Faults.{Rose};
 ghost use Rattle.pm_planread.specs.PlanOf.{plan_of};
-ghost use Rattle.pm_cmd_run.specs.Runs.{RunEnds, SerialEnds};
+ghost use Rattle.pm_cmd_top.specs.Runs.{RunEnds, SerialEnds};
 ghost use Rattle.pm_cmd_ends.specs.Ending.{Answered, Failed, Taking};
 ghost use Rattle.pm_cmd_ends.specs.Reading.{OfPlan};
-ghost use Rattle.pm_cmd_run.specs.Commands.{CheckEnds, MakeEnds};
+ghost use Rattle.pm_cmd_top.specs.Commands.{CheckEnds, MakeEnds};
 ghost use Rattle.pm_cmd_answers.specs.Complete.{count_statuses, refused_statuses, run_statuses};
 
 /// `serial` says that a plan is refused exactly where its bytes are none, unless reading or memory fails

@@ -6,8 +6,9 @@ ghost use Rattle.pm_io.specs.Faults.{Rose};
 ghost use Rattle.pm_planread.specs.PlanOf.{plan_of};
 ghost use Rattle.pm_cmd_ends.specs.Ending.{Answered, Failed, Taking};
 ghost use Rattle.pm_cmd_ends.specs.Reading.{OfPlan};
-ghost use Rattle.pm_cmd_trace.specs.Commands.{OfAudit, OfConvert, OfTimes, OfWhy};
-ghost use Rattle.pm_cmd_answers.specs.Complete.{HasDevice, trace_statuses};
+ghost use Rattle.pm_cmd_top.specs.TraceCommands.{OfAudit, OfConvert, OfTimes, OfWhy};
+ghost use Rattle.pm_cmd_ends.specs.Told.{HasDevice};
+ghost use Rattle.pm_cmd_answers.specs.Complete.{trace_statuses};
 
 /// Where the plan's bytes are one, the trace has no more bytes than a trace may have, and neither reading nor
 /// writing fails, `audit`, `convert` and `times` answer 0, 1 or 7, and so does `why` for a device of the plan.

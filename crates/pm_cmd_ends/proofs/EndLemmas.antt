@@ -1,5 +1,5 @@
 -- What the ending of a command says.
-use Rattle.std.proofs.Common.{◌≡◌, ◌≢◌, ℕ, List, Ok, Err, refl, subst, sym, ◌∙◌}
+use Rattle.std.proofs.Common.{◌≡◌, ◌≢◌, ℕ, List, Ok, Err, subst, sym, ◌∙◌}
 use Rattle.pm_cmd_ends.specs.Coming.{Came, Work, Wrote, work_message, work_status}
 use Rattle.pm_cmd_ends.specs.Ending.{Answered, AtLimit, Done, Ending, Failed, NotLawful, Refused, SaidNo, Taking, Told, Took, TookPart, ended, no_memory, status_of, unread, unwritten}
 use Rattle.pm_cmd_ends.specs.declared.ending.Fault.{Fault}

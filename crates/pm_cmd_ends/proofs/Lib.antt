@@ -5,3 +5,4 @@ pub mod EndLemmas
 pub mod OutputLemmas
 pub mod ReadLemmas
 pub mod Writing
+pub mod CalmLemmas

@@ -1,13 +1,12 @@
 -- What comes of a plan's file.
-use Rattle.std.proofs.Common.{◌≡◌, ℕ, ◌<◌, ◌≤◌, Bool, List, Option, Ok, Err, IfSome, length, refl}
-use Rattle.std.specs.Prelude.{IsSome, IsTrue, Result}
+use Rattle.std.proofs.Common.{◌≡◌, ℕ, Bool, List, Option, Err, refl}
 use Rattle.pm_base.specs.declared.limits.TheConstants.{PLAN_BYTES}
 use Rattle.pm_io.specs.declared.reading.FileFault.{FileFault}
 use Rattle.pm_io.specs.declared.reading.FileFault.TheVariants as file
 use Rattle.pm_model.specs.declared.plan.Plan.{Plan}
 use Rattle.pm_planread.specs.declared.refusal.PlanFault.{PlanFault}
 use Rattle.pm_planread.specs.declared.refusal.PlanFault.TheVariants as plan
-use Rattle.pm_planread.specs.PlanOf.{IsFaultOf, contents_of, plan_of}
+use Rattle.pm_planread.specs.PlanOf.{IsFaultOf, plan_of}
 use Rattle.pm_cmd_ends.specs.Coming.{Came, IsUnread, Work, file_fault, plan_fault}
 use Rattle.pm_cmd_ends.specs.Ending.{Ending, Taking, TookNothing}
 use Rattle.pm_cmd_ends.specs.Reading.{Holds, IsRead, IsTooLong, OfBytes, OfPlan, held, read, refused, too_long}

@@ -8,3 +8,4 @@ pub mod Pieces
 pub mod Promised
 pub mod Reading
 pub mod Said
+pub mod Told

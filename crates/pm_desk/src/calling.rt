@@ -6,15 +6,18 @@ ghost use Rattle.pm_desk.specs.Slips.{with_receipt, with_stop};
 
 use crate::desk::{Desk, fresh_book};
 use crate::pass::{Pass, Receipt, Stop};
-use crate::returns::returned_in;
+use crate::returns::{is_return, returned_in};
+use crate::roll::Roll;
 use pm_base::{ActorId, NoMemory};
 use pm_book::Book;
 use pm_gate::{Clock, Gate};
-use pm_hands::{Turn, Wrote, counted, run_callback, take_turn, try_step};
+use pm_hands::{Turn, Wrote, counted, nap, run_callback, step_now, take_turn, try_step};
 use pm_model::{Command, Line, Plan};
 use std::alloc::Global;
 use std::sync::Wait;
-use std::thread;
+
+/// How often a call naps for callers that are awaited, at most: for a second, by the system's clock.
+const NAPS: u32 = 500;
 
 /// What a call found in one hold of the lock.
 #[derive(Clone, Copy, Debug, PartialEq, Eq)]
@@ -91,11 +94,17 @@ fn step_own(book: &mut Book, caller: u32, now: u64) -> Result<Option<Wrote>, NoM
     }
 }
 
-// Lets an actor go on by one line, this caller first.
-fn step(book: &mut Book, caller: u32, now: u64) -> Result<Found, NoMemory> {
-    if let Some(wrote) = step_own(book, caller, now)? {
-        return Ok(Found::Wrote(wrote));
+// Lets an actor go on by one line that may be written now.
+fn step_waiting(book: &mut Book, now: u64) -> Result<Found, NoMemory> {
+    match step_now(book, now)? {
+        Some(wrote) => Ok(Found::Wrote(wrote)),
+        None if book.is_full() => Ok(Found::Over),
+        None => Ok(Found::Waits),
     }
+}
+
+// Lets an actor go on by one line, at a later moment too.
+fn step_on(book: &mut Book, now: u64) -> Result<Found, NoMemory> {
     match take_turn(book, now)? {
         Turn::Wrote(wrote) => Ok(Found::Wrote(wrote)),
         Turn::Waits => Ok(Found::Waits),
@@ -103,17 +112,82 @@ fn step(book: &mut Book, caller: u32, now: u64) -> Result<Found, NoMemory> {
     }
 }
 
+// Lets an actor go on by one line, this caller first.
+fn step(book: &mut Book, caller: u32, now: u64, roll: Option<&Roll>) -> Result<Found, NoMemory> {
+    if let Some(wrote) = step_own(book, caller, now)? {
+        return Ok(Found::Wrote(wrote));
+    }
+    if roll.is_some_and(|roll| roll.awaits()) {
+        step_waiting(book, now)
+    } else {
+        step_on(book, now)
+    }
+}
+
+// Takes note of the last line, with which a call may have returned.
+fn note(book: &Book, roll: Option<&Roll>) {
+    if let Some(roll) = roll {
+        if book.lines().last().is_some_and(|line| is_return(line)) {
+            roll.returned();
+        }
+    }
+}
+
 // What a call does in one hold of the lock: it looks whether its command has returned with one of the lines
 // behind the first so many, and else lets an actor go on.
-fn go_on(book: &mut Book, caller: u32, seen: usize, now: u64) -> Result<Look, NoMemory> {
+fn go_on(
+    book: &mut Book,
+    caller: u32,
+    seen: usize,
+    now: u64,
+    roll: Option<&Roll>,
+) -> Result<Look, NoMemory> {
     let lines = book.lines();
     let count = lines.len();
     if let Some(code) = code_behind(lines, caller, seen) {
         let found = Found::Returned(code);
         return Ok(Look { found, seen: count });
     }
-    let found = step(book, caller, now)?;
+    let found = step(book, caller, now, roll)?;
+    if let Found::Wrote(_) = found {
+        note(book, roll);
+    }
     Ok(Look { found, seen: count })
+}
+
+// Puts a command at the end of a caller's script, under the lock, and says how many lines there are.
+fn begin_call<R: Wait>(
+    rt: &R,
+    desk: &Desk,
+    caller: u32,
+    command: Command,
+    roll: Option<&Roll>,
+) -> Result<usize, Stop>
+    requires in_range { caller < length desk.now.plan.callers }
+    requires of_plan { is_command (length desk.now.plan.devices) command ≡ true }
+{
+    let mut book = desk.book.lock(rt);
+    let seen = extend(desk.alloc, &mut book, &desk.plan, caller, command)?;
+    if let Some(roll) = roll {
+        roll.called();
+    }
+    Ok(seen)
+}
+
+// Naps where no line may be written now, and says how often it did, one behind the other, while callers were
+// awaited. Where that was for long, nobody is awaited any longer.
+fn wait<C: Clock>(clock: &C, now: u64, naps: u32, roll: Option<&Roll>) -> u32 {
+    nap(clock, now);
+    match roll {
+        Some(roll) if roll.awaits() => {
+            if naps < NAPS {
+                return naps + 1;
+            }
+            roll.close();
+            0
+        }
+        _ => 0,
+    }
 }
 
 // Puts a command at the end of a caller's script, and lets actors go on until it has returned.
@@ -122,30 +196,27 @@ fn run_command<R: Wait, C: Clock, G: Gate>(
     desk: &Desk,
     caller: u32,
     command: Command,
+    roll: Option<&Roll>,
     clock: &C,
     gate: &G,
 ) -> Result<i32, Stop>
     requires in_range { caller < length desk.now.plan.callers }
     requires of_plan { is_command (length desk.now.plan.devices) command ≡ true }
 {
-    let mut seen = extend(
-        desk.alloc,
-        &mut desk.book.lock(rt),
-        &desk.plan,
-        caller,
-        command,
-    )?;
+    let mut seen = begin_call(rt, desk, caller, command, roll)?;
+    let mut naps = 0;
     for _ in rt.forever() {
         let now = counted(clock.now());
-        let look = go_on(&mut desk.book.lock(rt), caller, seen, now)?;
+        let look = go_on(&mut desk.book.lock(rt), caller, seen, now, roll)?;
         seen = look.seen;
         match look.found {
             Found::Returned(code) => return Ok(code),
-            Found::Wrote(Wrote::Line) => {}
+            Found::Wrote(Wrote::Line) => naps = 0,
             Found::Wrote(Wrote::Began(callback)) => {
+                naps = 0;
                 run_callback(rt, &desk.book, callback, now, clock, gate);
             }
-            Found::Waits => thread::yield_now(),
+            Found::Waits => naps = wait(clock, now, naps, roll),
             Found::Over => break,
         }
     }
@@ -159,6 +230,7 @@ impl Pass {
         rt: &R,
         desk: &Desk,
         command: Command,
+        roll: Option<&Roll>,
         clock: &C,
         gate: &G,
     ) -> Result<i32, Stop>
@@ -168,9 +240,35 @@ impl Pass {
         ensures err { OnErr result (self.new ≡ self.old) }
     {
         self.receipts.reserve(1)?;
-        let code = run_command(rt, desk, self.caller, command, clock, gate)?;
+        let code = run_command(rt, desk, self.caller, command, roll, clock, gate)?;
         self.receipts.push_reserved(Receipt { command, code });
         Ok(code)
+    }
+
+    // Makes a call unless one was stopped before, and keeps why it is stopped.
+    fn call_by<R: Wait, C: Clock, G: Gate>(
+        &mut self,
+        rt: &R,
+        desk: &Desk,
+        command: Command,
+        roll: Option<&Roll>,
+        clock: &C,
+        gate: &G,
+    ) -> Result<i32, Stop>
+        requires in_range { self.old.caller < length desk.now.plan.callers }
+        requires of_plan { is_command (length desk.now.plan.devices) command ≡ true }
+        ensures ok { IfOk result (λ code. self.new ≡ with_receipt self.old (record { command = command; code = code })) }
+        ensures stop { IfErr result (λ why. self.new ≡ with_stop self.old why) }
+        ensures again { IfSome self.old.stopped (λ why. result ≡ Err why) }
+    {
+        if let Some(why) = self.stopped {
+            return Err(why);
+        }
+        let called = self.try_call(rt, desk, command, roll, clock, gate);
+        if let Err(why) = called {
+            self.stopped = Some(why);
+        }
+        called
     }
 
     /// Calls a helper: puts the command at the end of the caller's script, and lets any actor write that may,
@@ -199,12 +297,30 @@ impl Pass {
         ensures stop { IfErr result (λ why. self.new ≡ with_stop self.old why) }
         ensures again { IfSome self.old.stopped (λ why. result ≡ Err why) }
     {
-        if let Some(why) = self.stopped {
-            return Err(why);
-        }
-        let called = self.try_call(rt, desk, command, clock, gate);
-        if let Err(why) = called {
-            self.stopped = Some(why);
+        self.call_by(rt, desk, command, None, clock, gate)
+    }
+
+    /// Calls a helper as `call` does, by a caller of this roll, which is awaited again when the call has returned.
+    /// While a caller of the roll is awaited, no moment at which a line is due later counts as now. All passes
+    /// that are on the roll call so, and each leaves it behind its last call.
+    pub fn call_on<R: Wait, C: Clock + Sync, G: Gate + Sync>(
+        &mut self,
+        rt: &R,
+        desk: &Desk,
+        command: Command,
+        roll: &Roll,
+        clock: &C,
+        gate: &G,
+    ) -> Result<i32, Stop>
+        requires in_range { self.old.caller < length desk.now.plan.callers }
+        requires of_plan { is_command (length desk.now.plan.devices) command ≡ true }
+        ensures ok { IfOk result (λ code. self.new ≡ with_receipt self.old (record { command = command; code = code })) }
+        ensures stop { IfErr result (λ why. self.new ≡ with_stop self.old why) }
+        ensures again { IfSome self.old.stopped (λ why. result ≡ Err why) }
+    {
+        let called = self.call_by(rt, desk, command, Some(roll), clock, gate);
+        if called.is_err() {
+            roll.close();
         }
         called
     }

@@ -4,7 +4,7 @@ ghost use Rattle.std.specs.Prelude.{◌≡◌, ◌<◌, ◌^◌, IfErr, IfNone, 
 ghost use Rattle.pm_law_gets.specs.Alone.{IsAlone};
 ghost use Rattle.pm_book.specs.Growing.{script_of};
 ghost use Rattle.pm_model.specs.Lawful.{IsLawful};
-ghost use Rattle.pm_serial.specs.Ends.{HasTime};
+ghost use Rattle.pm_book.specs.Turn.{HasTime};
 ghost use Rattle.pm_desk.specs.Agreeing.{Agrees, AllAgree};
 ghost use Rattle.pm_desk.specs.Returns.{calls};
 ghost use Rattle.pm_desk.specs.Slips.{are_apart, pass_of};

@@ -8,7 +8,9 @@ mod closing;
 mod desk;
 mod pass;
 mod returns;
+mod roll;
 
 pub use closing::{CloseFault, Closed};
 pub use desk::Desk;
 pub use pass::{Pass, Receipt, Stop};
+pub use roll::Roll;

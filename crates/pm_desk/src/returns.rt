@@ -38,6 +38,14 @@ pub fn returned_in(caller: u32, line: &Line) -> Option<i32>
     }
 }
 
+// Whether a command of any caller returns with a line.
+pub(crate) fn is_return(line: &Line) -> bool {
+    match line.actor {
+        ActorId::Caller(caller) => returned_in(caller, line).is_some(),
+        _ => false,
+    }
+}
+
 // The receipt of the command that this caller called last, where a line returns from it.
 fn receipt_of(caller: u32, line: &Line, last: Option<Command>) -> Option<Receipt>
     ensures { result ≡ receipt_of caller line.now last }

@@ -18,8 +18,8 @@ use Rattle.pm_model.specs.World.{move, stage_at}
 use Rattle.pm_book.specs.declared.steps.Step.{Step}
 use Rattle.pm_book.specs.declared.steps.Step.TheVariants as step
 use Rattle.pm_book.specs.Pages.{Adds, Pages, by_move, by_running, by_stage, has_written, is_full, moment_from, step_answer, world_of, written}
-use Rattle.pm_serial.specs.Ends.{HasTime, IsTurn, says_running}
-use Rattle.pm_serial.proofs.TurnLemmas.{runs_behind, step_alone}
+use Rattle.pm_book.specs.Turn.{HasTime, IsTurn, says_running}
+use Rattle.pm_book.proofs.TurnLemmas.{runs_behind, step_alone}
 use Rattle.pm_state.specs.Turns.{is_running, running_due}
 use Rattle.pm_hands.specs.declared.turn.Wrote.{Wrote}
 use Rattle.pm_hands.specs.Turning.{Begins, ByWrote, IsOver}

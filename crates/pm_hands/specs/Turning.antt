@@ -6,7 +6,7 @@ use Rattle.pm_model.specs.Derived.{begun}
 use Rattle.pm_model.specs.Lawful.{IsFinished}
 use Rattle.pm_model.specs.PlanRows.{ms_of}
 use Rattle.pm_book.specs.Pages.{Adds, Pages, is_full, world_of}
-use Rattle.pm_serial.specs.Ends.{HasTime}
+use Rattle.pm_book.specs.Turn.{HasTime}
 use Rattle.pm_state.specs.Standing.{IsActor}
 use Rattle.pm_state.specs.Turns.{is_running}
 use Rattle.pm_hands.specs.declared.turn.Callback.{Callback}

@@ -1,9 +1,10 @@
 //! Hands: threads that take turns with books.
 
-ghost use Rattle.std.specs.Prelude.{◌≡◌, ◌≤◌, ◌<◌, ◌-◌, ◌^◌, ◌↔◌, IsTrue, length, min};
+ghost use Rattle.std.specs.Prelude.{◌≡◌, ◌≤◌, ◌<◌, ◌-◌, ◌^◌, ◌↔◌, IsTrue, MatchOption, length, min, true, unwrap_or};
 ghost use Rattle.pm_wq.specs.Hints.{IsOf};
 
-use crate::turn::{Callback, Turn, Wrote, end, take_turn};
+use crate::choice::Choice;
+use crate::turn::{Callback, Turn, Wrote, end, take_any_turn, take_turn};
 use crate::way::next_island;
 use pm_base::{ActorId, NoMemory};
 use pm_book::Book;
@@ -19,23 +20,50 @@ const MAX_HANDS: usize = 16;
 /// No clock reading counts as later, in milliseconds.
 const LATEST: u64 = 1 << 61;
 
-/// What a clock reading counts as: one above 2^61 as 2^61.
-pub fn counted(reading: u64) -> u64
-    ensures { result ≡ min reading (2 ^ 61) }
+/// For how long at most who finds nothing to write rests before it looks again, in milliseconds.
+const NAP: u64 = 2;
+
+/// What a clock reading counts as: one above 2^61 as 2^61, and none as 0.
+pub fn counted(reading: Option<u64>) -> u64
+    ensures { result ≡ min (unwrap_or reading 0) (2 ^ 61) }
 {
-    reading.min(LATEST)
+    reading.unwrap_or(0).min(LATEST)
 }
 
-// Whether so many milliseconds have passed by the clock.
-fn has_passed(since: u64, now: u64, ms: u32) -> bool
-    ensures { IsTrue result ↔ (ms ≤ now - since) }
+// Whether so many milliseconds have passed by the clock. Where it can't be read, they have.
+fn has_passed(since: u64, reading: Option<u64>, ms: u32) -> bool
+    ensures { MatchOption reading (result ≡ true) (λ now. IsTrue result ↔ (ms ≤ min now (2 ^ 61) - since)) }
 {
-    u64::from(ms) <= now.saturating_sub(since)
+    match reading {
+        Some(now) => u64::from(ms) <= now.min(LATEST).saturating_sub(since),
+        None => true,
+    }
 }
 
-// One turn with a book, under its lock.
-fn locked_turn<R: Wait>(rt: &R, island: &Mutex<Book>, now: u64) -> Result<Turn, NoMemory> {
-    take_turn(&mut island.lock(rt), now)
+/// Rests from this moment by the clock for 2 milliseconds at most: who finds nothing to write has to look again
+/// then.
+pub fn nap<C: Clock>(clock: &C, now: u64) {
+    clock.rest(now.saturating_add(NAP));
+}
+
+// One turn with a book: in the order of one thread, or where there is a choice, by that.
+fn turn_by(book: &mut Book, now: u64, choice: &mut Option<Choice>) -> Result<Turn, NoMemory> {
+    match choice {
+        Some(choice) => take_any_turn(book, now, choice.next()),
+        None => take_turn(book, now),
+    }
+}
+
+// One turn with a book, under its lock; none where another holds that, who writes then.
+fn locked_turn(
+    island: &Mutex<Book>,
+    now: u64,
+    choice: &mut Option<Choice>,
+) -> Result<Option<Turn>, NoMemory> {
+    match island.try_lock() {
+        Some(mut book) => Ok(Some(turn_by(&mut book, now, choice)?)),
+        None => Ok(None),
+    }
 }
 
 // Ends the callback of an actor, if it may, under the book's lock, and says whether nothing of it is left
@@ -50,9 +78,30 @@ fn locked_end<R: Wait>(
     end(&mut island.lock(rt), actor, now, is_late)
 }
 
+// Writes the end line of a callback that has begun at this moment by the clock when it may be written, and at
+// the latest when the callback's time has passed by the clock, for which it rests.
+fn end_callback<R: Wait, C: Clock>(
+    rt: &R,
+    island: &Mutex<Book>,
+    callback: Callback,
+    since: u64,
+    clock: &C,
+) {
+    let until = since.saturating_add(u64::from(callback.ms));
+    for _ in rt.forever() {
+        let reading = clock.now();
+        let now = counted(reading);
+        let is_late = has_passed(since, reading, callback.ms);
+        if locked_end(rt, island, callback.actor, now, is_late) {
+            break;
+        }
+        clock.rest(until);
+    }
+}
+
 /// Lets a callback run that has begun at this moment by the clock, with no lock held, and writes its end line
-/// when it may be written, and at the latest when the callback's time has passed by the clock. This may wait
-/// for other threads.
+/// when it may be written, and at the latest when the callback's time has passed by the clock, for which it
+/// rests. Where the clock can't be read, no time is left. This may wait for other threads.
 pub fn run_callback<R: Wait, C: Clock, G: Gate>(
     rt: &R,
     island: &Mutex<Book>,
@@ -62,13 +111,54 @@ pub fn run_callback<R: Wait, C: Clock, G: Gate>(
     gate: &G,
 ) {
     gate.callback(callback.dev, callback.cb, callback.nth);
-    for _ in rt.forever() {
-        let now = counted(clock.now());
-        let is_late = has_passed(since, now, callback.ms);
-        if locked_end(rt, island, callback.actor, now, is_late) {
-            break;
+    end_callback(rt, island, callback, since, clock);
+}
+
+// Lets a few lines be written beside a callback, as many as the choice says, and says which other callback the
+// last of them began, if it did. Without a choice there are none.
+fn write_beside<R: Wait>(
+    rt: &R,
+    island: &Mutex<Book>,
+    now: u64,
+    choice: &mut Option<Choice>,
+) -> Option<Callback> {
+    let Some(choice) = choice else {
+        return None;
+    };
+    for _ in 0..choice.beside() {
+        match take_any_turn(&mut island.lock(rt), now, choice.next()) {
+            Ok(Turn::Wrote(Wrote::Line)) => {}
+            Ok(Turn::Wrote(Wrote::Began(callback))) => return Some(callback),
+            _ => return None,
         }
-        thread::yield_now();
+    }
+    None
+}
+
+// Lets a callback run, and each that began beside the one before. Beside one that takes no time, for which no
+// other hand may come, this hand writes.
+fn run_callbacks<R: Wait, C: Clock, G: Gate>(
+    rt: &R,
+    island: &Mutex<Book>,
+    first: Callback,
+    now: u64,
+    choice: &mut Option<Choice>,
+    clock: &C,
+    gate: &G,
+) {
+    let mut open = first;
+    for _ in rt.forever() {
+        gate.callback(open.dev, open.cb, open.nth);
+        let next = if open.ms == 0 {
+            write_beside(rt, island, now, choice)
+        } else {
+            None
+        };
+        end_callback(rt, island, open, now, clock);
+        match next {
+            Some(callback) => open = callback,
+            None => break,
+        }
     }
 }
 
@@ -82,12 +172,14 @@ fn tell<R: Wait>(rt: &R, hints: &Hints, pass: &mut HintPass, island: usize)
     }
 }
 
-// One hand. It begins at this island and stays at one while a line may be written there.
+// One hand. It begins at this island and stays at one while a line may be written there. Where it finds none at
+// any, one behind the other, and isn't sent to one, it naps.
 fn hand<R: Wait, C: Clock, G: Gate>(
     rt: &R,
     islands: &[Mutex<Book>],
     hints: &Hints,
     first: usize,
+    mut choice: Option<Choice>,
     clock: &C,
     gate: &G,
 ) {
@@ -96,42 +188,69 @@ fn hand<R: Wait, C: Clock, G: Gate>(
     }
     let mut pass = hints.pass();
     let mut at = first % islands.len();
-    // How many islands on the way here were over, one behind the other.
+    // At how many islands on the way here there was nothing to write, one behind the other, and how many of
+    // these, the last ones, were over.
+    let mut still = 0;
     let mut over = 0;
     for _ in rt.forever() {
         let now = counted(clock.now());
-        match locked_turn(rt, &islands[at], now) {
-            Ok(Turn::Wrote(Wrote::Line)) => over = 0,
-            Ok(Turn::Wrote(Wrote::Began(callback))) => {
+        match locked_turn(&islands[at], now, &mut choice) {
+            Ok(Some(Turn::Wrote(wrote))) => {
+                still = 0;
                 over = 0;
-                tell(rt, hints, &mut pass, at);
-                run_callback(rt, &islands[at], callback, now, clock, gate);
-            }
-            Ok(Turn::Waits) => {
-                over = 0;
-                thread::yield_now();
-                at = next_island(hints.ask(rt, &mut pass), at, islands.len());
-            }
-            Ok(Turn::Over) => {
-                over += 1;
-                if over >= islands.len() {
-                    break;
+                if let Wrote::Began(callback) = wrote {
+                    tell(rt, hints, &mut pass, at);
+                    run_callbacks(rt, &islands[at], callback, now, &mut choice, clock, gate);
                 }
-                let hint = hints.ask(rt, &mut pass);
-                if hint.is_some() {
-                    over = 0;
-                }
-                at = next_island(hint, at, islands.len());
+                continue;
             }
+            Ok(Some(Turn::Over)) => over += 1,
+            Ok(Some(Turn::Waits) | None) => over = 0,
             Err(_) => break,
+        }
+        if over >= islands.len() {
+            break;
+        }
+        let hint = hints.ask(rt, &mut pass);
+        at = next_island(hint, at, islands.len());
+        still += 1;
+        if hint.is_some() {
+            still = 0;
+            over = 0;
+        } else if still >= islands.len() {
+            still = 0;
+            nap(clock, now);
         }
     }
 }
 
+// The hand at a place, of so many. One alone goes by the order of one thread.
+fn hand_at<R: Wait, C: Clock, G: Gate>(
+    rt: &R,
+    islands: &[Mutex<Book>],
+    hints: &Hints,
+    place: usize,
+    hands: usize,
+    clock: &C,
+    gate: &G,
+) {
+    let choice = if hands > 1 {
+        Some(Choice::of(clock.seed(), place as u64))
+    } else {
+        None
+    };
+    hand(rt, islands, hints, place, choice, clock, gate);
+}
+
 /// Runs the books of islands by 1 to 16 threads, each book under a lock of its own. Each hand takes turns
-/// with one book while a line may be written there, and else goes where a hint sends it, or to the next
-/// island. Each callback runs with no lock held, between the hold of the lock in which it began and the
-/// one in which it ends. A clock reading above 2^61 counts as 2^61.
+/// with one book while a line may be written there, and else, also where another hand holds the lock, goes where
+/// a hint sends it, or to the next island; where it finds nothing to write at any, it rests for 2 milliseconds at
+/// most. Each callback runs with
+/// no lock held, between the hold of the lock in which it began and the one in which it ends. A clock reading
+/// above 2^61 counts as 2^61, and where the clock can't be read, callbacks take no time.
+///
+/// One hand takes its turns in the order of one thread. Of several each chooses among the actors that may write,
+/// by the clock's seed, by its place and by turns, so that orders differ from run to run.
 ///
 /// A hand ends when each book is finished or full, or when it finds no memory, and before it does it ends
 /// the callback that it began, unless that book is full. This may wait for other threads, and what it did
@@ -154,6 +273,6 @@ pub fn run_hands<R: Threads + Wait + Sync, C: Clock + Sync, G: Gate + Sync>(
         rt,
         &mut seats[..hands],
         hands,
-        &|place, _seat| { hand(rt, islands, hints, place, clock, gate) },
+        &|place, _seat| { hand_at(rt, islands, hints, place, hands, clock, gate) },
     );
 }

@@ -4,7 +4,7 @@ ghost use Rattle.std.specs.Prelude.{◌≡◌, ◌+◌, ◌*◌, false, true, If
 ghost use Rattle.pm_model.specs.Lawful.{IsFinished};
 ghost use Rattle.pm_model.specs.PlanRows.{ms_of};
 ghost use Rattle.pm_book.specs.Pages.{has_written, is_full, step_answer, world_of};
-ghost use Rattle.pm_serial.specs.Ends.{IsTurn};
+ghost use Rattle.pm_book.specs.Turn.{IsTurn};
 ghost use Rattle.pm_state.specs.Standing.{IsActor};
 ghost use Rattle.pm_state.specs.Turns.{is_running};
 ghost use Rattle.pm_hands.specs.Turning.{AddsOne, ByTurn, ByWrote, Goes, SomeRuns};
@@ -12,9 +12,7 @@ ghost use Rattle.pm_hands.specs.Turning.{AddsOne, ByTurn, ByWrote, Goes, SomeRun
 use pm_base::{ActorId, Cb, DevId, NoMemory};
 use pm_book::{Book, EndStep, Step};
 use pm_device::ms_of;
-use pm_law_bounds::due_moments;
-use pm_law_turns::serial_stops;
-use pm_model::Plan;
+use pm_model::{Event, Line, Plan};
 
 /// A callback that a hand began.
 #[derive(Clone, Copy, Debug, PartialEq, Eq)]
@@ -96,15 +94,26 @@ fn is_actor(plan: &Plan, actor: ActorId) -> bool
     }
 }
 
-// Whose turn it is on one thread, and when; nobody's where the run is finished.
-fn next_turn(book: &Book) -> Option<(ActorId, u64)>
-    ensures none { IfNone result (IsFinished book.now.plan book.now.lines) }
-    ensures some { IfSome result (λ turn. IsTurn book.now turn.0 turn.1) }
-{
-    due_moments();
-    serial_stops();
-    let _ = book.lines();
-    book.next_turn()
+// The device of which a line's event speaks.
+fn device_in(event: &Event) -> Option<DevId> {
+    match event {
+        Event::Call { .. } => None,
+        Event::Ret { dev, .. }
+        | Event::Get { dev, .. }
+        | Event::Put { dev, .. }
+        | Event::Usage { dev, .. }
+        | Event::Idle { dev, .. }
+        | Event::Suspend { dev, .. }
+        | Event::Resume { dev, .. }
+        | Event::Return { dev, .. }
+        | Event::Wait { dev }
+        | Event::State { dev, .. }
+        | Event::Begin { dev, .. }
+        | Event::End { dev, .. }
+        | Event::Domain { dev, .. }
+        | Event::Work { dev, .. }
+        | Event::Timer { dev, .. } => Some(*dev),
+    }
 }
 
 /// Lets an actor go on by one line, if it may, at the moment of the last line, or at this later one by the
@@ -137,6 +146,99 @@ fn step_any(book: &mut Book, now: u64) -> Result<Option<Wrote>, NoMemory>
     for place in 0..actor_count(book.plan()) {
         let Some(actor) = actor_at(book.plan(), place) else {
             break;
+        };
+        if let Some(wrote) = try_step(book, actor, now)? {
+            return Ok(Some(wrote));
+        }
+    }
+    Ok(None)
+}
+
+/// Actors of its choice that a turn tries, at most.
+const TRIES: u32 = 3;
+
+/// Of so many numbers each makes one choice, so that one number of 64 bits has four of them.
+const CHOICES: u64 = 1 << 16;
+
+/// How many of the last lines count as late ones.
+const LATE: usize = 64;
+
+// The actor at a place, round all that a plan has.
+fn actor_round(plan: &Plan, place: usize) -> Option<ActorId>
+    ensures { IfSome result (IsActor plan.now) }
+{
+    let place = place.checked_rem(actor_count(plan))?;
+    actor_at(plan, place)
+}
+
+// The caller at a place, round all that a plan has.
+fn caller_round(plan: &Plan, place: usize) -> Option<ActorId>
+    ensures { IfSome result (IsActor plan.now) }
+{
+    let place = place.checked_rem(plan.callers.len())?;
+    actor_at(plan, place)
+}
+
+// One of the late lines, this one counted from the end.
+fn late_line(book: &Book, back: usize) -> Option<Line> {
+    let lines = book.lines();
+    let place = lines.len().checked_sub(1 + back % LATE)?;
+    lines.get(place).copied()
+}
+
+// The actor, if it is one of the plan's.
+fn if_actor(plan: &Plan, actor: ActorId) -> Option<ActorId>
+    ensures { IfSome result (IsActor plan.now) }
+{
+    if is_actor(plan, actor) {
+        Some(actor)
+    } else {
+        None
+    }
+}
+
+// Who wrote a late line.
+fn late_writer(book: &Book, back: usize) -> Option<ActorId>
+    ensures { IfSome result (IsActor book.now.plan) }
+{
+    let line = late_line(book, back)?;
+    if_actor(book.plan(), line.actor)
+}
+
+// The work item of the device of which a late line speaks.
+fn late_work(book: &Book, back: usize) -> Option<ActorId>
+    ensures { IfSome result (IsActor book.now.plan) }
+{
+    let line = late_line(book, back)?;
+    let dev = device_in(&line.event)?;
+    if_actor(book.plan(), ActorId::Work(dev.0))
+}
+
+// The actor that a number chooses: a caller, any actor, who wrote a late line, or the work item of its device.
+fn chosen(book: &Book, number: u64) -> Option<ActorId>
+    ensures { IfSome result (IsActor book.now.plan) }
+{
+    let place = (number / 4) as usize;
+    match number % 4 {
+        0 => caller_round(book.plan(), place),
+        1 => actor_round(book.plan(), place),
+        2 => late_writer(book, place),
+        _ => late_work(book, place),
+    }
+}
+
+// Lets an actor go on by one line that may, one of a few that a number chooses. It looks at so few that what it
+// takes doesn't grow with the plan.
+fn step_chosen(book: &mut Book, now: u64, number: u64) -> Result<Option<Wrote>, NoMemory>
+    ensures ok { IfOk result (λ wrote. MatchOption wrote (book.new ≡ book.old) (ByWrote book.old book.new)) }
+    ensures err { OnErr result (book.new ≡ book.old) }
+{
+    let mut left = number;
+    for _ in 0..TRIES {
+        let choice = left % CHOICES;
+        left /= CHOICES;
+        let Some(actor) = chosen(book, choice) else {
+            continue;
         };
         if let Some(wrote) = try_step(book, actor, now)? {
             return Ok(Some(wrote));
@@ -214,13 +316,41 @@ pub fn take_turn(book: &mut Book, now: u64) -> Result<Turn, NoMemory>
     if book.is_full() {
         return Ok(Turn::Over);
     }
-    let Some((actor, moment)) = next_turn(book) else {
+    let Some((actor, moment)) = book.next_turn() else {
         return Ok(Turn::Over);
     };
     if book.running(actor) {
         return step_beside(book, now);
     }
     step_next(book, actor, moment, now)
+}
+
+/// Lets an actor go on by one line as `take_turn` does, but one that this number chooses where that may write
+/// now. Which it is isn't promised.
+pub fn take_any_turn(book: &mut Book, now: u64, number: u64) -> Result<Turn, NoMemory>
+    ensures ok { IfOk result (ByTurn book.old book.new) }
+    ensures err { OnErr result (book.new ≡ book.old) }
+{
+    match step_chosen(book, now, number)? {
+        Some(wrote) => Ok(Turn::Wrote(wrote)),
+        None => take_turn(book, now),
+    }
+}
+
+/// Lets an actor go on by one line that may write now, at the moment of the last line, or at this later one by
+/// the clock. No moment at which a line is due later counts as now. Else nothing is changed, and after
+/// `NoMemory` neither.
+pub fn step_now(book: &mut Book, now: u64) -> Result<Option<Wrote>, NoMemory>
+    ensures ok { IfOk result (λ wrote. MatchOption wrote (book.new ≡ book.old) (ByWrote book.old book.new)) }
+    ensures err { OnErr result (book.new ≡ book.old) }
+{
+    let Some((actor, _moment)) = book.next_turn() else {
+        return Ok(None);
+    };
+    if book.running(actor) {
+        return step_any(book, now);
+    }
+    try_step(book, actor, now)
 }
 
 // Ends a running callback, and says whether it did or the list is full. A late one ends at the moment at

@@ -6,7 +6,7 @@ use Rattle.std.proofs.lemmas.Slice.Eq.{bytes_eq-Decides}
 use Rattle.std.proofs.lemmas.Bool.{false_from_ne_true}
 use Rattle.std.specs.Str.{bytes_eq}
 use Rattle.std.specs.Io.KnownBytes.{prepend_known}
-use Rattle.pm_io.specs.MemFiles.{bytes_at, bytes_under, file_entry, HasDistinctNames}
+use Rattle.pm_io.specs.MemFiles.{bytes_at, bytes_under, file_entry, name_at, HasDistinctNames}
 
 -- the file at an index
 pub bytes_at_read : {A B : Type 0} (files : List (String A × Vec ℕ B)) (i : ℕ) (file : String A × Vec ℕ B)
@@ -26,6 +26,15 @@ bytes_under_here {A} {B} files name i file within is same =
     let found : under (file ∷ drop (i + 1) files) ≡ Some file.1.items =
     ap (λ b. cond b (Some file.1.items) (under (drop (i + 1) files))) same in
     bytes_at_read files i file within is ∙ sym (head ∙ found)
+
+-- and it is the name of that file
+pub name_here : {A B : Type 0} (files : List (String A × Vec ℕ B)) (name : List ℕ) (i : ℕ) (file : String A × Vec ℕ B)
+    → i < length files → file ≡ get_or files i file → bytes_eq name (string_bytes file.0) ≡ true → bytes_at files (Some i) ≡ bytes_under (map file_entry files) name
+    → name_at files (Some i) ≡ option_map (λ _. name) (bytes_under (map file_entry files) name)
+name_here files name i file within is same found =
+    ap (option_map (λ f. string_bytes f.0)) (slice_get_read files (length files) i file refl within is)
+    ∙ ap Some (sym ((bytes_eq-Decides name (string_bytes file.0)).0 same))
+    ∙ ap (option_map (λ (bytes : List ℕ). name)) (sym (bytes_at_read files i file within is) ∙ found)
 
 -- what is unread of the file at an index, behind n more bytes of it
 pub unread_behind : {A B : Type 0} (files : List (String A × Vec ℕ B)) (i : ℕ) (file : String A × Vec ℕ B) (place n : ℕ) (piece : List ℕ)

@@ -4,6 +4,7 @@ use Rattle.std.specs.declared.option.Option.{Option}
 use Rattle.std.specs.Option.{option_and_then}
 use Rattle.std.specs.Map.{lookup}
 use Rattle.std.specs.Str.{bytes_eq}
+use Rattle.pm_io.specs.Asks.{Asks}
 use Rattle.pm_io.specs.Faults.{counted, fails_next}
 
 -- what a `MemFiles` is
@@ -15,6 +16,8 @@ pub record Shelf : Type 0 where
   -- how many calls were made, and how often one failed
   pub calls : ℕ
   pub faults : ℕ
+  -- which files were asked for
+  pub asked : Asks
   -- the bytes of the file that is started, and how many of them were read
   pub started : Option (List ℕ)
   pub place : ℕ
@@ -26,6 +29,10 @@ file_entry file = (string_bytes file.0, file.1.items)
 -- the bytes of the file at an index
 abbrev pub bytes_at : {A B : Type 0} → List (String A × Vec ℕ B) → Option ℕ → Option (List ℕ)
 bytes_at files at = option_and_then (λ i. option_map (λ file. file.1.items) (slice_get files i)) at
+
+-- the name of the file at an index
+abbrev pub name_at : {A B : Type 0} → List (String A × Vec ℕ B) → Option ℕ → Option (List ℕ)
+name_at files at = option_and_then (λ i. option_map (λ file. string_bytes file.0) (slice_get files i)) at
 
 -- the bytes of the file of that name
 abbrev pub bytes_under : List (List ℕ × List ℕ) → List ℕ → Option (List ℕ)
@@ -40,6 +47,7 @@ abbrev pub after_start : Shelf → List ℕ → Shelf
 after_start shelf name = record shelf {
   calls = counted shelf.calls;
   faults = if starts shelf name then shelf.faults else counted shelf.faults;
+  asked = record { count = counted shelf.asked.count; last = option_map (λ _. name) (bytes_under shelf.files name) };
   started = if starts shelf name then bytes_under shelf.files name else None;
   place = 0;
 }

@@ -1,8 +1,8 @@
 //! Files in memory, for tests.
-ghost use Rattle.std.specs.Prelude.{◌≡◌, ◌+◌, ◌^◌, ◌<◌, ◌≤◌, length, take, drop, min, map, true, not, is_ok, is_some, IsSome, IfSome, IfOk, OnErr, All};
+ghost use Rattle.std.specs.Prelude.{◌≡◌, ◌+◌, ◌^◌, ◌<◌, ◌≤◌, length, take, drop, min, map, option_map, true, not, is_ok, is_some, IsSome, IfSome, IfOk, OnErr, All};
 ghost use Rattle.std.specs.Io.KnownBytes.{prepend_known};
 ghost use Rattle.pm_io.specs.Faults.{counted, fails_next};
-ghost use Rattle.pm_io.specs.MemFiles.{HasDistinctNames, after_start, bytes_at, bytes_under, file_entry, starts, unread_bytes};
+ghost use Rattle.pm_io.specs.MemFiles.{HasDistinctNames, after_start, bytes_at, bytes_under, file_entry, name_at, starts, unread_bytes};
 
 use crate::faults::fault;
 use crate::reading::Files;
@@ -16,6 +16,8 @@ pub struct MemFiles {
     fail: Vec<u64>,
     calls: u64,
     faults: u64,
+    asks: u64,
+    asked: Option<usize>,
     started: Option<usize>,
     place: usize,
 }
@@ -23,7 +25,7 @@ pub struct MemFiles {
 impl Model for MemFiles {
     ghost use Rattle.std.specs.Prelude.{◌<◌, ◌≤◌, length, map, vec_len};
     ghost use Rattle.std.specs.Option.{ForSome};
-    ghost use Rattle.pm_io.specs.MemFiles.{Shelf, bytes_at, file_entry};
+    ghost use Rattle.pm_io.specs.MemFiles.{Shelf, bytes_at, file_entry, name_at};
 
     ghost Value = { Shelf };
 
@@ -32,6 +34,7 @@ impl Model for MemFiles {
       fail = m.fail.items;
       calls = m.calls;
       faults = m.faults;
+      asked = record { count = m.asks; last = name_at m.files.items m.asked };
       started = bytes_at m.files.items m.started;
       place = m.place;
     } };
@@ -50,6 +53,7 @@ impl MemFiles {
           fail = fail.items;
           calls = 0;
           faults = 0;
+          asked = record { count = 0; last = None };
           started = None;
           place = 0;
         } }
@@ -60,6 +64,8 @@ impl MemFiles {
             fail,
             calls: 0,
             faults: 0,
+            asks: 0,
+            asked: None,
             started: None,
             place: 0,
         }
@@ -79,17 +85,21 @@ impl Files for MemFiles {
 
     ghost faults = { λ m. m.faults };
 
+    ghost asked = { λ m. m.asked };
+
     fn start_file(&mut self, name: &str) -> Result<(), Failed>
         ensures answer { is_ok result ≡ starts self.old name.now }
         ensures after { self.new ≡ after_start self.old name.now }
         ensures never_falls { self.old.faults ≤ self.new.faults }
     {
         self.calls = self.calls.saturating_add(1);
+        self.asks = self.asks.saturating_add(1);
         self.place = 0;
+        self.asked = find_name(&self.files, name);
         self.started = if self.fail.contains(&self.calls) {
             None
         } else {
-            find_name(&self.files, name)
+            self.asked
         };
         match self.started {
             Some(_) => Ok(()),
@@ -149,6 +159,8 @@ fn copy_front(from: &[u8], to: &mut [u8]) -> usize
 fn find_name(files: &[(String, Vec<u8>)], name: &str) -> Option<usize>
     ensures within { IfSome result (λ i. i < length files.now) }
     ensures bytes { bytes_at files.now result ≡ bytes_under (map file_entry files.now) name.now }
+    ensures name { name_at files.now result
+        ≡ option_map (λ _. name.now) (bytes_under (map file_entry files.now) name.now) }
 {
     for (i, file) in files.iter().enumerate() {
         if name == file.0.as_str() {

@@ -1,6 +1,7 @@
 //! Files that are read, one at a time.
 ghost use Rattle.std.specs.Prelude.{◌≡◌, ℕ, ◌+◌, ◌^◌, ◌<◌, ◌≤◌, ◌↔◌, List, [], length, take, Bool, true, false, Option, IsTrue, IsSome, IfSome, IfOk, OnOk, OnErr, IsErrOf, vec_len, vec_capacity};
 ghost use Rattle.std.specs.Io.KnownBytes.{prepend_known};
+ghost use Rattle.pm_io.specs.Asks.{AskedOnly, Asks, one_more};
 ghost use Rattle.pm_io.specs.Faults.{Rose};
 ghost use Rattle.pm_io.specs.declared.reading.FileFault.TheVariants.{Failed as FailedFault, NoMemory as NoMemoryFault};
 
@@ -29,6 +30,9 @@ pub trait Files {
     /// How often a call failed.
     ghost faults: { Self → ℕ };
 
+    /// Which files were asked for, of those whose bytes it tells.
+    ghost asked: { Self → Asks };
+
     /// Goes to the first byte of the named file. A missing file is a fault.
     ///
     /// After `Failed` no file is started.
@@ -41,6 +45,8 @@ pub trait Files {
         ensures none_started { OnErr result (is_started self.new ≡ false) }
         ensures failed { OnErr result (Rose (faults self.old) (faults self.new)) }
 
+        ensures asked { IsSome (told self.old name.now) → asked self.new ≡ one_more (asked self.old) name.now }
+        ensures calm { OnOk result (faults self.new ≡ faults self.old) }
         ensures never_falls { faults self.old ≤ faults self.new }
         ensures same { told self.new ≡ told self.old };
 
@@ -66,7 +72,9 @@ pub trait Files {
         ensures failed { OnErr result (Rose (faults self.old) (faults self.new)) }
 
         ensures still_started { is_started self.new ≡ true }
+        ensures calm { OnOk result (faults self.new ≡ faults self.old) }
         ensures never_falls { faults self.old ≤ faults self.new }
+        ensures asked { asked self.new ≡ asked self.old }
         ensures same { told self.new ≡ told self.old };
 }
 
@@ -138,6 +146,8 @@ pub fn read_all<F: Files>(
     ensures not_longer { IsErrOf result FileFault.Failed → F.place files.new ≤ limit }
     ensures no_memory { IsErrOf result FileFault.NoMemory → files.new ≡ files.old }
 
+    ensures asked { IsSome (F.told files.old name.now) → AskedOnly name.now (F.asked files.old) (F.asked files.new) }
+    ensures calm { ¬ IsErrOf result FileFault.Failed → F.faults files.new ≡ F.faults files.old }
     ensures never_falls { F.faults files.old ≤ F.faults files.new }
     ensures same { F.told files.new ≡ F.told files.old }
 {
@@ -175,7 +185,9 @@ fn read_piece<F: Files>(files: &mut F, bytes: &mut Vec<u8>, most: usize) -> Resu
 
     ensures room { most ≤ vec_capacity bytes.new }
     ensures still_started { F.is_started files.new ≡ true }
+    ensures calm { OnOk result (F.faults files.new ≡ F.faults files.old) }
     ensures never_falls { F.faults files.old ≤ F.faults files.new }
+    ensures asked { F.asked files.new ≡ F.asked files.old }
     ensures same { F.told files.new ≡ F.told files.old }
 {
     let mut piece = [0; PIECE_BYTES];

@@ -9,7 +9,8 @@ use pm_base::Failed;
 use std::io::{ErrorKind, Print, Read, Stderr, Stdout};
 use std::marker::Model;
 use std::rt::Files as FileSystem;
-use std::{fs, io};
+use std::time::{Clock, Duration};
+use std::{fs, io, thread};
 
 /// The files of a file system, by their paths.
 #[derive(Drop)]
@@ -63,6 +64,8 @@ impl<R: FileSystem + Drop> Files for DiskFiles<R> {
     ghost unread = { λ _. None };
 
     ghost faults = { λ d. d.faults };
+
+    ghost asked = { λ _. record { count = 0; last = None } };
 
     fn start_file(&mut self, name: &str) -> Result<(), Failed> {
         self.place = 0;
@@ -119,14 +122,20 @@ fn read_some<F: Read>(file: &mut F, buf: &mut [u8]) -> Option<usize>
     None
 }
 
-/// The standard output.
+/// For how many milliseconds in all a standard output is waited for that takes nothing for now.
+const PATIENCE: u32 = 1_000;
+
+/// The standard output. Where it takes nothing for now, as a full pipe whose writer is not to block, it is waited
+/// for, for a second in all.
 #[derive(Drop)]
-pub struct StdOut {
+pub struct StdOut<R: Clock + Drop> {
+    rt: R,
     stream: Stdout,
+    patience: u32,
     faults: u64,
 }
 
-impl Model for StdOut {
+impl<R: Clock + Drop> Model for StdOut<R> {
     ghost use Rattle.std.specs.Prelude.{ℕ};
 
     ghost Value = { ℕ };
@@ -134,22 +143,30 @@ impl Model for StdOut {
     ghost view = { λ s. s.faults };
 }
 
-impl StdOut {
+impl<R: Clock + Drop> StdOut<R> {
     /// It has not failed yet.
-    pub fn new(stream: Stdout) -> StdOut
+    pub fn new(rt: R, stream: Stdout) -> StdOut<R>
         ensures { result ≡ 0 }
     {
-        StdOut { stream, faults: 0 }
+        StdOut {
+            rt,
+            stream,
+            patience: PATIENCE,
+            faults: 0,
+        }
     }
 }
 
-impl Sink for StdOut {
+impl<R: Clock + Drop> Sink for StdOut<R> {
     ghost taken = { λ _. None };
 
     ghost faults = { λ faults. faults };
 
     fn write(&mut self, piece: &[u8]) -> Result<usize, Failed> {
-        write_to(&self.stream, piece, &mut self.faults)
+        match write_waiting(&self.rt, &self.stream, piece, &mut self.patience) {
+            Ok(count) => Ok(count),
+            Err(_) => Err(fault(&mut self.faults)),
+        }
     }
 }
 
@@ -187,19 +204,52 @@ impl Sink for StdErr {
     }
 }
 
-/// Writes some of the piece; `None` where that fails, or takes nothing of a piece that isn't empty.
-fn write_some<P: Print>(stream: &P, piece: &[u8]) -> Option<usize>
-    ensures within { IfSome result (λ n. n ≤ length piece.now) }
-    ensures some { IfSome result (λ n. 0 < length piece.now → 0 < n) }
+/// Why a stream took nothing.
+#[derive(Clone, Copy, Debug, PartialEq, Eq)]
+enum Refused {
+    /// It takes nothing for now.
+    ForNow,
+    /// Writing failed, or nothing was taken of a piece that isn't empty.
+    ForGood,
+}
+
+/// Writes some of the piece.
+fn write_some<P: Print>(stream: &P, piece: &[u8]) -> Result<usize, Refused>
+    ensures within { IfOk result (λ n. n ≤ length piece.now) }
+    ensures some { IfOk result (λ n. 0 < length piece.now → 0 < n) }
 {
     for _ in 0..u64::MAX {
         match stream.write_some(piece) {
-            Ok(count) if count > 0 || piece.is_empty() => return Some(count),
+            Ok(count) if count > 0 || piece.is_empty() => return Ok(count),
             Err(error) if is_interrupted(&error) => {}
-            _ => return None,
+            Err(error) if error.kind() == ErrorKind::WouldBlock => return Err(Refused::ForNow),
+            _ => return Err(Refused::ForGood),
         }
     }
-    None
+    Err(Refused::ForGood)
+}
+
+/// Writes some of the piece, and waits for a stream that takes nothing for now, for so many milliseconds at most,
+/// which become fewer by those that it waited.
+fn write_waiting<R: Clock, P: Print>(
+    rt: &R,
+    stream: &P,
+    piece: &[u8],
+    patience: &mut u32,
+) -> Result<usize, Refused>
+    ensures within { IfOk result (λ n. n ≤ length piece.now) }
+    ensures some { IfOk result (λ n. 0 < length piece.now → 0 < n) }
+{
+    for _ in 0..PATIENCE {
+        match write_some(stream, piece) {
+            Err(Refused::ForNow) if *patience > 0 => {
+                *patience -= 1;
+                thread::sleep(rt, Duration::from_millis(1));
+            }
+            answer => return answer,
+        }
+    }
+    write_some(stream, piece)
 }
 
 /// Writes some of the piece to a stream, and counts a fault where that fails.
@@ -210,7 +260,7 @@ fn write_to<P: Print>(stream: &P, piece: &[u8], faults: &mut u64) -> Result<usiz
     ensures never_falls { faults.old ≤ faults.new }
 {
     match write_some(stream, piece) {
-        Some(count) => Ok(count),
-        None => Err(fault(faults)),
+        Ok(count) => Ok(count),
+        Err(_) => Err(fault(faults)),
     }
 }

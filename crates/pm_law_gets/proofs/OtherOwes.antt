@@ -1,10 +1,9 @@
 -- The rows of suspend, of idle, of the helpers and of the control functions.
-use Rattle.std.proofs.Common.{ℕ, ◌≡◌, Bool, true, false, Option, Some, None, ℤ, nat_abs, refl}
+use Rattle.std.proofs.Common.{ℕ, ◌≡◌, true, false, Option, Some, None, ℤ, refl}
 use Rattle.pm_base.specs.declared.DevId.{DevId}
 use Rattle.pm_base.specs.declared.Req.{Req}
 use Rattle.pm_base.specs.declared.Req.TheVariants as req
 use Rattle.pm_base.specs.declared.codes.TheConstants.{EBUSY}
-use Rattle.pm_model.specs.declared.event.Command.{Command}
 use Rattle.pm_model.specs.declared.event.Event.TheVariants as event
 use Rattle.pm_model.specs.declared.event.Helper.{Helper}
 use Rattle.pm_model.specs.declared.event.Helper.TheVariants as helper
@@ -27,13 +26,12 @@ use Rattle.pm_model.specs.HelperTable.{begins, helper_starts, put_suspends, carr
 use Rattle.pm_model.specs.IdleTable.{idle_verdict, idle_ends, after_put, idle_row}
 use Rattle.pm_model.specs.Row.{Row, writes, helper_returns}
 use Rattle.pm_model.specs.SuspendTable.{suspend_verdict, suspend_ends, suspend_gives, suspend_links, suspend_domain, suspend_parent, suspend_row}
-use Rattle.pm_model.specs.Views.{Views, device, pending_of}
+use Rattle.pm_model.specs.Views.{Views, pending_of}
 use Rattle.pm_model.specs.World.{row}
 use Rattle.pm_law_counts.proofs.HelperRows.{command}
 use Rattle.pm_law_stacks.specs.Shape.{Fits, returns_resume, is_put_suspend}
 use Rattle.pm_law_stacks.proofs.Obeying.{Obeys, waiting, both, both_next}
 use Rattle.pm_law_stacks.proofs.Stacks.{obeys_same}
-use Rattle.pm_law_gets.specs.Answered.{is_get_sync}
 use Rattle.pm_law_gets.proofs.Owing.{Owing, silent, starts, alike}
 use Rattle.pm_law_gets.proofs.ResumeOwes.{resume_owes}
 
@@ -113,25 +111,13 @@ fires_owe v d = silent refl refl (λ _. refl)
 helper_starts_owe : (v : Views) (h : Helper) (d : DevId) (n : ℤ) → Owes v (stage.Helper (at.Start (command h d n))) (helper_starts v (command h d n))
 unfolding helper_starts
 helper_starts_owe v helper.GetSync d n = starts refl refl (λ _. refl)
-helper_starts_owe v helper.Get d n = starts refl refl (λ _. refl)
-helper_starts_owe v helper.GetNoresume d n = starts refl refl (λ _. refl)
-helper_starts_owe v helper.GetIfInUse d n = search (both, silent, starts) depth 12
-helper_starts_owe v helper.GetIfActive d n = search (both, silent, starts) depth 12
-helper_starts_owe v helper.Put d n = search (both, silent) depth 12
-helper_starts_owe v helper.PutSync d n = search (both, silent) depth 12
-helper_starts_owe v helper.PutAutosuspend d n = search (both, silent) depth 12
-helper_starts_owe v helper.PutSyncSuspend d n = search (both, silent) depth 12
-helper_starts_owe v helper.PutSyncAutosuspend d n = search (both, silent) depth 12
-helper_starts_owe v helper.PutNoidle d n = search (both, silent) depth 12
-helper_starts_owe v _ d n = silent refl refl (λ _. refl)
+helper_starts_owe v _ d n = search (both, silent, starts) depth 12
 
 -- a put that goes on to suspend is no get_sync
 put_suspends_owe : (plan : Plan) (v : Views) (h : Helper) (d : DevId) (n : ℤ) → is_put_suspend h ≡ true → Owes v (stage.Helper (at.PutSuspends (command h d n))) (put_suspends plan v (command h d n))
 unfolding put_suspends
-put_suspends_owe plan v helper.PutAutosuspend d n put = search (both, silent) depth 12
-put_suspends_owe plan v helper.PutSyncSuspend d n put = search (both, silent) depth 12
-put_suspends_owe plan v helper.PutSyncAutosuspend d n put = search (both, silent) depth 12
-put_suspends_owe plan v _ d n put = cc
+put_suspends_owe plan v helper.GetSync d n put = cc
+put_suspends_owe plan v _ d n put = search (both, silent) depth 12
 
 ret_owes : (v : Views) (h : Helper) (d : DevId) (c : ℤ) → Owes v (stage.Helper (at.Ret h d c)) (helper_returns h d c change.Same)
 ret_owes v h d c = record { paid = record { told = λ x t. cc; taken = λ t. cc; returned = λ x good. good } }
@@ -146,17 +132,9 @@ helper_owes plan v t (at.Delay ms since) fits = silent refl refl (λ _. refl)
 helper_owes plan v t (at.Ret h d c) fits = ret_owes v h d c
 
 -- the control functions
-enabling_owes : (v : Views) (d : DevId) (c : Command) → Owes v (stage.Control (control.Start c)) (enabling v d)
-unfolding enabling
-enabling_owes v d c = search (both, silent) depth 12
-
 disabling_owes : (v : Views) (d : DevId) → Owes v (stage.Control (control.Disable d)) (disabling v d)
 unfolding disabling
 disabling_owes v d = search (both, silent) depth 12
-
-disable_starts_owe : (v : Views) (d : DevId) (c : Command) → Owes v (stage.Control (control.Start c)) (disable_starts v d)
-unfolding disable_starts disabling
-disable_starts_owe v d c = search (both, silent) depth 16
 
 disable_ends_owe : (v : Views) (d : DevId) → Owes v (stage.Control (control.Disabled d)) (disable_ends v d)
 unfolding disable_ends
@@ -174,10 +152,6 @@ barrier_ends_owe : (v : Views) (d : DevId) (c : ℤ) (s : Stage) → Owes v s (b
 unfolding barrier_ends
 barrier_ends_owe v d c s = search (both, waiting, silent) depth 12
 
-active_starts_owe : (plan : Plan) (v : Views) (d : DevId) (c : Command) → Owes v (stage.Control (control.Start c)) (active_starts plan v d)
-unfolding active_starts
-active_starts_owe plan v d c = search (both, silent) depth 14
-
 active_gives_owe : (v : Views) (d : DevId) (c : ℤ) (s : Stage) (o : Option (ℕ × DevId)) → Owes v s (active_gives d c o)
 active_gives_owe v d c s (Some link) = silent refl refl (λ _. refl)
 active_gives_owe v d c s None = silent refl refl (λ _. refl)
@@ -194,10 +168,6 @@ active_links_owe : (plan : Plan) (v : Views) (d : DevId) (s : Stage) → Owes v 
 unfolding active_links
 active_links_owe plan v d s = active_takes_owe plan v d s (first_free plan v d)
 
-suspended_starts_owe : (v : Views) (d : DevId) (c : Command) → Owes v (stage.Control (control.Start c)) (suspended_starts v d)
-unfolding suspended_starts
-suspended_starts_owe v d c = search (both, silent) depth 12
-
 tells_owe : (plan : Plan) (v : Views) (d : DevId) (last : Option DevId) (o : Option (ℕ × DevId)) → Owes v (stage.Control (control.SuppliersIdle d last)) (tells_supplier plan v d o)
 tells_owe plan v d last (Some link) = silent refl refl (λ _. refl)
 tells_owe plan v d last None = search (both, silent) depth 12
@@ -206,41 +176,11 @@ suppliers_owe : (plan : Plan) (v : Views) (d : DevId) (last : Option DevId) → 
 unfolding suppliers_idle
 suppliers_owe plan v d last = tells_owe plan v d last (next_supplier plan v d last)
 
-sets_owe : (plan : Plan) (v : Views) (h : Helper) (d : DevId) (u : Bool) (n : ℤ) (c : Command) → is_get_sync h ≡ false → Owes v (stage.Control (control.Start c)) (sets plan v h d u n)
-unfolding sets
-sets_owe plan v h d u n c apart = search (both, silent, apart) depth 16
-
-schedules_owe : (plan : Plan) (v : Views) (d : DevId) (ms t : ℕ) (c : Command) → Owes v (stage.Control (control.Start c)) (schedules plan v d ms t)
-unfolding schedules
-schedules_owe plan v d ms t c = search (both, silent) depth 12
-
-topology_owes : (plan : Plan) (v : Views) (d s : DevId) (c : Command)
-    → Owes v (stage.Control (control.Start c)) (link_adds plan v d s) × Owes v (stage.Control (control.Start c)) (link_dels plan v d s)
-unfolding link_adds link_dels
-topology_owes plan v d s c = (search (both, silent) depth 12, search (both, silent) depth 12)
-
-allowing_owes : (v : Views) (d : DevId) (c : Command) → Owes v (stage.Control (control.Start c)) (forbidding v d) × Owes v (stage.Control (control.Start c)) (allowing v d)
-unfolding forbidding allowing
-allowing_owes v d c = (search (both, silent) depth 12, search (both, silent) depth 12)
-
 control_starts_owe : (plan : Plan) (v : Views) (t : ℕ) (h : Helper) (d : DevId) (n : ℤ) → returns_resume h ≡ false
     → Owes v (stage.Control (control.Start (command h d n))) (control_starts plan v (command h d n) t)
-unfolding control_starts
-control_starts_owe plan v t helper.ScheduleSuspend d n apart = schedules_owe plan v d (nat_abs n) t _
-control_starts_owe plan v t helper.Enable d n apart = enabling_owes v d _
-control_starts_owe plan v t helper.Disable d n apart = disable_starts_owe v d _
-control_starts_owe plan v t helper.Barrier d n apart = silent refl refl (λ _. refl)
-control_starts_owe plan v t helper.SetActive d n apart = active_starts_owe plan v d _
-control_starts_owe plan v t helper.SetSuspended d n apart = suspended_starts_owe v d _
-control_starts_owe plan v t helper.Allow d n apart = (allowing_owes v d _).1
-control_starts_owe plan v t helper.Forbid d n apart = (allowing_owes v d _).0
-control_starts_owe plan v t helper.UseAutosuspend d n apart = sets_owe plan v helper.UseAutosuspend d true (device v d).delay _ refl
-control_starts_owe plan v t helper.DontUseAutosuspend d n apart = sets_owe plan v helper.DontUseAutosuspend d false (device v d).delay _ refl
-control_starts_owe plan v t helper.SetAutosuspendDelay d n apart = sets_owe plan v helper.SetAutosuspendDelay d (device v d).use_auto n _ refl
-control_starts_owe plan v t helper.LinkAdd d n apart = (topology_owes plan v d _ _).0
-control_starts_owe plan v t helper.LinkDel d n apart = (topology_owes plan v d _ _).1
+unfolding control_starts schedules enabling disable_starts disabling active_starts suspended_starts allowing forbidding sets link_adds link_dels
 control_starts_owe plan v t helper.GetSync d n apart = cc
-control_starts_owe plan v t _ d n apart = silent refl refl (λ _. refl)
+control_starts_owe plan v t _ d n apart = search (both, silent) depth 16
 
 control_owes : (plan : Plan) (v : Views) (t : ℕ) (s : ControlStage) → Fits plan (stage.Control s) → Owes v (stage.Control s) (control_row plan v s t)
 control_owes plan v t (control.Start c) fits = control_starts_owe plan v t c.helper c.dev c.number fits

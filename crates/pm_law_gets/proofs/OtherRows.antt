@@ -1,10 +1,9 @@
 -- The rows of suspend, of idle, of the helpers and of the control functions, while nothing disturbs.
-use Rattle.std.proofs.Common.{ℕ, pos, ◌≡◌, Bool, true, false, not, ◌&&◌, Option, Some, None, ℤ, nat_abs, refl}
+use Rattle.std.proofs.Common.{ℕ, pos, ◌≡◌, Bool, true, false, not, ◌&&◌, Option, Some, None, ℤ, refl}
 use Rattle.pm_base.specs.declared.DevId.{DevId}
 use Rattle.pm_base.specs.declared.Req.{Req}
 use Rattle.pm_base.specs.declared.Req.TheVariants as req
 use Rattle.pm_base.specs.declared.codes.TheConstants.{EBUSY}
-use Rattle.pm_model.specs.declared.event.Command.{Command}
 use Rattle.pm_model.specs.declared.event.Event.{Event}
 use Rattle.pm_model.specs.declared.event.Event.TheVariants as event
 use Rattle.pm_model.specs.declared.event.Helper.{Helper}
@@ -32,7 +31,7 @@ use Rattle.pm_model.specs.Counted.{is_same}
 use Rattle.pm_model.specs.Promises.{implies}
 use Rattle.pm_model.specs.Row.{Row, writes, helper_returns}
 use Rattle.pm_model.specs.SuspendTable.{suspend_verdict, suspend_ends, suspend_gives, suspend_links, suspend_domain, suspend_parent, suspend_row}
-use Rattle.pm_model.specs.Views.{Views, device, pending_of}
+use Rattle.pm_model.specs.Views.{Views, pending_of}
 use Rattle.pm_model.specs.World.{row}
 use Rattle.pm_law_counts.proofs.HelperRows.{command}
 use Rattle.pm_law_stacks.specs.Shape.{Fits, is_put_suspend}
@@ -142,25 +141,13 @@ fires_calm plan x enabled v d = quiet refl (λ _. refl) (λ _. refl) refl refl
 helper_starts_calm : (plan : Plan) (x : DevId) (enabled : Bool) (v : Views) (h : Helper) (d : DevId) (n : ℤ) → Calms plan x enabled v (stage.Helper (at.Start (command h d n))) (helper_starts v (command h d n))
 unfolding helper_starts
 helper_starts_calm plan x enabled v helper.GetSync d n = quiet refl (λ _. refl) (λ _. refl) refl refl
-helper_starts_calm plan x enabled v helper.Get d n = quiet refl (λ _. refl) (λ _. refl) refl refl
-helper_starts_calm plan x enabled v helper.GetNoresume d n = quiet refl (λ _. refl) (λ _. refl) refl refl
-helper_starts_calm plan x enabled v helper.GetIfInUse d n = search (both, quiet) depth 12
-helper_starts_calm plan x enabled v helper.GetIfActive d n = search (both, quiet) depth 12
-helper_starts_calm plan x enabled v helper.Put d n = search (both, quiet) depth 12
-helper_starts_calm plan x enabled v helper.PutSync d n = search (both, quiet) depth 12
-helper_starts_calm plan x enabled v helper.PutAutosuspend d n = search (both, quiet) depth 12
-helper_starts_calm plan x enabled v helper.PutSyncSuspend d n = search (both, quiet) depth 12
-helper_starts_calm plan x enabled v helper.PutSyncAutosuspend d n = search (both, quiet) depth 12
-helper_starts_calm plan x enabled v helper.PutNoidle d n = search (both, quiet) depth 12
-helper_starts_calm plan x enabled v _ d n = quiet refl (λ _. refl) (λ _. refl) refl refl
+helper_starts_calm plan x enabled v _ d n = search (both, quiet) depth 12
 
 -- a put that goes on to suspend is no get_sync
 put_suspends_calm : (plan : Plan) (x : DevId) (enabled : Bool) (v : Views) (h : Helper) (d : DevId) (n : ℤ) → is_put_suspend h ≡ true → Calms plan x enabled v (stage.Helper (at.PutSuspends (command h d n))) (put_suspends plan v (command h d n))
 unfolding put_suspends
-put_suspends_calm plan x enabled v helper.PutAutosuspend d n put = search (both, quiet) depth 12
-put_suspends_calm plan x enabled v helper.PutSyncSuspend d n put = search (both, quiet) depth 12
-put_suspends_calm plan x enabled v helper.PutSyncAutosuspend d n put = search (both, quiet) depth 12
-put_suspends_calm plan x enabled v _ d n put = cc
+put_suspends_calm plan x enabled v helper.GetSync d n put = cc
+put_suspends_calm plan x enabled v _ d n put = search (both, quiet) depth 12
 
 ret_calm : (plan : Plan) (x : DevId) (enabled : Bool) (v : Views) (h : Helper) (d : DevId) (c : ℤ) → Calms plan x enabled v (stage.Helper (at.Ret h d c)) (helper_returns h d c change.Same)
 ret_calm plan x enabled v h d c =
@@ -176,10 +163,6 @@ helper_calm plan x enabled v t (at.Delay ms since) holds = quiet refl (λ _. ref
 helper_calm plan x enabled v t (at.Ret h d c) holds = ret_calm plan x enabled v h d c
 
 -- the control functions
-enabling_calm : (plan : Plan) (x : DevId) (enabled : Bool) (v : Views) (d : DevId) (c : Command) → Calms plan x enabled v (stage.Control (control.Start c)) (enabling v d)
-unfolding enabling
-enabling_calm plan x enabled v d c = search (both, quiet) depth 12
-
 barrier_idles_calm : (plan : Plan) (x : DevId) (enabled : Bool) (v : Views) (d : DevId) (c : ℤ) (s : Stage) → Calms plan x enabled v s (barrier_idles v d c)
 unfolding barrier_idles
 barrier_idles_calm plan x enabled v d c s = search (both, quiet) depth 12
@@ -191,10 +174,6 @@ barrier_resumes_calm plan x enabled v d s = search (both, quiet, barrier_idles_c
 barrier_ends_calm : (plan : Plan) (x : DevId) (enabled : Bool) (v : Views) (d : DevId) (c : ℤ) (s : Stage) → Calms plan x enabled v s (barrier_ends v d c)
 unfolding barrier_ends
 barrier_ends_calm plan x enabled v d c s = search (both, waiting, quiet) depth 12
-
-active_starts_calm : (plan : Plan) (x : DevId) (enabled : Bool) (v : Views) (d : DevId) (c : Command) → Calms plan x enabled v (stage.Control (control.Start c)) (active_starts plan v d)
-unfolding active_starts
-active_starts_calm plan x enabled v d c = search (both, quiet) depth 14
 
 active_gives_calm : (plan : Plan) (x : DevId) (enabled : Bool) (v : Views) (d : DevId) (c : ℤ) (s : Stage) (o : Option (ℕ × DevId)) → Calms plan x enabled v s (active_gives d c o)
 active_gives_calm plan x enabled v d c s (Some link) = quiet refl (λ _. refl) (λ _. refl) refl refl
@@ -212,10 +191,6 @@ active_links_calm : (plan : Plan) (x : DevId) (enabled : Bool) (v : Views) (d : 
 unfolding active_links
 active_links_calm plan x enabled v d s = active_takes_calm plan x enabled v d s (first_free plan v d)
 
-suspended_starts_calm : (plan : Plan) (x : DevId) (enabled : Bool) (v : Views) (d : DevId) (c : Command) → Calms plan x enabled v (stage.Control (control.Start c)) (suspended_starts v d)
-unfolding suspended_starts
-suspended_starts_calm plan x enabled v d c = search (both, quiet) depth 12
-
 tells_calm : (plan : Plan) (x : DevId) (enabled : Bool) (v : Views) (d : DevId) (last : Option DevId) (o : Option (ℕ × DevId)) → Calms plan x enabled v (stage.Control (control.SuppliersIdle d last)) (tells_supplier plan v d o)
 tells_calm plan x enabled v d last (Some link) = quiet refl (λ _. refl) (λ _. refl) refl refl
 tells_calm plan x enabled v d last None = search (both, quiet) depth 12
@@ -224,41 +199,11 @@ suppliers_calm : (plan : Plan) (x : DevId) (enabled : Bool) (v : Views) (d : Dev
 unfolding suppliers_idle
 suppliers_calm plan x enabled v d last = tells_calm plan x enabled v d last (next_supplier plan v d last)
 
-sets_calm : (plan : Plan) (x : DevId) (enabled : Bool) (v : Views) (h : Helper) (d : DevId) (u : Bool) (n : ℤ) (c : Command) → Calms plan x enabled v (stage.Control (control.Start c)) (sets plan v h d u n)
-unfolding sets
-sets_calm plan x enabled v h d u n c = search (both, quiet, zero_told) depth 16
-
-schedules_calm : (plan : Plan) (x : DevId) (enabled : Bool) (v : Views) (d : DevId) (ms t : ℕ) (c : Command) → Calms plan x enabled v (stage.Control (control.Start c)) (schedules plan v d ms t)
-unfolding schedules
-schedules_calm plan x enabled v d ms t c = search (both, quiet) depth 12
-
-topology_calm : (plan : Plan) (x : DevId) (enabled : Bool) (v : Views) (d s : DevId) (c : Command)
-    → Calms plan x enabled v (stage.Control (control.Start c)) (link_adds plan v d s) × Calms plan x enabled v (stage.Control (control.Start c)) (link_dels plan v d s)
-unfolding link_adds link_dels
-topology_calm plan x enabled v d s c = (search (both, quiet) depth 12, search (both, quiet) depth 12)
-
-allowing_calm : (plan : Plan) (x : DevId) (enabled : Bool) (v : Views) (d : DevId) (c : Command) → Calms plan x enabled v (stage.Control (control.Start c)) (forbidding v d) × Calms plan x enabled v (stage.Control (control.Start c)) (allowing v d)
-unfolding forbidding allowing
-allowing_calm plan x enabled v d c = (search (both, quiet) depth 12, search (both, quiet) depth 12)
-
 control_starts_calm : (plan : Plan) (x : DevId) (enabled : Bool) (v : Views) (t : ℕ) (h : Helper) (d : DevId) (n : ℤ) → not (is_disable h) ≡ true
     → Calms plan x enabled v (stage.Control (control.Start (command h d n))) (control_starts plan v (command h d n) t)
-unfolding control_starts
-control_starts_calm plan x enabled v t helper.ScheduleSuspend d n apart = schedules_calm plan x enabled v d (nat_abs n) t _
-control_starts_calm plan x enabled v t helper.Enable d n apart = enabling_calm plan x enabled v d _
+unfolding control_starts schedules enabling active_starts suspended_starts allowing forbidding sets link_adds link_dels
 control_starts_calm plan x enabled v t helper.Disable d n apart = cc
-control_starts_calm plan x enabled v t helper.Barrier d n apart = quiet refl (λ _. refl) (λ _. refl) refl refl
-control_starts_calm plan x enabled v t helper.SetActive d n apart = active_starts_calm plan x enabled v d _
-control_starts_calm plan x enabled v t helper.SetSuspended d n apart = suspended_starts_calm plan x enabled v d _
-control_starts_calm plan x enabled v t helper.Allow d n apart = (allowing_calm plan x enabled v d _).1
-control_starts_calm plan x enabled v t helper.Forbid d n apart = (allowing_calm plan x enabled v d _).0
-control_starts_calm plan x enabled v t helper.UseAutosuspend d n apart = sets_calm plan x enabled v helper.UseAutosuspend d true (device v d).delay _
-control_starts_calm plan x enabled v t helper.DontUseAutosuspend d n apart = sets_calm plan x enabled v helper.DontUseAutosuspend d false (device v d).delay _
-control_starts_calm plan x enabled v t helper.SetAutosuspendDelay d n apart = sets_calm plan x enabled v helper.SetAutosuspendDelay d (device v d).use_auto n _
-control_starts_calm plan x enabled v t helper.LinkAdd d n apart = (topology_calm plan x enabled v d _ _).0
-control_starts_calm plan x enabled v t helper.LinkDel d n apart = (topology_calm plan x enabled v d _ _).1
-control_starts_calm plan x enabled v t helper.GetSync d n apart = quiet refl (λ _. refl) (λ _. refl) refl (zero_told x enabled helper.GetSync d)
-control_starts_calm plan x enabled v t _ d n apart = quiet refl (λ _. refl) (λ _. refl) refl refl
+control_starts_calm plan x enabled v t _ d n apart = search (both, quiet, zero_told) depth 16
 
 control_calm : (plan : Plan) (x : DevId) (enabled : Bool) (v : Views) (t : ℕ) (s : ControlStage) → fits plan x enabled (stage.Control s) ≡ true → Calms plan x enabled v (stage.Control s) (control_row plan v s t)
 control_calm plan x enabled v t (control.Start c) fit = control_starts_calm plan x enabled v t c.helper c.dev c.number fit

@@ -15,10 +15,9 @@ use Rattle.pm_model.specs.World.{world}
 use Rattle.pm_book.specs.Pages.{Pages, is_full}
 use Rattle.pm_serial.specs.declared.running.End.{End}
 use Rattle.pm_serial.specs.declared.running.End.TheVariants as end
-use Rattle.pm_serial.specs.Ends.{GoesOn, HasMemory, HasTime, IsEnd, IsSerialEnd, Writes, whole}
-
-pub has_room : (p : Pages) → is_full p ≡ false → length p.lines < p.plan.lines
-has_room p free = grind (arith, nat_tests)
+use Rattle.pm_book.proofs.TurnLemmas.{has_room}
+use Rattle.pm_book.specs.Turn.{HasTime, Writes}
+use Rattle.pm_serial.specs.Ends.{GoesOn, HasMemory, IsEnd, IsSerialEnd, whole}
 
 -- a line more
 less_by_one : (a b : ℕ) → b < a → a - b ≡ suc (a - suc b)

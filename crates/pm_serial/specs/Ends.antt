@@ -1,27 +1,19 @@
 -- How a run on one thread goes on and ends (this project's own).
-use Rattle.std.specs.Prelude.{◌≡◌, ◌+◌, ◌++◌, ◌*◌, ◌-◌, ◌≤◌, ◌^◌, ℕ, Bool, false, true, List, Some, length, reverse}
-use Rattle.pm_base.specs.declared.ActorId.{ActorId}
+use Rattle.std.specs.Prelude.{◌≡◌, ◌++◌, ◌-◌, ◌≤◌, false, true, List, length, reverse}
 use Rattle.pm_model.specs.declared.event.Line.{Line}
 use Rattle.pm_model.specs.declared.plan.Plan.{Plan}
 use Rattle.pm_model.specs.History.{History}
-use Rattle.pm_model.specs.Lawful.{IsFinished, is_finished, last_time}
-use Rattle.pm_model.specs.Serial.{goes_on, next_line, next_turn, serial}
+use Rattle.pm_model.specs.Lawful.{IsFinished, is_finished}
+use Rattle.pm_model.specs.Serial.{goes_on, serial}
 use Rattle.pm_model.specs.World.{world}
-use Rattle.pm_state.specs.Standing.{IsActor}
-use Rattle.pm_book.specs.declared.steps.Step.{Step}
-use Rattle.pm_book.specs.declared.steps.Step.TheVariants as step
-use Rattle.pm_book.specs.Pages.{Longer, Pages, is_full, world_of}
+use Rattle.pm_book.specs.Pages.{Pages, is_full, world_of}
+use Rattle.pm_book.specs.Turn.{HasTime}
 use Rattle.pm_serial.specs.declared.running.End.{End}
 use Rattle.pm_serial.specs.declared.running.End.TheVariants as end
 
 -- the lines of the whole run to which one thread goes on from these, the newest first
 abbrev pub whole : Plan → History → History
 whole plan h = goes_on plan (plan.lines - length h) h
-
--- there is time for every line that the plan still allows: on one thread each comes at most 1,000,000 milliseconds after
--- the one before it
-abbrev pub HasTime : Plan → History → Type 0
-HasTime plan h = last_time h + 1000000 * (plan.lines - length h) ≤ 2 ^ 62
 
 -- all the lines that the plan still allows can be written without taking memory
 abbrev pub HasMemory : Pages → Type 0
@@ -44,22 +36,3 @@ IsEnd p end.AtLimit = (is_full p ≡ true) × (is_finished p.plan (world_of p) �
 abbrev pub IsSerialEnd : Plan → End → Type 0
 IsSerialEnd plan end.Finished = IsFinished plan (reverse (serial plan))
 IsSerialEnd plan end.AtLimit = (length (serial plan) ≡ plan.lines) × (is_finished plan (world plan (reverse (serial plan))) ≡ false)
-
--- it is this actor's turn at this moment, which comes soon after the last line, and the run isn't finished
-pub record IsTurn (p : Pages) (actor : ActorId) (now : ℕ) : Type 0 where
-  pub turn : next_turn p.plan p.lines ≡ Some (actor, now)
-  pub in_range : IsActor p.plan actor
-  pub soon : now ≤ last_time p.lines + 1000000
-  pub unfinished : is_finished p.plan (world_of p) ≡ false
-
--- the line that comes next on one thread is added
-pub record Writes (old new : Pages) : Type 0 where
-  pub line : Line
-  pub next : next_line old.plan old.lines ≡ Some line
-  pub soon : line.time ≤ last_time old.lines + 1000000
-  pub added : Longer old new line
-
--- a step that wrote nothing, since the actor's callback runs
-abbrev pub says_running : Step → Bool
-says_running (step.Running at) = true
-says_running _ = false

@@ -5,11 +5,11 @@ ghost use Rattle.pm_book.specs.Pages.{is_full};
 ghost use Rattle.pm_model.specs.declared.plan.Plan.{Plan};
 ghost use Rattle.pm_model.specs.Lawful.{IsFinished};
 ghost use Rattle.pm_model.specs.Serial.{serial};
-ghost use Rattle.pm_serial.specs.Ends.{GoesOn, HasMemory, HasTime, IsEnd, IsSerialEnd, IsTurn, Writes, says_running, whole};
+ghost use Rattle.pm_book.specs.Turn.{HasTime, IsTurn, Writes, says_running};
+ghost use Rattle.pm_serial.specs.Ends.{GoesOn, HasMemory, IsEnd, IsSerialEnd, whole};
 
 use pm_base::{ActorId, NoMemory};
 use pm_book::{Book, Step};
-use pm_law_bounds::due_moments;
 use pm_law_turns::{serial_ends, serial_stops};
 
 /// Milliseconds from one line to the next on one thread, at most.
@@ -25,17 +25,6 @@ pub enum End {
     Finished,
     /// The list has all the lines that the plan allows, and the run isn't finished.
     AtLimit,
-}
-
-// Whose turn it is, and when; nobody's where the run is finished.
-fn next_turn(book: &Book) -> Option<(ActorId, u64)>
-    ensures none { IfNone result (IsFinished book.now.plan book.now.lines) }
-    ensures some { IfSome result (λ turn. IsTurn book.now turn.0 turn.1) }
-{
-    due_moments();
-    serial_stops();
-    let _ = book.lines();
-    book.next_turn()
 }
 
 // Whether a step wrote nothing, since the actor's callback runs.
@@ -103,7 +92,7 @@ pub fn drain(book: &mut Book) -> Result<End, NoMemory>
 {
     serial_stops();
     serial_ends();
-    while let Some((actor, now)) = next_turn(book) {
+    while let Some((actor, now)) = book.next_turn() {
         if book.is_full() {
             return Ok(End::AtLimit);
         }

@@ -4,7 +4,7 @@ ghost use Rattle.std.specs.Prelude.{◌≤◌};
 
 use crate::texts::first_lines;
 use pm_base::PIECE_BYTES;
-use pm_cmd_run::top;
+use pm_cmd_top::top;
 use pm_gate::{Quiet, Ticker};
 use pm_io::{MemFiles, MemSink};
 use pm_planread::PlanFault;

@@ -1,6 +1,6 @@
-//! A judge, and a book, of a plan with one delay, which allows two lines.
+//! A judge, and a book, of a plan with one delay, which allows two lines; and a book that goes on by itself.
 
-ghost use Rattle.std.specs.Prelude.{◌≡◌, ◌<◌, ◌^◌, IfSome};
+ghost use Rattle.std.specs.Prelude.{◌≡◌, ◌<◌, ◌^◌, [], IfOk, IfSome};
 ghost use Rattle.pm_state.specs.Standing.{IsActor};
 
 use pm_base::{ActorId, NoMemory};
@@ -8,11 +8,17 @@ use pm_book::{Bad, Book, Judge, TakeFault};
 use pm_lineread::read_line;
 use pm_model::{Event, Line, Move, Plan};
 use pm_planread::{PlanFault, read_plan};
+use pm_serial::{End, drain, fresh_books_have_time, has_time};
 use std::alloc::Global;
 
 /// A caller waits for 5 milliseconds.
 static DELAY: &[u8] = b"lines = 2
 caller = [{name = 'c', script = ['delay 5']}]
+";
+
+/// A caller resumes a device. Its seventh line begins the callback.
+static RESUME: &[u8] = b"device = [{name = 'a'}]
+caller = [{name = 'c', script = ['enable a', 'get_sync a']}]
 ";
 
 /// The delay's call, and its end.
@@ -44,8 +50,10 @@ fn judge(alloc: Global) -> Result<Judge, PlanFault> {
     }
 }
 
-fn book(alloc: Global) -> Result<Book, PlanFault> {
-    match Book::start(alloc, read_plan(alloc, DELAY)?) {
+fn book(alloc: Global, plan: &[u8]) -> Result<Book, PlanFault>
+    ensures { IfOk result (λ book. book.lines ≡ []) }
+{
+    match Book::start(alloc, read_plan(alloc, plan)?) {
         Ok(book) => Ok(book),
         Err((_plan, error)) => Err(error.into()),
     }
@@ -126,7 +134,7 @@ pub fn judge_offers(alloc: Global) -> Result<bool, PlanFault> {
 
 /// A book takes the delay's lines, says what is wrong with others, and has those that it took.
 pub fn book_takes(alloc: Global) -> Result<bool, PlanFault> {
-    let mut book = book(alloc)?;
+    let mut book = book(alloc, DELAY)?;
     for (text, bad) in &TAKEN {
         let fault = bad.map(TakeFault::from);
         if taken(&mut book, text) != Some(fault) {
@@ -138,4 +146,28 @@ pub fn book_takes(alloc: Global) -> Result<bool, PlanFault> {
     };
     let is_first = Some(*first) == line_of(book.plan(), CALL);
     Ok(is_first && Some(*second) == line_of(book.plan(), RET))
+}
+
+/// Lets the first caller go on by one line.
+fn step(book: &mut Book) -> Result<(), PlanFault> {
+    if book.plan().callers.len() > 0 {
+        book.step(ActorId::Caller(0), 0)?;
+    }
+    Ok(())
+}
+
+/// Seven steps of a caller, the last of which begins a callback, and then one thread, come to what one thread
+/// comes to alone.
+pub fn steps_then_drain(alloc: Global) -> Result<bool, PlanFault> {
+    let mut begun = book(alloc, RESUME)?;
+    for _ in 0..7 {
+        step(&mut begun)?;
+    }
+    if begun.lines().len() != 7 || !has_time(&begun) {
+        return Ok(false);
+    }
+    fresh_books_have_time();
+    let mut alone = book(alloc, RESUME)?;
+    let ends = (drain(&mut begun)?, drain(&mut alone)?);
+    Ok(ends == (End::Finished, End::Finished) && begun.lines() == alone.lines())
 }

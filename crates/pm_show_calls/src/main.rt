@@ -16,7 +16,7 @@ use anyhow::Result;
 use audits::{SAID, is_said};
 use calls::{by_few_bytes, ends_whole, failed_reads, failed_writes};
 use edits::{Usb, judged_as_told, stored_usb};
-use judges::{book_takes, judge_offers, judge_takes};
+use judges::{book_takes, judge_offers, judge_takes, steps_then_drain};
 use pm_io::DiskFiles;
 use pm_planread::PlanFault;
 use standing::{CUTS, stands};
@@ -64,7 +64,9 @@ fn tell_judges<P: Print>(rt: &P, alloc: Global) -> io::Result<()> {
     let offers = word(judge_offers(alloc));
     println!(rt; "what a judge offers is taken: {offers}")?;
     let takes = word(book_takes(alloc));
-    println!(rt; "a book takes a delay's lines, and no other: {takes}")
+    println!(rt; "a book takes a delay's lines, and no other: {takes}")?;
+    let same = word(steps_then_drain(alloc));
+    println!(rt; "seven steps and then one thread come to what one thread does: {same}")
 }
 
 /// Tells how devices stand.

@@ -12,7 +12,7 @@ use anyhow::Result;
 use comparing::{stored, verdict};
 use counters::counters_text;
 use pm_base::PIECE_BYTES;
-use pm_cmd_run::top;
+use pm_cmd_top::top;
 use pm_gate::{Quiet, Ticker};
 use pm_io::{DiskFiles, Files, MemSink};
 use std::alloc::{AllocError, Global};

@@ -6,6 +6,7 @@ use pm_io::{DiskFiles, FileFault, MemFiles, MemSink, StdErr, StdOut, read_all, w
 use std::alloc::{AllocError, Global};
 use std::fs;
 use std::rt::Files as FileSystem;
+use std::time::Clock;
 
 pub fn memory_cases(alloc: Global) -> Result<Vec<Case>, NotTried> {
     let reads = rows(&READS, |row| reads(alloc, row.0, row.1))?;
@@ -132,9 +133,9 @@ pub fn disk_cases<R: FileSystem>(rt: &R, alloc: Global) -> Result<Vec<Case>, Not
 }
 
 /// A piece is taken whole.
-pub fn stream_cases(
+pub fn stream_cases<R: Clock + Drop>(
     alloc: Global,
-    mut out: StdOut,
+    mut out: StdOut<R>,
     mut err: StdErr,
 ) -> Result<Vec<Case>, NotTried> {
     let to_out = write_whole(&mut out, b"to standard output\n").is_ok();

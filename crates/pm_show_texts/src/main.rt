@@ -34,7 +34,7 @@ fn main(rt: HostRuntime) -> io::Result<()> {
     tell(&rt, parting::cases(alloc))?;
     tell(&rt, filing::memory_cases(alloc))?;
     tell(&rt, filing::disk_cases(&rt, alloc))?;
-    let (out, err) = (StdOut::new(rt.stdout()), StdErr::new(rt.stderr()));
+    let (out, err) = (StdOut::new(&rt, rt.stdout()), StdErr::new(rt.stderr()));
     tell(&rt, filing::stream_cases(alloc, out, err))
 }
 

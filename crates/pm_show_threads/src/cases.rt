@@ -6,7 +6,7 @@ use crate::counting::{Counting, begun};
 use crate::plans::{APART, CUT, TIED, TIMED};
 use pm_base::DevId;
 use pm_book::Book;
-use pm_cmd_run::{finished, gather, locked_parts, run_islands};
+use pm_cmd_top::{finished, gather, locked_parts, run_islands};
 use pm_gate::{Gate, Meet, Quiet, Ticker};
 use pm_hands::run_hands;
 use pm_islands::islands;

@@ -55,3 +55,15 @@ link = [{consumer = '1-1.2', supplier = 'phy'}]
 caller = [{name = 'boot', script = ['enable phy', 'enable 0000:00:14.0', 'enable 1-1', 'enable 1-1.1', 'enable 1-1.2']},
 {name = 'x', script = ['delay 100', 'get_sync 1-1.1', 'delay 20', 'put 1-1.1']},
 {name = 'y', script = ['delay 100', 'get_sync 1-1.2', 'delay 30', 'put 1-1.2']}]";
+
+/// Two callers that do the same.
+pub static TWICE: &[u8] = b"device = [{name = 'a'}]
+caller = [{name = 'c', script = ['get_noresume a', 'put_noidle a']}, {name = 'e', script = ['get_noresume a', 'put_noidle a']}]";
+
+/// A caller that enables a device, and one that asks for it.
+pub static ASKS: &[u8] = b"device = [{name = 'a'}]
+caller = [{name = 'c', script = ['enable a', 'get_sync a', 'put a']}, {name = 'e', script = ['get_if_active a']}]";
+
+/// A caller that waits for a second, and one that doesn't.
+pub static LATER: &[u8] = b"device = [{name = 'a'}]
+caller = [{name = 'c', script = ['enable a', 'delay 1000', 'get_sync a']}, {name = 'e', script = ['get_noresume a', 'put_noidle a']}]";

@@ -3,12 +3,12 @@
 ghost use Rattle.std.specs.Prelude.{◌≤◌};
 
 use crate::cases::ticker;
+use crate::counting::{Counting, begun};
 use crate::plans::{CUT, HUB, ONE, SECONDS, STAGGERED, TIED, TIMED};
 use pm_audit::load_trace;
 use pm_base::{Cb, DevId};
-use pm_cmd_run::{desk_top, run_top, serial_top};
-use pm_cmd_trace::audit_top;
-use pm_gate::{Gate, Meet, Quiet};
+use pm_cmd_top::{audit_top, desk_top, run_top, serial_top};
+use pm_gate::{Clock, Gate, Meet, Quiet};
 use pm_io::{MemFiles, MemSink};
 use pm_model::{Event, Line};
 use pm_planread::{PlanFault, read_plan};
@@ -18,9 +18,9 @@ use std::thread::Threads;
 
 /// What a call answered and wrote.
 #[derive(Drop)]
-struct Seen {
-    status: u8,
-    out: MemSink,
+pub struct Seen {
+    pub status: u8,
+    pub out: MemSink,
 }
 
 /// A sink that takes all.
@@ -110,6 +110,27 @@ pub fn run_tells_what_overlaps<R: Threads + Wait + Sync>(
     Ok(is_done && is_told && !overlaps(alloc, STAGGERED, alone.out.taken())?)
 }
 
+/// Each of two resume callbacks of one island, whose plan `run` reads, waits in its gate for the other to begin.
+pub fn run_meets<R: Threads + Wait + Sync>(rt: &R, alloc: Global) -> Result<bool, PlanFault> {
+    let meet = Meet::new(DevId(0), DevId(1));
+    let ran = run(rt, alloc, TIED, 2, &meet)?;
+    Ok(ran.status == 0 && meet.met())
+}
+
+/// `run` by four hands calls the gate as often as lines that it writes begin a callback, of each kind.
+pub fn run_counts_callbacks<R: Threads + Wait + Sync>(
+    rt: &R,
+    alloc: Global,
+) -> Result<bool, PlanFault> {
+    let gate = Counting::new();
+    let ran = run(rt, alloc, TIMED, 4, &gate)?;
+    let Ok(book) = load_trace(alloc, read_plan(alloc, TIMED)?, ran.out.taken()) else {
+        return Ok(false);
+    };
+    let begun = begun(book.lines());
+    Ok(ran.status == 0 && begun.resumes > 1 && begun == gate.counts())
+}
+
 /// What one hand writes has its clock's times, a second for each line, where one thread's has none but 0.
 pub fn run_goes_by_its_clock<R: Threads + Wait + Sync>(
     rt: &R,
@@ -142,17 +163,17 @@ pub fn cut_run_is_of_one_thread<R: Threads + Wait + Sync>(
 }
 
 /// Runs each script of the plan by a pass of its own.
-fn desk<R: Threads + Wait + Sync, G: Gate + Sync>(
+pub fn desk<R: Threads + Wait + Sync, C: Clock + Sync, G: Gate + Sync>(
     rt: &R,
     alloc: Global,
     plan: &[u8],
+    clock: &C,
     gate: &G,
 ) -> Result<Seen, AllocError> {
     let mut files = files(alloc, plan, b"")?;
     let (mut out, mut err) = (sink(alloc), sink(alloc));
-    let clock = ticker(alloc)?;
     let status = desk_top(
-        rt, alloc, "plan", &mut files, &mut out, &mut err, &clock, gate,
+        rt, alloc, "plan", &mut files, &mut out, &mut err, clock, gate,
     );
     Ok(Seen { status, out })
 }
@@ -160,7 +181,7 @@ fn desk<R: Threads + Wait + Sync, G: Gate + Sync>(
 /// Two callbacks of scripts that passes call run at once.
 pub fn desk_meets<R: Threads + Wait + Sync>(rt: &R, alloc: Global) -> Result<bool, PlanFault> {
     let meet = Meet::new(DevId(0), DevId(1));
-    let ran = desk(rt, alloc, TIED, &meet)?;
+    let ran = desk(rt, alloc, TIED, &ticker(alloc)?, &meet)?;
     Ok(ran.status == 0 && meet.met())
 }
 
@@ -170,7 +191,7 @@ pub fn desk_tells_what_overlaps<R: Threads + Wait + Sync>(
     alloc: Global,
 ) -> Result<bool, PlanFault> {
     let meet = Meet::new(DevId(0), DevId(1));
-    let ran = desk(rt, alloc, STAGGERED, &meet)?;
+    let ran = desk(rt, alloc, STAGGERED, &ticker(alloc)?, &meet)?;
     let is_done = ran.status == 0 && meet.met();
     Ok(is_done && overlaps(alloc, STAGGERED, ran.out.taken())?)
 }
@@ -180,7 +201,7 @@ pub fn desk_passes_audit<R: Threads + Wait + Sync>(
     rt: &R,
     alloc: Global,
 ) -> Result<bool, PlanFault> {
-    let ran = desk(rt, alloc, HUB, &Quiet)?;
+    let ran = desk(rt, alloc, HUB, &ticker(alloc)?, &Quiet)?;
     let mut files = files(alloc, HUB, ran.out.taken())?;
     let (mut out, mut err) = (sink(alloc), sink(alloc));
     let status = audit_top(alloc, "plan", "trace", &mut files, &mut out, &mut err);
@@ -192,7 +213,7 @@ pub fn cut_desk_is_of_one_thread<R: Threads + Wait + Sync>(
     rt: &R,
     alloc: Global,
 ) -> Result<bool, PlanFault> {
-    let ran = desk(rt, alloc, CUT, &Quiet)?;
+    let ran = desk(rt, alloc, CUT, &ticker(alloc)?, &Quiet)?;
     let alone = run_alone(alloc, CUT)?;
     Ok(ran.status == 6 && alone.status == 6 && ran.out.taken() == alone.out.taken())
 }

@@ -2,7 +2,7 @@
 #![tactic(auto)]
 
 use pm_cmd_ends::{Fault, refuse_words};
-use pm_cmd_run::top;
+use pm_cmd_top::top;
 use pm_gate::{Quiet, Stopwatch};
 use pm_io::{DiskFiles, StdErr, StdOut};
 use std::process::ExitCode;
@@ -11,9 +11,9 @@ use std::{env, io};
 
 fn main(rt: HostRuntime) -> ExitCode {
     let mut files = DiskFiles::new(&rt);
-    let mut out = StdOut::new(rt.stdout());
+    let mut out = StdOut::new(&rt, rt.stdout());
     let mut err = StdErr::new(rt.stderr());
-    let clock = Stopwatch::start(&rt);
+    let clock = Stopwatch::new(&rt);
     let status = match arguments(&rt) {
         Ok(words) => top(
             &rt,

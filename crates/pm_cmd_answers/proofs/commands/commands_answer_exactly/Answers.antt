@@ -1,6 +1,6 @@
 use Rattle.pm_io.specs.Faults.{Rose}
 use Rattle.pm_cmd_ends.specs.Request.{asked_by}
-use Rattle.pm_cmd_run.specs.Commands.{AskedEnds}
+use Rattle.pm_cmd_top.specs.Commands.{AskedEnds}
 use Rattle.pm_cmd_answers.proofs.AskedStatuses.{asked_exactly, asked_missing, asked_refused, named_exactly}
 use Rattle.pm_cmd_answers.proofs.FileCases.{all_cases}
 use Rattle.pm_cmd_answers.proofs.PlanStatuses.{refusals}

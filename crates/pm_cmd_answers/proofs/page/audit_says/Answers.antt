@@ -1,6 +1,6 @@
 use Rattle.std.proofs.Common.{refl}
 use Rattle.pm_cmd_ends.specs.Ending.{SaidNo}
-use Rattle.pm_cmd_trace.specs.Commands.{AuditEnds}
+use Rattle.pm_cmd_top.specs.TraceCommands.{AuditEnds}
 use Rattle.pm_cmd_answers.specs.Page.{IsBadTrace, IsLawfulTrace, IsRefusedTrace}
 use Rattle.pm_cmd_answers.proofs.PageLemmas.{audit_done, bad_not_refused, first_exactly, lawful_not_bad, lawful_not_refused, one_three, second_exactly, third_exactly, trace_is, zero_one, zero_three}
 use Rattle.pm_cmd_answers.proofs.page.audit_says.Goals as goal

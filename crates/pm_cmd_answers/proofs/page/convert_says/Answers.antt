@@ -1,6 +1,6 @@
 use Rattle.std.proofs.Common.{refl}
 use Rattle.pm_cmd_ends.specs.Ending.{NotLawful}
-use Rattle.pm_cmd_trace.specs.Commands.{ConvertEnds}
+use Rattle.pm_cmd_top.specs.TraceCommands.{ConvertEnds}
 use Rattle.pm_cmd_answers.specs.Page.{IsBadTrace, IsLawfulTrace, IsRefusedTrace}
 use Rattle.pm_cmd_answers.proofs.PageLemmas.{bad_not_refused, convert_done, first_exactly, lawful_not_bad, lawful_not_refused, one_three, second_exactly, third_exactly, trace_is, zero_one, zero_three}
 use Rattle.pm_cmd_answers.proofs.page.convert_says.Goals as goal

@@ -1,5 +1,5 @@
 use Rattle.std.proofs.Common.{Some}
-use Rattle.pm_cmd_answers.specs.Complete.{HasDevice}
+use Rattle.pm_cmd_ends.specs.Told.{HasDevice}
 use Rattle.pm_cmd_answers.specs.Page.{IsBadTrace, IsLawfulTrace, IsRefusedWhy}
 use Rattle.pm_cmd_answers.proofs.PageLemmas.{first_exactly, lawful_not_bad, one_three, second_exactly, third_exactly, why_bad_not_refused, why_is, why_lawful_not_refused, zero_one, zero_three}
 use Rattle.pm_cmd_answers.proofs.page.why_says.Goals as goal

@@ -1,8 +1,8 @@
 use Rattle.std.proofs.Common.{Some, refl, lit<}
 use Rattle.pm_io.specs.Faults.{Rose}
-use Rattle.pm_cmd_run.specs.Runs.{RunEnds}
+use Rattle.pm_cmd_top.specs.Runs.{RunEnds}
 use Rattle.pm_cmd_ends.specs.Reading.{OfPlan}
-use Rattle.pm_cmd_run.specs.Commands.{CheckEnds, MakeEnds}
+use Rattle.pm_cmd_top.specs.Commands.{CheckEnds, MakeEnds}
 use Rattle.pm_cmd_answers.specs.Complete.{count_statuses, run_statuses}
 use Rattle.pm_cmd_answers.proofs.PlanStatuses.{check_statuses, make_statuses, own_statuses, thread_statuses}
 use Rattle.pm_cmd_answers.proofs.plans.plans_answer_exactly.Goals as goal

@@ -1,6 +1,6 @@
 use Rattle.std.proofs.Common.{None, Some, refl, lit<}
 use Rattle.pm_io.specs.Faults.{Rose}
-use Rattle.pm_cmd_run.specs.Runs.{SerialEnds}
+use Rattle.pm_cmd_top.specs.Runs.{SerialEnds}
 use Rattle.pm_cmd_ends.specs.Reading.{OfPlan}
 use Rattle.pm_cmd_answers.specs.Complete.{run_statuses}
 use Rattle.pm_cmd_answers.proofs.PlanStatuses.{own_statuses, plan_missing, plan_refused, refusals, serial_statuses}

@@ -1,7 +1,7 @@
 use Rattle.std.proofs.Common.{Some, refl, lit<}
 use Rattle.pm_io.specs.Faults.{Rose}
 use Rattle.pm_cmd_ends.specs.Reading.{OfPlan}
-use Rattle.pm_cmd_trace.specs.Commands.{OfAudit, OfConvert, OfTimes, OfWhy}
+use Rattle.pm_cmd_top.specs.TraceCommands.{OfAudit, OfConvert, OfTimes, OfWhy}
 use Rattle.pm_cmd_answers.specs.Complete.{trace_statuses}
 use Rattle.pm_cmd_answers.proofs.PlanStatuses.{own_statuses}
 use Rattle.pm_cmd_answers.proofs.TraceStatuses.{audit_statuses, convert_statuses, times_statuses, why_statuses}

@@ -1,7 +1,7 @@
 use Rattle.std.proofs.Common.{◌≡◌, [], subst, sym}
 use Rattle.std.proofs.lemmas.Result.{IfOk-weaker}
 use Rattle.pm_islands.specs.Blank.{IsBlank}
-use Rattle.pm_serial.specs.Ends.{HasTime}
+use Rattle.pm_book.specs.Turn.{HasTime}
 use Rattle.pm_desk.specs.Closing.{AreAlike}
 use Rattle.pm_desk.proofs.CloseLemmas.{alike_back, blank_alike}
 use Rattle.pm_desk.proofs.closing.mended.Goals as goal

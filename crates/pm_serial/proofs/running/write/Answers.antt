@@ -1,6 +1,6 @@
 use Rattle.std.proofs.Common.{ap, rules, sym}
 use Rattle.pm_book.specs.Pages.{Pages}
-use Rattle.pm_serial.proofs.TurnLemmas.{end_behind, runs_behind, step_alone}
+use Rattle.pm_book.proofs.TurnLemmas.{end_behind, runs_behind, step_alone}
 use Rattle.pm_serial.proofs.WholeLemmas.{goes_nowhere}
 use Rattle.pm_serial.proofs.running.write.Goals as goal
 

@@ -1,6 +1,0 @@
-mod ComesLemmas
-mod GatherLemmas
-mod OneRun
-mod DeskLemmas
-pub mod RunLemmas
-pub mod SummaryLemmas

@@ -1,4 +1,0 @@
-pub mod Gathering
-pub mod Runs
-pub mod Commands
-pub mod Counts

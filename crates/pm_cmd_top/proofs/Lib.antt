@@ -1,0 +1,9 @@
+mod ComesLemmas
+mod GatherLemmas
+mod OneRun
+mod DeskLemmas
+pub mod RunLemmas
+pub mod SummaryLemmas
+pub mod FeedLemmas
+pub mod TraceLemmas
+pub mod WriteLemmas

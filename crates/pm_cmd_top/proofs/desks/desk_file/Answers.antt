@@ -1,0 +1,30 @@
+use Rattle.std.proofs.Common.{◌≡◌, refl}
+use Rattle.std.proofs.lemmas.Result.{err_from_is_err_and}
+use Rattle.pm_io.specs.Faults.{Rose}
+use Rattle.pm_cmd_ends.specs.Ending.{taking}
+use Rattle.pm_cmd_ends.proofs.CalmLemmas.{handed_on}
+use Rattle.pm_cmd_ends.proofs.ReadLemmas.{came_read, came_unread}
+use Rattle.pm_cmd_top.specs.Runs.{RunEnds}
+use Rattle.pm_cmd_top.proofs.desks.desk_file.Goals as goal
+
+pub returns-in_err-plan-clause-came : goal.returns-in_err-plan-clause-came
+returns-in_err-plan-clause-came g c =
+    let told = g.F.Files.told c.args.files.now c.args.plan.now in
+    let faults = g.F.Files.faults in
+    let p = err_from_is_err_and c.from_residual.result c.from_residual.ensures.1 in
+    rw (p.1, p.2)
+    (came_unread g.F.Files.tells_all told RunEnds (Rose (faults c.args.files.now) (faults c.load.new.files))
+    (taking g.O.Sink.taken g.O.Sink.faults c.args.out.now c.args.out.now) c.in_err-plan.field-0.0 c.in_err-plan.ensures.unread refl)
+
+pub returns-clause-came : goal.returns-clause-came
+returns-clause-came g c =
+    let told = g.F.Files.told c.args.files.now c.args.plan.now in
+    let faults = g.F.Files.faults in
+    came_read g.F.Files.tells_all told c.in_ok-plan.plan RunEnds ⊥ (Rose (faults c.args.files.now) (faults c.load.new.files))
+    (taking g.O.Sink.taken g.O.Sink.faults c.args.out.now c.desk_plan.new.out) c.desk_plan.result (λ none. absurd none) c.in_ok-plan.ensures.read c.desk_plan.ensures
+
+pub returns-in_err-plan-clause-calm : goal.returns-in_err-plan-clause-calm
+returns-in_err-plan-clause-calm g c =
+    let faults = g.F.Files.faults in
+    let p = err_from_is_err_and c.from_residual.result c.from_residual.ensures.1 in
+    rw (p.1, p.2) (handed_on c.in_err-plan.field-0.0 (faults c.load.new.files ≡ faults c.args.files.now) c.in_err-plan.ensures.calm)

@@ -1,3 +1,0 @@
-pub mod FeedLemmas
-pub mod TraceLemmas
-pub mod WriteLemmas

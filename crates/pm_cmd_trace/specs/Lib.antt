@@ -1,3 +1,0 @@
-pub mod Commands
-pub mod Feeding
-pub mod Traces

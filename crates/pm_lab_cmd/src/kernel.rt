@@ -1,0 +1,55 @@
+//! `kernel PLAN`: writes the plan as a module for a kernel.
+
+ghost use Rattle.pm_cmd_ends.specs.Coming.{Came};
+ghost use Rattle.pm_cmd_ends.specs.Ending.{taking};
+ghost use Rattle.pm_cmd_ends.specs.Reading.{OfPlan};
+ghost use Rattle.pm_io.specs.Faults.{Rose};
+ghost use Rattle.pm_lab_cmd.specs.Commands.{KernelEnds};
+ghost use Rattle.pm_lab_ends.specs.Ending.{Answered};
+
+use pm_cmd_ends::{Fault, load};
+use pm_io::{Files, Sink, write_whole};
+use pm_lab_ends::finish;
+use pm_model::Plan;
+use pm_module::module_text;
+use std::alloc::Global;
+
+/// Runs `kernel PLAN`: reads the plan and writes the text of its module to `out`. A message goes to `err`,
+/// and the answer is the status that the program ends with.
+pub fn kernel_top<F: Files, O: Sink, E: Sink>(
+    alloc: Global,
+    plan: &str,
+    files: &mut F,
+    out: &mut O,
+    err: &mut E,
+) -> u8
+    ensures { Answered (OfPlan F.tells_all (F.told files.old plan.now) KernelEnds) plan.now result
+        (Rose (F.faults files.old) (F.faults files.new))
+        (taking O.taken O.faults out.old out.new) (taking E.taken E.faults err.old err.new) }
+{
+    finish(run_kernel(alloc, plan, files, out), plan, err)
+}
+
+/// Reads the plan and writes the text of its module.
+fn run_kernel<F: Files, O: Sink>(
+    alloc: Global,
+    plan: &str,
+    files: &mut F,
+    out: &mut O,
+) -> Result<(), Fault>
+    ensures { Came (OfPlan F.tells_all (F.told files.old plan.now) KernelEnds) result
+        (Rose (F.faults files.old) (F.faults files.new))
+        (taking O.taken O.faults out.old out.new) }
+{
+    let plan = load(alloc, plan, files)?;
+    write_module(alloc, &plan, out)
+}
+
+/// Writes the text of a plan's module. Everything that takes memory comes before the first write.
+fn write_module<O: Sink>(alloc: Global, plan: &Plan, out: &mut O) -> Result<(), Fault>
+    ensures { Came (KernelEnds plan.now) result ⊥ (taking O.taken O.faults out.old out.new) }
+{
+    let text = module_text(alloc, plan)?;
+    write_whole(out, text.as_slice())?;
+    Ok(())
+}

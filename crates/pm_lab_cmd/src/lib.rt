@@ -1,0 +1,12 @@
+//! The commands of `pm_lab`, and the dispatch, `top`, which hands each command's words to it. Files and sinks are handed in.
+#![tactic(auto)]
+
+mod dispatch;
+mod help;
+mod kernel;
+mod request;
+
+pub use dispatch::top;
+pub use help::{HELP, KERNEL_PAGE};
+pub use kernel::kernel_top;
+pub use request::{Request, read_words};

@@ -1,0 +1,7 @@
+use Rattle.pm_module.proofs.TextLemmas.{done, more}
+use Rattle.pm_module.proofs.rows.DeviceRowRow.push_row.Goals as goal
+
+pub returns : goal.returns
+returns c =
+    let old = c.args.text.now.items in
+    done old _ _ _ _ c.push-2.result (more old _ _ _ _ (more old _ _ _ _ (more old _ _ _ _ c.in_ok-push.ensures c.in_ok-push_ends.ensures) c.in_ok-push_flags.ensures) c.in_ok-push_callbacks.ensures) c.push-2.ensures

@@ -1,0 +1,4 @@
+mod Numbering
+pub mod Places
+mod Successors
+mod Moments

@@ -1,0 +1,5 @@
+mod Actors
+mod RunLemmas
+mod WayLemmas
+mod FoundLemmas
+mod ListLemmas

@@ -1,0 +1,65 @@
+//! The graph of the spots of a plan.
+
+ghost use Rattle.std.specs.Prelude.{◌≡◌, map};
+ghost use Rattle.pm_orders.specs.Spots.{Follows, all_actors, start_spot};
+ghost use Rattle.pm_orders.specs.Spots.Pace.{Prompt};
+ghost use Rattle.pm_orders.specs.Spots.{Spot as Where};
+ghost use Rattle.pm_spot.specs.SpotOf.{spot_of};
+ghost use Rattle.pm_ways.specs.Found.{IsTooFar};
+
+use crate::next::next_spots;
+use pm_base::{ActorId, NoMemory};
+use pm_model::Plan;
+use pm_search::{Graph, Stop, Tree, way_back};
+use pm_spot::Spot;
+use std::alloc::Global;
+
+/// The spots of a plan, each followed by those to which the lines of a prompt pace lead.
+#[derive(Drop)]
+pub struct PromptGraph<'a> {
+    pub plan: &'a Plan,
+    /// All actors of the plan.
+    pub actors: &'a [ActorId],
+    ghost all: { actors.now ≡ all_actors plan.now },
+}
+
+impl Graph<Spot> for PromptGraph<'_> {
+    ghost use Rattle.pm_spot.proofs.SpotAlike.{same_if};
+
+    ghost Point = { Where };
+
+    ghost point = { λ g n. spot_of n };
+
+    ghost start = { λ g. start_spot g.plan.now };
+
+    ghost Follows = { λ g. Follows Prompt g.plan.now };
+
+    ghost IsTooFar = { λ g points parents at. IsTooFar g.plan.now parents at };
+
+    fn successors(
+        &self,
+        alloc: Global,
+        tree: &Tree<Spot>,
+        at: usize,
+        spends: bool,
+    ) -> Result<Vec<Spot>, Stop> {
+        let way = way_back(alloc, tree.parents.as_slice(), at)?;
+        if way.len() > self.plan.lines as usize {
+            return Err(Stop::TooFar);
+        }
+        match next_spots(
+            alloc,
+            self.plan,
+            self.actors,
+            tree,
+            at,
+            way.as_slice(),
+            spends,
+        ) {
+            Ok(spots) => Ok(spots),
+            Err(NoMemory) => Err(Stop::NoMemory),
+        }
+    }
+
+    ghost same = { λ g n m is. same_if n m is };
+}

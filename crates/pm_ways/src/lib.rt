@@ -1,0 +1,11 @@
+//! The orders of a plan's lines at a prompt pace, searched through: where they stand by which number of disturbances
+//! (this project's own).
+#![tactic(auto)]
+
+mod graph;
+mod next;
+mod replay;
+mod run;
+mod searching;
+
+pub use searching::prompt_orders;

@@ -1,0 +1,98 @@
+//! A run that goes step by step, and keeps no lines.
+
+ghost use Rattle.std.specs.Prelude.{◌≡◌, ◌<◌, ◌≤◌, ◌+◌, IfOk, false, true};
+ghost use Rattle.pm_model.specs.declared.event.Line.{Line as ALine};
+ghost use Rattle.pm_orders.specs.Spots.{MayFollow, code_of, start_spot};
+ghost use Rattle.pm_spot.specs.SpotOf.{spot_of};
+ghost use Rattle.pm_state.specs.Standing.{IsActor};
+ghost use Rattle.pm_ways.specs.Runs.{IsRunOf, Took, spot_of_run};
+
+use pm_base::{ActorId, NoMemory};
+use pm_book::{all_stand_well, each_line_fits, each_line_is_taken, offered};
+use pm_law_bounds::lines_are_bounded;
+use pm_law_counts::sizes;
+use pm_model::{Event, Move, Plan};
+use pm_spot::Spot;
+use pm_state::State;
+use pm_steps::Last;
+use std::alloc::{AllocError, Global};
+
+/// Where a run stands, with its last line, and how many lines it has.
+#[derive(Drop)]
+pub struct Run {
+    pub state: State,
+    pub last: Last,
+    pub lines: u32,
+}
+
+// What an event returns to a caller.
+fn code_of(event: &Event) -> Option<i32>
+    ensures { result ≡ code_of event.now }
+{
+    match event {
+        Event::Ret { code, .. } => Some(*code),
+        _ => None,
+    }
+}
+
+impl Run {
+    /// The run of a plan before any line.
+    pub fn start(alloc: Global, plan: &Plan) -> Result<Run, NoMemory>
+        ensures run { IfOk result (λ run. IsRunOf plan.now run) }
+        ensures spot { IfOk result (λ run. spot_of_run run ≡ start_spot plan.now) }
+        ensures lines { IfOk result (λ run. run.lines ≡ 0) }
+    {
+        let state = State::fresh(alloc, plan)?;
+        let last = Last {
+            time: 0,
+            actor: None,
+            code: None,
+        };
+        Ok(Run {
+            state,
+            last,
+            lines: 0,
+        })
+    }
+
+    /// Writes the line of an actor of the plan at a time that is near, if it may write one; whether it may. It
+    /// takes no memory.
+    pub fn step(&mut self, plan: &Plan, actor: ActorId, time: u64) -> bool
+        requires run { IsRunOf plan.now self.old }
+        requires in_range { IsActor plan.now actor }
+        requires room { self.old.lines < plan.now.lines }
+        requires near { time ≤ self.old.last.time + 1000000 }
+        ensures took { result ≡ true → Took plan.now self.old self.new actor time }
+        ensures none { result ≡ false → (line : ALine) → line.actor ≡ actor → line.time ≡ time → ¬ MayFollow plan.now (spot_of_run self.old) line }
+    {
+        all_stand_well();
+        each_line_is_taken();
+        each_line_fits();
+        lines_are_bounded();
+        let mut offer = Move::Late(time);
+        if !offered(plan, &self.state, self.last.time, actor, time, &mut offer) {
+            return false;
+        }
+        let Move::Write(event, change, next) = offer else {
+            return false;
+        };
+        self.state.go(plan, time, actor, &event, &change, &next);
+        self.last = Last {
+            time,
+            actor: Some(actor),
+            code: code_of(&event),
+        };
+        self.lines += 1;
+        true
+    }
+
+    /// Where it stands, as it is kept.
+    pub fn spot(&self, alloc: Global, plan: &Plan) -> Result<Spot, AllocError>
+        requires run { IsRunOf plan.now self.now }
+        ensures { IfOk result (λ spot. spot_of spot ≡ spot_of_run self.now) }
+    {
+        sizes();
+        let last = self.last;
+        Spot::of(alloc, plan, &self.state, last.time, last.actor, last.code)
+    }
+}
