@@ -1,0 +1,47 @@
+//! The text of a refusal.
+
+ghost use Rattle.std.specs.Prelude.{◌≡◌, ◌≤◌, ◌++◌, OnOk, flat_map, length, map};
+ghost use Rattle.std.specs.String.{string_bytes};
+ghost use Rattle.pm_refusals.specs.Told.{token_told};
+ghost use Rattle.pm_source.specs.Excerpts.{hint_text};
+
+use crate::located::Located;
+use pm_base::NoMemory;
+use pm_source::{push, push_excerpt, push_hint, push_place};
+use std::alloc::Global;
+
+/// Appends what is told of a token: its place and a word, as `FILE:LINE:COLUMN: error:`, the message, the
+/// line with the token underlined, and the lines that help. `file` is how the file is called. Fails where
+/// memory runs out.
+#[tactic(auto, unfolding(crate::specs::Told::token_told))]
+pub fn push_located(
+    alloc: Global,
+    out: &mut Vec<u8>,
+    file: &[u8],
+    bytes: &[u8],
+    word: &str,
+    located: &Located,
+) -> Result<(), NoMemory>
+    requires { located.now.span.end ≤ length bytes.now }
+    ensures { OnOk result (out.new.items ≡ out.old.items ++ token_told file.now bytes.now located.now.span.start located.now.span.end word.now (string_bytes located.now.message) (map string_bytes located.now.hints.items)) }
+{
+    let span = located.span;
+    push_place(out, file, bytes, span.start)?;
+    push(out, b": ")?;
+    push(out, word.as_bytes())?;
+    push(out, b": ")?;
+    push(out, located.message.as_bytes())?;
+    push(out, b"\n")?;
+    push_excerpt(alloc, out, bytes, span)?;
+    push_hints(out, bytes, span.start, located.hints.as_slice())
+}
+
+fn push_hints(out: &mut Vec<u8>, bytes: &[u8], at: usize, hints: &[String]) -> Result<(), NoMemory>
+    requires { at ≤ length bytes.now }
+    ensures { OnOk result (out.new.items ≡ out.old.items ++ flat_map (hint_text bytes.now at) (map string_bytes hints.now)) }
+{
+    for hint in hints {
+        push_hint(out, bytes, at, hint.as_bytes())?;
+    }
+    Ok(())
+}

@@ -1,0 +1,62 @@
+//! The text of a refusal.
+
+ghost use Rattle.std.specs.Prelude.{◌≡◌, ◌≤◌, IfOk, length};
+ghost use Rattle.pm_say.specs.Faults.{Tells};
+
+use crate::notes::note_of;
+use pm_base::NoMemory;
+use pm_planread::{PlanFault, PlanWhy, refusal_message};
+use pm_plantree::{Section, document};
+use pm_refusals::{Located, of_long_text, of_no_toml, of_note, push_located};
+use pm_source::push;
+use std::alloc::Global;
+
+/// A refusal of `read_plan`.
+#[derive(Clone, Copy, Debug)]
+pub struct Refusal {
+    pub why: PlanWhy,
+    pub section: Section,
+    pub item: u32,
+    pub part: u32,
+}
+
+/// What is told of a refusal of these bytes, with its token. Fails where memory runs out.
+fn locate(alloc: Global, bytes: &[u8], refusal: Refusal) -> Result<Located, NoMemory>
+    ensures { IfOk result (λ located. located.span.end ≤ length bytes.now) }
+{
+    match refusal.why {
+        PlanWhy::TooLong => of_long_text(alloc, bytes),
+        PlanWhy::NotToml => of_no_toml(alloc, bytes),
+        _ => of_tree(alloc, bytes, refusal),
+    }
+}
+
+fn of_tree(alloc: Global, bytes: &[u8], refusal: Refusal) -> Result<Located, NoMemory>
+    ensures { IfOk result (λ located. located.span.end ≤ length bytes.now) }
+{
+    let Some(tree) = document(alloc, bytes)? else {
+        return of_no_toml(alloc, bytes);
+    };
+    let note = note_of(alloc, &tree, refusal)?;
+    of_note(alloc, bytes, note)
+}
+
+/// The text that is told of a refusal of these bytes: its place as `FILE:LINE:COLUMN: error:`, a message, the
+/// line with the token underlined, lines that help, and as the last line the message that `PlanFault` has.
+/// `file` is how the file is called. Fails where memory runs out.
+#[tactic(auto, using(crate::proofs::SayLemmas::tells_at))]
+pub fn refused_text(
+    alloc: Global,
+    file: &[u8],
+    bytes: &[u8],
+    refusal: Refusal,
+) -> Result<Vec<u8>, NoMemory>
+    ensures { IfOk result (λ text. Tells file.now bytes.now (PlanFault.Refused refusal.why refusal.section refusal.item refusal.part) text.items) }
+{
+    let located = locate(alloc, bytes, refusal)?;
+    let mut out = Vec::new(alloc);
+    push_located(alloc, &mut out, file, bytes, "error", &located)?;
+    let last = refusal_message(refusal.why, refusal.section, refusal.item, refusal.part);
+    push(&mut out, last.as_slice())?;
+    Ok(out)
+}
