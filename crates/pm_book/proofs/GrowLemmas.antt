@@ -23,7 +23,8 @@ use Rattle.pm_state.specs.Standing.{IsOf, Standing}
 use Rattle.pm_law_turns.specs.Wakes.{wakes, wakes_at}
 use Rattle.pm_turns.specs.Seats.{Asks, IsSeated, Seating, moment_by}
 use Rattle.pm_turns.specs.Turning.{AreOf, Index, IsIndex, is_listed}
-use Rattle.pm_book.specs.Growing.{HasCallers, IsPlanWith, with_callers, with_command}
+use Rattle.pm_model.specs.Scripts.{with_command}
+use Rattle.pm_book.specs.Growing.{HasCallers, IsPlanWith, with_callers}
 use Rattle.pm_book.specs.Pages.{IsKept}
 use Rattle.pm_book.proofs.ScriptLemmas.{as_many, grown, other_row, same_due, stays}
 

@@ -1,5 +1,5 @@
 -- A longer script leaves the rows of the call table, the world after a list and its lawfulness as they are.
-use Rattle.std.proofs.Common.{ℕ, zero, suc, ◌≡◌, ◌≢◌, ◌+◌, ◌<◌, ◌≤◌, ◌&&◌, ◌∙◌, ◌++◌, Bool, true, List, [], ◌∷◌, Option, Some, None, length, map, option_map, slice_get, slice_set, nat_le, ap, arith, refl, subst, sym}
+use Rattle.std.proofs.Common.{ℕ, zero, suc, ◌≡◌, ◌≢◌, ◌+◌, ◌<◌, ◌≤◌, ◌&&◌, ◌∙◌, ◌++◌, Bool, true, List, [], ◌∷◌, Option, Some, None, length, map, option_map, slice_get, nat_le, ap, arith, refl, subst, sym}
 use Rattle.std.specs.List.{list_all}
 use Rattle.std.specs.Option.{option_and_then}
 use Rattle.std.proofs.lemmas.Bool.{and_parts, leb-true}
@@ -33,7 +33,8 @@ use Rattle.pm_model.specs.Row.{Row, writes, waits}
 use Rattle.pm_model.specs.SuspendTable.{autosuspend_at, suspend_verdict, suspend_ends, suspend_links, suspend_domain, suspend_parent}
 use Rattle.pm_model.specs.Views.{Views}
 use Rattle.pm_model.specs.World.{World, after_line, called_by, due, move, place, ready, row, row_at, stage_at, start, top, world}
-use Rattle.pm_book.specs.Growing.{IsPlanWith, longer, script_of, with_callers, with_command}
+use Rattle.pm_model.specs.Scripts.{longer, with_command}
+use Rattle.pm_book.specs.Growing.{IsPlanWith, script_of, with_callers}
 
 -- the rows and the change of events don't read the callers
 same_event : (plan : Plan) (callers : List CallerRow) (law : IsPlanWith plan callers) (t : ℕ) (e : Event) (v : Views) → by_event (with_callers plan callers law) t e v ≡ by_event plan t e v
@@ -97,12 +98,6 @@ same_for_each : {A : Type 0} (x : A) (command : Command) (c : ℕ) (rows : List 
 same_for_each x command c [] = refl
 same_for_each x command zero (first ∷ rows) = refl
 same_for_each x command (suc c) (first ∷ rows) = ap (λ l. x ∷ l) (same_for_each x command c rows)
-
--- the row is put in place of the caller's
-pub set_longer : (command : Command) (c : ℕ) (rows : List CallerRow) (row : CallerRow) → slice_get rows c ≡ Some row → slice_set rows c (longer command row) ≡ with_command command c rows
-set_longer command c [] row is = cc is
-set_longer command zero (x ∷ rows) row is = let same : x ≡ row = cc is in ap (λ r. longer command r ∷ rows) (sym same)
-set_longer command (suc c) (x ∷ rows) row is = ap (λ l. x ∷ l) (set_longer command c rows row is)
 
 -- a caller with a longer script is one still, where there is room for a command of the plan
 all_longer : {A : Type 0} (test : A → Bool) (xs : List A) (x : A) → list_all test xs ≡ true → test x ≡ true → list_all test (xs ++ x ∷ []) ≡ true

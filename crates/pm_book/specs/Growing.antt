@@ -1,25 +1,16 @@
 -- A script that becomes longer (this project's own).
-use Rattle.std.specs.Prelude.{ℕ, zero, suc, ◌≡◌, ◌++◌, true, List, [], ◌∷◌, slice_get}
+use Rattle.std.specs.Prelude.{ℕ, ◌≡◌, true, List, [], slice_get}
 use Rattle.std.specs.Option.{option_map_or}
 use Rattle.pm_model.specs.declared.event.Command.{Command}
 use Rattle.pm_model.specs.declared.plan.Plan.{Plan}
 use Rattle.pm_model.specs.declared.rows.CallerRow.{CallerRow}
 use Rattle.pm_model.specs.IsPlan.{is_plan}
+use Rattle.pm_model.specs.Scripts.{with_command}
 use Rattle.pm_book.specs.Pages.{Pages}
 
 -- the script of a caller
 abbrev pub script_of : List CallerRow → ℕ → List Command
 script_of callers c = option_map_or (λ row. row.script) (slice_get callers c) []
-
--- a command more at the end of a script
-abbrev pub longer : Command → CallerRow → CallerRow
-longer command row = record row { script = row.script ++ command ∷ [] }
-
--- the same at the end of this caller's script
-abbrev pub with_command : Command → ℕ → List CallerRow → List CallerRow
-with_command command c [] = []
-with_command command zero (row ∷ rows) = longer command row ∷ rows
-with_command command (suc c) (row ∷ rows) = row ∷ with_command command c rows
 
 -- the lists make a plan with these callers
 abbrev pub IsPlanWith : Plan → List CallerRow → Type 0

@@ -22,7 +22,6 @@ use Rattle.pm_model.specs.declared.stage.SuspendStage.TheVariants as suspend
 use Rattle.pm_model.specs.declared.stage.Then.{Then}
 use Rattle.pm_model.specs.Changes.{has_auto_timer}
 use Rattle.pm_model.specs.Derived.{callback_code, has}
-use Rattle.pm_model.specs.NoWhy.{at_time}
 use Rattle.pm_model.specs.PlanRows.{no_callbacks}
 use Rattle.pm_model.specs.SuspendTable.{suspend_request}
 use Rattle.pm_model.specs.Views.{Views}
@@ -74,7 +73,3 @@ pub record Writes (plan : Plan) (w : World) (last : ℕ) (line : Line) (c : Chan
 
 abbrev pub MayCome : Plan → World → ℕ → Line → Type 0
 MayCome plan w last line = (c : Change) × (next : Then) × Writes plan w last line c next
-
--- it may at some time
-abbrev pub MayComeSometime : Plan → World → ℕ → Line → Type 0
-MayComeSometime plan w last line = (t : ℕ) × MayCome plan w last (at_time line t)

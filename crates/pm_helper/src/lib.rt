@@ -18,7 +18,7 @@ ghost use Rattle.pm_model.specs.WellFormed.{is_well_formed};
 ghost use Rattle.pm_model.specs.World.{due};
 ghost use Rattle.pm_device.specs.Parts.{IsFor};
 
-use pm_base::{DevId, EINVAL, Req, Why};
+use pm_base::{ASYNC, AUTO, DevId, EINVAL, GET_PUT, Req, Why};
 use pm_device::{Parts, back, calls, goes, helper_returns, then_returns, to_resume};
 use pm_model::{
     Await, Change, Command, ControlStage, Event, Helper, HelperStage, IdleStage, Move, Plan, Stage,
@@ -30,13 +30,13 @@ fn flags_of(helper: Helper) -> u8
     ensures { result ≡ flags_of helper }
 {
     match helper {
-        Helper::GetSync | Helper::PutSync | Helper::PutSyncSuspend => 4,
-        Helper::Get | Helper::Put => 5,
-        Helper::RequestResume | Helper::RequestIdle | Helper::ScheduleSuspend => 1,
-        Helper::PutAutosuspend => 13,
-        Helper::PutSyncAutosuspend => 12,
-        Helper::Autosuspend => 8,
-        Helper::RequestAutosuspend => 9,
+        Helper::GetSync | Helper::PutSync | Helper::PutSyncSuspend => GET_PUT,
+        Helper::Get | Helper::Put => ASYNC + GET_PUT,
+        Helper::RequestResume | Helper::RequestIdle | Helper::ScheduleSuspend => ASYNC,
+        Helper::PutAutosuspend => ASYNC + GET_PUT + AUTO,
+        Helper::PutSyncAutosuspend => GET_PUT + AUTO,
+        Helper::Autosuspend => AUTO,
+        Helper::RequestAutosuspend => ASYNC + AUTO,
         _ => 0,
     }
 }

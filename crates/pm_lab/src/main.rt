@@ -1,10 +1,10 @@
-//! What people look at in a plan and in its runs. `kernel` writes the plan as a module for a Linux kernel.
+//! What people look at in a plan and in its runs. `say` tells what is wrong with a refused plan, and `kernel` writes the
+//! plan as a module for a Linux kernel.
 #![tactic(auto)]
 
-use pm_cmd_ends::Fault;
 use pm_io::{DiskFiles, StdErr, StdOut};
 use pm_lab_cmd::top;
-use pm_lab_ends::refuse_words;
+use pm_lab_ends::{Fault, finish, refuse_words};
 use std::process::ExitCode;
 use std::rt::Env;
 use std::{env, io};
@@ -16,7 +16,7 @@ fn main(rt: HostRuntime) -> ExitCode {
     let status = match arguments(&rt) {
         Ok(words) => top(rt.alloc(), &words, &mut files, &mut out, &mut err),
         Err(error) if error.kind() == io::ErrorKind::OutOfMemory => {
-            Fault::NoMemory.report(&mut err)
+            finish(Err(Fault::NoMemory), "", &mut err)
         }
         Err(_) => refuse_words(&mut err),
     };

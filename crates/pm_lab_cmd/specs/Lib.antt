@@ -1,3 +1,2 @@
 pub mod Request
-pub mod Help
 pub mod Commands

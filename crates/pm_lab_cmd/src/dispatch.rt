@@ -7,9 +7,10 @@ ghost use Rattle.pm_lab_cmd.specs.Commands.{AskedEnds};
 ghost use Rattle.pm_lab_cmd.specs.Request.{asked_by, file_of};
 ghost use Rattle.pm_lab_ends.specs.Ending.{Answered, usage};
 
-use crate::help::{HELP, KERNEL_PAGE, help_top};
+use crate::help::{HELP, KERNEL_PAGE, SAY_PAGE, help_top};
 use crate::kernel::kernel_top;
 use crate::request::{Request, read_words};
+use crate::say::say_top;
 use pm_io::{Files, Sink};
 use pm_lab_ends::refuse_words;
 use std::alloc::Global;
@@ -35,7 +36,9 @@ pub fn top<F: Files, O: Sink, E: Sink>(
 {
     match read_words(words) {
         Some(Request::Help) => help_top(HELP, out, err),
+        Some(Request::HelpSay) => help_top(SAY_PAGE, out, err),
         Some(Request::HelpKernel) => help_top(KERNEL_PAGE, out, err),
+        Some(Request::Say { plan }) => say_top(alloc, plan, files, out, err),
         Some(Request::Kernel { plan }) => kernel_top(alloc, plan, files, out, err),
         None => refuse_words(err),
     }

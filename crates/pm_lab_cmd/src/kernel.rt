@@ -1,15 +1,14 @@
 //! `kernel PLAN`: writes the plan as a module for a kernel.
 
-ghost use Rattle.pm_cmd_ends.specs.Coming.{Came};
 ghost use Rattle.pm_cmd_ends.specs.Ending.{taking};
-ghost use Rattle.pm_cmd_ends.specs.Reading.{OfPlan};
 ghost use Rattle.pm_io.specs.Faults.{Rose};
 ghost use Rattle.pm_lab_cmd.specs.Commands.{KernelEnds};
+ghost use Rattle.pm_lab_ends.specs.Coming.{Came};
 ghost use Rattle.pm_lab_ends.specs.Ending.{Answered};
+ghost use Rattle.pm_lab_ends.specs.Reading.{OfPlan};
 
-use pm_cmd_ends::{Fault, load};
-use pm_io::{Files, Sink, write_whole};
-use pm_lab_ends::finish;
+use pm_io::{Files, Sink};
+use pm_lab_ends::{Fault, Outcome, finish, load, write_text};
 use pm_model::Plan;
 use pm_module::module_text;
 use std::alloc::Global;
@@ -23,7 +22,7 @@ pub fn kernel_top<F: Files, O: Sink, E: Sink>(
     out: &mut O,
     err: &mut E,
 ) -> u8
-    ensures { Answered (OfPlan F.tells_all (F.told files.old plan.now) KernelEnds) plan.now result
+    ensures { Answered (OfPlan F.tells_all (F.told files.old plan.now) plan.now KernelEnds) plan.now result
         (Rose (F.faults files.old) (F.faults files.new))
         (taking O.taken O.faults out.old out.new) (taking E.taken E.faults err.old err.new) }
 {
@@ -36,8 +35,8 @@ fn run_kernel<F: Files, O: Sink>(
     plan: &str,
     files: &mut F,
     out: &mut O,
-) -> Result<(), Fault>
-    ensures { Came (OfPlan F.tells_all (F.told files.old plan.now) KernelEnds) result
+) -> Result<Outcome, Fault>
+    ensures { Came (OfPlan F.tells_all (F.told files.old plan.now) plan.now KernelEnds) result
         (Rose (F.faults files.old) (F.faults files.new))
         (taking O.taken O.faults out.old out.new) }
 {
@@ -46,10 +45,9 @@ fn run_kernel<F: Files, O: Sink>(
 }
 
 /// Writes the text of a plan's module. Everything that takes memory comes before the first write.
-fn write_module<O: Sink>(alloc: Global, plan: &Plan, out: &mut O) -> Result<(), Fault>
+fn write_module<O: Sink>(alloc: Global, plan: &Plan, out: &mut O) -> Result<Outcome, Fault>
     ensures { Came (KernelEnds plan.now) result ⊥ (taking O.taken O.faults out.old out.new) }
 {
     let text = module_text(alloc, plan)?;
-    write_whole(out, text.as_slice())?;
-    Ok(())
+    write_text(text.as_slice(), Outcome::Done, out)
 }

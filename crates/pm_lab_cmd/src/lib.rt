@@ -5,8 +5,10 @@ mod dispatch;
 mod help;
 mod kernel;
 mod request;
+mod say;
 
 pub use dispatch::top;
-pub use help::{HELP, KERNEL_PAGE};
+pub use help::{HELP, KERNEL_PAGE, SAY_PAGE};
 pub use kernel::kernel_top;
 pub use request::{Request, read_words};
+pub use say::say_top;

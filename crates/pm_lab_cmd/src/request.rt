@@ -13,8 +13,12 @@ ghost use Rattle.pm_lab_cmd.specs.Request.{asked, asked_by, help_on, sole};
 pub enum Request<'a> {
     /// `help`: the usage and a line for each command.
     Help,
+    /// `help say`: the page of `say`.
+    HelpSay,
     /// `help kernel`: the page of `kernel`.
     HelpKernel,
+    /// `say PLAN`: tells what is wrong with the plan.
+    Say { plan: &'a str },
     /// `kernel PLAN`: writes the plan as a module for a kernel.
     Kernel { plan: &'a str },
 }
@@ -30,6 +34,9 @@ pub fn read_words(words: &[String]) -> Option<Request<'_>>
     };
     if command.as_str() == "help" {
         help_on(words)
+    } else if command.as_str() == "say" {
+        let plan = sole(words)?;
+        Some(Request::Say { plan })
     } else if command.as_str() == "kernel" {
         let plan = sole(words)?;
         Some(Request::Kernel { plan })
@@ -44,6 +51,7 @@ fn help_on(words: &[String]) -> Option<Request<'_>>
 {
     match words {
         [] => Some(Request::Help),
+        [command] if command.as_str() == "say" => Some(Request::HelpSay),
         [command] if command.as_str() == "kernel" => Some(Request::HelpKernel),
         _ => None,
     }

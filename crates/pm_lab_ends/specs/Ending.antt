@@ -1,21 +1,39 @@
--- How a command of pm_lab ends (this project's own). What it may come to, and what sinks took, is said as of pm_top's commands.
-use Rattle.std.specs.Prelude.{◌≡◌, ℕ, List, ◌++◌, Err, codes}
-use Rattle.pm_cmd_ends.specs.Coming.{Work, work_message as message_of_work}
-use Rattle.pm_cmd_ends.specs.Ending.{Ending, Failed, Taking, Told, TookNothing, TookText, TookTextPart, message_of, status_of, text_of}
-use Rattle.pm_cmd_ends.specs.declared.ending.Fault.TheVariants as fault
+-- How a command of pm_lab ends: its status, what `out` took and what `err` took (this project's own). What sinks took is said as of pm_top's commands.
+use Rattle.std.specs.Prelude.{◌≡◌, ℕ, List, [], ◌++◌, Option, Some, None, codes}
+use Rattle.pm_cmd_ends.specs.Ending.{Failed, Taking, Told, TookNothing, TookText, TookTextPart}
 use Rattle.pm_model.specs.Spelling.{newline}
 
 abbrev pub usage : List ℕ
-usage = codes "usage: pm_lab kernel PLAN\n"
+usage = codes "usage: pm_lab say PLAN | kernel PLAN\n"
 
 -- a read of this file failed
 abbrev pub read_message : List ℕ → List ℕ
 read_message file = codes "read: " ++ (file ++ newline)
 
--- the message that follows the work of a command over this file
-abbrev pub work_message : List ℕ → Work → List ℕ
-work_message file (Err fault.ReadFailed) = read_message file
-work_message file work = message_of_work work
+-- What a command may come to where neither reading nor writing nor memory fails: it is done, it found something, or it tells why
+-- the plan is refused, and this is its text; or the plan is refused, and this message tells of it.
+pub data Ending : Type 0 where
+  Done Found SaidRefused : (text : List ℕ) → Ending
+  Refused : (message : List ℕ) → Ending
+
+abbrev pub status_of : Ending → ℕ
+status_of (Done text) = 0
+status_of (Found text) = 1
+status_of (SaidRefused text) = 3
+status_of (Refused message) = 3
+
+-- the text, where one is written
+abbrev pub text_of : Ending → Option (List ℕ)
+text_of (Done text) = Some text
+text_of (Found text) = Some text
+text_of (SaidRefused text) = Some text
+text_of (Refused message) = None
+
+abbrev pub message_of : Ending → List ℕ
+message_of (Done text) = []
+message_of (Found text) = []
+message_of (SaidRefused text) = []
+message_of (Refused message) = message
 
 -- What a call of any command over this file answered and wrote, for a command that may come to these endings: an ending of its
 -- own; or a read failed, which it says only where the count of faults of its files rose; or a write failed, which it says only

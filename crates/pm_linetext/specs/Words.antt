@@ -23,22 +23,3 @@ all_reqs = every req.enum
 
 abbrev pub all_cbs : List Cb
 all_cbs = every cb.enum
-
--- the place of an event's word among the words of events
-abbrev pub event_place : Event → ℕ
-event_place (event.Call c) = 0
-event_place (event.Ret h d c) = 1
-event_place (event.Get d w) = 2
-event_place (event.Put d w) = 3
-event_place (event.Usage d f) = 4
-event_place (event.Idle d f) = 5
-event_place (event.Suspend d f) = 6
-event_place (event.Resume d f) = 7
-event_place (event.Return func d c) = 8
-event_place (event.Wait d) = 9
-event_place (event.State d w) = 10
-event_place (event.Begin d k) = 11
-event_place (event.End d k c) = 11
-event_place (event.Domain d up n) = 12
-event_place (event.Work d act) = 13
-event_place (event.Timer d act) = 14

@@ -1,6 +1,9 @@
 //! What a spot shows (this project's own).
 #![tactic(auto)]
 
+mod ends;
+mod finished;
 mod returns;
+mod showing;
 
-pub use returns::{Returned, shown_return};
+pub use showing::shown;

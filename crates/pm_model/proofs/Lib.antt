@@ -3,3 +3,4 @@ mod NameSearch
 pub mod PlaceNamed
 pub mod Arrivals
 pub mod SerialLemmas
+mod ScriptRows

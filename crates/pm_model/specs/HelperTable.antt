@@ -1,5 +1,5 @@
 -- The rows of the helpers that no control function is, of work items and of timers (runtime_pm.rst, section 4).
-use Rattle.std.specs.Prelude.{ℕ, Bool, true, false, ◌&&◌, [], ◌∷◌, ℤ, pos, nat_eq, if◌then◌else◌}
+use Rattle.std.specs.Prelude.{ℕ, ◌+◌, Bool, true, false, ◌&&◌, [], ◌∷◌, ℤ, pos, nat_eq, if◌then◌else◌}
 use Rattle.pm_base.specs.declared.DevId.{DevId}
 use Rattle.pm_base.specs.declared.Req.{Req}
 use Rattle.pm_base.specs.declared.Req.TheVariants as req
@@ -29,20 +29,30 @@ use Rattle.pm_model.specs.Changes.{has_auto_timer}
 use Rattle.pm_model.specs.Derived.{fields, is_active, is_disabled, is_in_use, first_of}
 use Rattle.pm_model.specs.Row.{Row, writes, helper_returns, suspends, goes, calls, back}
 
--- the flags of a helper (runtime_pm.rst, section 4; RPM_ASYNC 1, RPM_GET_PUT 4, RPM_AUTO 8)
+-- RPM_ASYNC, RPM_GET_PUT and RPM_AUTO
+abbrev pub async : ℕ
+async = 1
+
+abbrev pub get_put : ℕ
+get_put = 4
+
+abbrev pub auto : ℕ
+auto = 8
+
+-- the flags of a helper (runtime_pm.rst, section 4)
 abbrev pub flags_of : Helper → ℕ
-flags_of helper.GetSync = 4
-flags_of helper.Get = 5
-flags_of helper.RequestResume = 1
-flags_of helper.Put = 5
-flags_of helper.PutSync = 4
-flags_of helper.PutAutosuspend = 13
-flags_of helper.PutSyncSuspend = 4
-flags_of helper.PutSyncAutosuspend = 12
-flags_of helper.RequestIdle = 1
-flags_of helper.Autosuspend = 8
-flags_of helper.RequestAutosuspend = 9
-flags_of helper.ScheduleSuspend = 1
+flags_of helper.GetSync = get_put
+flags_of helper.Get = async + get_put
+flags_of helper.RequestResume = async
+flags_of helper.Put = async + get_put
+flags_of helper.PutSync = get_put
+flags_of helper.PutAutosuspend = async + get_put + auto
+flags_of helper.PutSyncSuspend = get_put
+flags_of helper.PutSyncAutosuspend = get_put + auto
+flags_of helper.RequestIdle = async
+flags_of helper.Autosuspend = auto
+flags_of helper.RequestAutosuspend = async + auto
+flags_of helper.ScheduleSuspend = async
 flags_of _ = 0
 
 -- the first stages of idle, of suspend and of a resume for the device itself

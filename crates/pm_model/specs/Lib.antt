@@ -5,6 +5,7 @@ pub mod NamedList
 -- what a plan is, and what its rows say
 pub mod IsPlan
 pub mod PlanRows
+pub mod Scripts
 -- the views, what follows from them, and what a line's event and a row's change make of them
 pub mod Views
 pub mod Derived

@@ -29,10 +29,6 @@ pub data Row : Type 0 where
   writes : Event → Change → Then → Row
   waits : DevId → Row
 
-abbrev pub after_of : Plan → ℕ → Views → Row → Views
-after_of plan t v (writes e change next) = by_event plan t e (change_views plan t change v)
-after_of plan t v (waits d) = v
-
 abbrev pub move_of : Row → Move
 move_of (writes e change next) = Write e change next
 move_of (waits d) = Wait d

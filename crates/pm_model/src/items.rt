@@ -1,7 +1,8 @@
 //! A list.
 
-ghost use Rattle.std.specs.Prelude.{◌≡◌, length};
+ghost use Rattle.std.specs.Prelude.{◌≡◌, ◌++◌, ◌∷◌, [], OnErr, OnOk, length};
 
+use pm_base::NoMemory;
 use std::marker::Model;
 
 /// A list, which contracts see as the list of its items. It is made of a `Vec` and gives
@@ -32,6 +33,17 @@ impl<T> Items<T> {
         ensures { result.now ≡ self.now }
     {
         &self.items
+    }
+
+    /// Puts an item at the end, in place. Fails where memory runs out, and changes nothing then.
+    pub fn push(&mut self, item: T) -> Result<(), NoMemory>
+    where
+        T: Copy,
+        ensures ok { OnOk result (self.new ≡ self.old ++ item ∷ []) }
+        ensures err { OnErr result (self.new ≡ self.old) }
+    {
+        self.items.push(item)?;
+        Ok(())
     }
 
     /// The items as the `Vec` that holds them.

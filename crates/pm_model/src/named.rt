@@ -1,12 +1,16 @@
 //! A list whose rows have names.
 
-ghost use Rattle.std.specs.Prelude.{◌≡◌, ◌↔◌, List, [], ℕ, ◌<◌, ◌^◌, Contains, IfNone, IfOk, IfSome, IsTrue, length, map, slice_get, nat_eq, vec_len};
+ghost use Rattle.std.specs.Prelude.{◌≡◌, ◌↔◌, List, [], ℕ, ◌<◌, ◌^◌, Contains, IfNone, IfOk, IfSome, IsTrue, OnErr, OnOk, length, map, slice_get, nat_eq, vec_len};
 ghost use Rattle.std.specs.List.{common_prefix_len, range_with_len};
 ghost use Rattle.std.specs.Option.{option_copied};
 ghost use Rattle.pm_model.specs.NameOrder.{IsNameOrder, IsPlaceInOrder, by_name, common_at, is_before, name_at};
 ghost use Rattle.pm_model.specs.NamedList.{common_len, place_named};
+ghost use Rattle.pm_model.specs.Scripts.{with_command};
 
+use crate::event::Command;
 use crate::items::Items;
+use crate::rows::CallerRow;
+use pm_base::NoMemory;
 use std::alloc::{AllocError, Global};
 use std::cmp::Ordering;
 use std::marker::Model;
@@ -123,6 +127,18 @@ impl<T: Named> NamedList<T> {
         ensures { result ≡ common_len bytes.now (map T.name_of self.now) }
     {
         common_len(&self.rows, &self.order, bytes)
+    }
+}
+
+impl NamedList<CallerRow> {
+    /// Puts a command at the end of a caller's script, in place: the names and their order stay. Fails where
+    /// memory runs out, and changes nothing then.
+    pub fn push_command(&mut self, caller: usize, command: Command) -> Result<(), NoMemory>
+        requires { caller < length self.old }
+        ensures ok { OnOk result (self.new ≡ with_command command caller self.old) }
+        ensures err { OnErr result (self.new ≡ self.old) }
+    {
+        self.rows[caller].script.push(command)
     }
 }
 

@@ -7,7 +7,7 @@ use crate::rows::{CallerList, DeviceList, DomainList, LinkList};
 
 /// What is run and what a trace is judged against (this project's own). Each value of the type is a
 /// plan: whoever makes one proves it.
-#[derive(Debug, Drop)]
+#[derive(Debug)]
 pub struct Plan {
     /// How many lines a run may have, 1 to 200,000.
     pub lines: u32,
@@ -18,4 +18,22 @@ pub struct Plan {
     pub links: LinkList,
     pub callers: CallerList,
     pub ghost law: { is_plan lines trace domains devices links callers ≡ true },
+}
+
+// Taken apart in one place: a plan is dropped at many, and each of them is a call.
+impl Drop for Plan {
+    fn drop(self) {
+        let Plan {
+            lines: _,
+            trace: _,
+            domains,
+            devices,
+            links,
+            callers,
+        } = self;
+        drop(domains);
+        drop(devices);
+        drop(links);
+        drop(callers);
+    }
 }

@@ -13,3 +13,4 @@ mod words;
 pub use engine::ENGINE;
 pub use head::HEAD;
 pub use tables::module_text;
+pub use words::push_command;

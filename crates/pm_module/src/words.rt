@@ -87,7 +87,7 @@ fn push_return(text: &mut Vec<u8>, plan: &Plan, command: &Command) -> Result<(),
 }
 
 /// Appends a command as a script has it.
-fn push_command(text: &mut Vec<u8>, plan: &Plan, command: &Command) -> Result<(), NoMemory>
+pub fn push_command(text: &mut Vec<u8>, plan: &Plan, command: &Command) -> Result<(), NoMemory>
     ensures { OnOk result
         (text.new.items ≡ text.old.items ++ command_text (names_of plan.now) command.now) }
 {

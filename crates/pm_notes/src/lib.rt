@@ -20,5 +20,5 @@ pub use keys::key_note;
 pub use kinds::kind_note;
 pub use names::{domain_note, later_note, link_note, name_note, repeat_note, unknown_note};
 pub use note::{Note, Other, Side};
-pub use rows::{element_path, item_path, key_path};
+pub use rows::{element_path, item_path, key_path, list, list_under, name_of, place_of, row, text};
 pub use tomls::{long_note, toml_note};

@@ -13,11 +13,23 @@ pub fn long_note<'a>(alloc: Global) -> Result<Note<'a>, NoMemory> {
 /// The note on a text that is no TOML, by the message of the kit's reader and by the bytes where it
 /// stopped. Fails where memory runs out.
 pub fn toml_note<'a>(alloc: Global, message: &str, rest: &[u8]) -> Result<Note<'a>, NoMemory> {
+    if is_control(rest) {
+        let words = format!(in alloc; "a control character mayn't stand in the text")?;
+        return Ok(Note::on_text(alloc, words));
+    }
     let words = words_of(message, rest);
     let note = Note::on_text(alloc, format!(in alloc; "{words}")?);
     match hint_of(message, rest) {
         Some(hint) => note.with_hint(format!(in alloc; "{hint}")?),
         None => Ok(note),
+    }
+}
+
+/// Whether the reader stopped at a control character, which no TOML has but a tab and the ends of lines.
+fn is_control(rest: &[u8]) -> bool {
+    match rest {
+        [] | [b'\t' | b'\n' | b'\r', ..] => false,
+        [c, ..] => c.is_ascii_control(),
     }
 }
 

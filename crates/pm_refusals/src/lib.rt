@@ -8,4 +8,4 @@ mod located;
 mod told;
 
 pub use located::{Located, of_long_text, of_no_toml, of_note};
-pub use told::push_located;
+pub use told::{push_each, push_located};

@@ -6,7 +6,7 @@ ghost use Rattle.toml.specs.Errors.{IsWithin};
 use pm_base::{NoMemory, PLAN_BYTES};
 use pm_notes::{Note, Side, long_note, toml_note};
 use pm_places::{Path, earlier, find};
-use pm_source::{Span, spot_of};
+use pm_source::{Span, mark_len, spot_of};
 use std::alloc::Global;
 
 /// What is told of a refusal, and the token that is shown.
@@ -51,10 +51,11 @@ fn limit_span(bytes: &[u8]) -> Span
 }
 
 /// The place before all.
-fn no_span() -> Span
-    ensures { result.end ≡ 0 }
+fn no_span(bytes: &[u8]) -> Span
+    ensures { result.end ≤ length bytes.now }
 {
-    Span { start: 0, end: 0 }
+    let start = mark_len(bytes).min(bytes.len());
+    Span { start, end: start }
 }
 
 /// What is told of a text that is no TOML: where the kit's reader stops. Fails where memory runs out.
@@ -62,7 +63,7 @@ pub fn of_no_toml(alloc: Global, bytes: &[u8]) -> Result<Located, NoMemory>
     ensures { IfOk result (λ located. located.span.end ≤ length bytes.now) }
 {
     match toml::table_from_slice(alloc, bytes) {
-        Ok(_) => Ok(shown_at(toml_note(alloc, "", bytes)?, no_span())),
+        Ok(_) => Ok(shown_at(toml_note(alloc, "", bytes)?, no_span(bytes))),
         Err(error) => of_toml_error(alloc, bytes, error),
     }
 }
@@ -118,7 +119,7 @@ pub fn of_note(alloc: Global, bytes: &[u8], note: Note) -> Result<Located, NoMem
     } = note;
     let span = match at {
         Some(path) => token(alloc, bytes, path, side)?,
-        None => no_span(),
+        None => no_span(bytes),
     };
     if let Some(other) = other {
         let place = token(alloc, bytes, other.at, Side::Key)?;
@@ -138,13 +139,13 @@ fn token(alloc: Global, bytes: &[u8], path: Path, side: Side) -> Result<Span, No
     ensures { IfOk result (λ span. span.end ≤ length bytes.now) }
 {
     let Ok(text) = str::from_utf8(bytes) else {
-        return Ok(no_span());
+        return Ok(no_span(bytes));
     };
     match find(alloc, text, path)? {
         Some(found) => Ok(match side {
             Side::Key => found.key,
             Side::Value => found.value,
         }),
-        None => Ok(no_span()),
+        None => Ok(no_span(bytes)),
     }
 }

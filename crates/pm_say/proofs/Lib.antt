@@ -1,1 +1,2 @@
 pub mod SayLemmas
+pub mod WarnedLemmas

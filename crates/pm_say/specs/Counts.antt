@@ -1,9 +1,7 @@
 -- What is told of a plan that is one (this project's own).
-use Rattle.std.specs.Prelude.{◌≡◌, ℕ, List, ◌++◌, codes, decimal, length}
-use Rattle.pm_model.specs.Islands.{Numbering}
+use Rattle.std.specs.Prelude.{ℕ, List, ◌++◌, codes, decimal, length}
 use Rattle.pm_model.specs.Spelling.{newline}
 use Rattle.pm_model.specs.declared.plan.Plan.{Plan}
-use Rattle.pm_planread.specs.PlanOf.{Contents, contents_of}
 
 -- how much a plan has, with its number of islands
 unfoldable pub counts_told : List ℕ → Plan → ℕ → List ℕ
@@ -11,11 +9,3 @@ counts_told file plan islands =
     file ++ codes ": devices " ++ decimal (length plan.devices) ++ codes " domains " ++ decimal (length plan.domains)
     ++ codes " links " ++ decimal (length plan.links) ++ codes " callers " ++ decimal (length plan.callers) ++ codes " islands " ++ decimal islands
     ++ newline
-
--- the line says how much the plan has
-pub record TellsCounts (file : List ℕ) (contents : Contents) (told : List ℕ) : Type 0 where
-  pub plan : Plan
-  pub of_text : contents_of plan ≡ contents
-  pub islands : ℕ
-  pub numbering : Numbering plan islands
-  pub is : told ≡ counts_told file plan islands

@@ -1,16 +1,20 @@
 -- What is told of a plan that is refused (this project's own).
-use Rattle.std.specs.Prelude.{◌≡◌, ℕ, ◌≤◌, List, ◌++◌, codes, length}
+use Rattle.std.specs.Prelude.{◌≡◌, ℕ, ◌≤◌, List, ◌++◌, All, codes, flat_map, length}
 use Rattle.pm_planread.specs.Messages.{fault_text}
 use Rattle.pm_planread.specs.declared.refusal.PlanFault.{PlanFault}
-use Rattle.pm_refusals.specs.Told.{token_told}
+use Rattle.pm_refusals.specs.Told.{Token, told_of}
 
--- The fault is told: the token stands in the text, and the last line is the fault's own message. Which words are said and
--- which token is shown is left open.
+-- the token stands in the text
+pub record IsIn (text : List ℕ) (token : Token) : Type 0 where
+  pub ordered : token.start ≤ token.stop
+  pub within : token.stop ≤ length text
+
+-- The fault is told: a token of the text that is its own, at most 19 that are of other refusals, and as the last line the fault's own
+-- message. Which words are said, which tokens are shown and which other refusals are told is left open.
 pub record Tells (file text : List ℕ) (fault : PlanFault) (told : List ℕ) : Type 0 where
-  pub start : ℕ
-  pub stop : ℕ
-  pub ordered : start ≤ stop
-  pub in_text : stop ≤ length text
-  pub message : List ℕ
-  pub hints : List (List ℕ)
-  pub is : told ≡ token_told file text start stop (codes "error") message hints ++ fault_text fault
+  pub first : Token
+  pub first_in : IsIn text first
+  pub others : List Token
+  pub others_in : All (IsIn text) others
+  pub few : length others ≤ 19
+  pub is : told ≡ told_of file text (codes "error") first ++ flat_map (told_of file text (codes "error")) others ++ fault_text fault

@@ -1,3 +1,4 @@
 pub mod Counts
+pub mod Warned
 pub mod Faults
 pub mod Says

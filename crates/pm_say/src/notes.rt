@@ -1,7 +1,7 @@
 //! The note on a refusal of a tree.
 
-use crate::refused::Refusal;
 use pm_base::NoMemory;
+use pm_further::Refusal;
 use pm_notes::{
     Note, code_note, command_note, domain_note, item_path, key_note, kind_note, later_note,
     link_note, many_note, name_note, number_note, repeat_note, unknown_note,

@@ -1,24 +1,19 @@
 //! The text of a refusal.
 
-ghost use Rattle.std.specs.Prelude.{◌≡◌, ◌≤◌, IfOk, length};
+ghost use Rattle.std.specs.Prelude.{◌≤◌, [], IfOk, length};
+ghost use Rattle.pm_plantree.specs.declared.place.Section.TheVariants.{Top};
+ghost use Rattle.pm_planread.specs.declared.refusal.PlanWhy.TheVariants.{TooLong};
 ghost use Rattle.pm_say.specs.Faults.{Tells};
 
 use crate::notes::note_of;
+use crate::others::others;
 use pm_base::NoMemory;
+use pm_further::Refusal;
 use pm_planread::{PlanFault, PlanWhy, refusal_message};
 use pm_plantree::{Section, document};
-use pm_refusals::{Located, of_long_text, of_no_toml, of_note, push_located};
+use pm_refusals::{Located, of_long_text, of_no_toml, of_note, push_each, push_located};
 use pm_source::push;
 use std::alloc::Global;
-
-/// A refusal of `read_plan`.
-#[derive(Clone, Copy, Debug)]
-pub struct Refusal {
-    pub why: PlanWhy,
-    pub section: Section,
-    pub item: u32,
-    pub part: u32,
-}
 
 /// What is told of a refusal of these bytes, with its token. Fails where memory runs out.
 fn locate(alloc: Global, bytes: &[u8], refusal: Refusal) -> Result<Located, NoMemory>
@@ -42,9 +37,8 @@ fn of_tree(alloc: Global, bytes: &[u8], refusal: Refusal) -> Result<Located, NoM
 }
 
 /// The text that is told of a refusal of these bytes: its place as `FILE:LINE:COLUMN: error:`, a message, the
-/// line with the token underlined, lines that help, and as the last line the message that `PlanFault` has.
-/// `file` is how the file is called. Fails where memory runs out.
-#[tactic(auto, using(crate::proofs::SayLemmas::tells_at))]
+/// line with the token underlined and lines that help; the same of other refusals; and as the last line the
+/// message that `PlanFault` has. `file` is how the file is called. Fails where memory runs out.
 pub fn refused_text(
     alloc: Global,
     file: &[u8],
@@ -54,9 +48,25 @@ pub fn refused_text(
     ensures { IfOk result (λ text. Tells file.now bytes.now (PlanFault.Refused refusal.why refusal.section refusal.item refusal.part) text.items) }
 {
     let located = locate(alloc, bytes, refusal)?;
+    let others = others(alloc, bytes, refusal)?;
     let mut out = Vec::new(alloc);
     push_located(alloc, &mut out, file, bytes, "error", &located)?;
+    push_each(alloc, &mut out, file, bytes, "error", others.as_slice())?;
     let last = refusal_message(refusal.why, refusal.section, refusal.item, refusal.part);
     push(&mut out, last.as_slice())?;
     Ok(out)
+}
+
+/// The text that is told of a file with more bytes than a plan may have, of which nothing is shown. `file`
+/// is how the file is called. Fails where memory runs out.
+pub fn too_long_text(alloc: Global, file: &[u8]) -> Result<Vec<u8>, NoMemory>
+    ensures { IfOk result (λ text. Tells file.now [] (PlanFault.Refused TooLong Top 0 0) text.items) }
+{
+    let refusal = Refusal {
+        why: PlanWhy::TooLong,
+        section: Section::Top,
+        item: 0,
+        part: 0,
+    };
+    refused_text(alloc, file, &[], refusal)
 }

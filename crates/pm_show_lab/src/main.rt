@@ -1,12 +1,13 @@
 //! Runs the cases of the folder `data` through the commands of `pm_lab`, and tells of each whether it wrote what is
-//! stored for it; then each of some commands over sinks that fail.
+//! stored for it; then each of some commands over sinks that fail, and over a file that is too long.
 #![tactic(auto)]
 
 use anyhow::Result;
 use pm_base::PLAN_BYTES;
-use pm_io::{DiskFiles, FileFault, Files, MemSink, read_all};
+use pm_io::{DiskFiles, FileFault, Files, MemFiles, MemSink, read_all};
 use pm_lab_cmd::top;
 use std::alloc::{AllocError, Global};
+use std::io::Print;
 
 /// The bytes that a sink takes at a call, at most.
 const MOST: usize = 1_000;
@@ -14,26 +15,62 @@ const MOST: usize = 1_000;
 fn main(rt: HostRuntime) -> Result<()> {
     let alloc = rt.alloc();
     let mut files = DiskFiles::new(&rt);
-    let commands = stored(alloc, &mut files, "commands.list")?;
+    show_stored(&rt, alloc, &mut files)?;
+    show_failing(&rt, alloc, &mut files)?;
+    show_long(&rt, alloc, &mut files)
+}
+
+/// Tells of each stored case, and of no words.
+fn show_stored<R: Print, F: Files>(rt: &R, alloc: Global, files: &mut F) -> Result<()> {
+    let commands = stored(alloc, files, "commands.list")?;
     for case in str::from_utf8(&commands)?.lines() {
         if let Some((kept, words)) = case_in(case) {
             let words = words_of(alloc, words)?;
-            let told = run_command(alloc, &mut files, kept, &words, &[], &[])?;
+            let told = run_command(alloc, files, kept, &words, &[], &[])?;
             println!(rt; "{words:?}: {told}")?;
         }
     }
-    let none = run_command(alloc, &mut files, "-", &[], &[], &[])?;
+    let none = run_command(alloc, files, "-", &[], &[], &[])?;
     println!(rt; "no words: {none}")?;
-    for words in ["kernel touch.toml", "help", "kernel no_such.toml"] {
+    Ok(())
+}
+
+/// Tells of commands over sinks that fail.
+fn show_failing<R: Print, F: Files>(rt: &R, alloc: Global, files: &mut F) -> Result<()> {
+    for words in [
+        "kernel touch.toml",
+        "say typos.toml",
+        "help",
+        "kernel no_such.toml",
+    ] {
         let words = words_of(alloc, words)?;
-        let out_fails = run_command(alloc, &mut files, "-", &words, &[1], &[])?;
+        let out_fails = run_command(alloc, files, "-", &words, &[1], &[])?;
         println!(rt; "{words:?}, out fails: {out_fails}")?;
-        let later = run_command(alloc, &mut files, "-", &words, &[3], &[])?;
+        let later = run_command(alloc, files, "-", &words, &[3], &[])?;
         println!(rt; "{words:?}, out fails at its third call: {later}")?;
-        let both = run_command(alloc, &mut files, "-", &words, &[1], &[1])?;
+        let both = run_command(alloc, files, "-", &words, &[1], &[1])?;
         println!(rt; "{words:?}, both fail: {both}")?;
     }
     Ok(())
+}
+
+/// Tells of commands over a file that is too long, and which sink took what is stored for it.
+fn show_long<R: Print, F: Files>(rt: &R, alloc: Global, files: &mut F) -> Result<()> {
+    let kept = stored(alloc, files, "say_long.txt")?;
+    for words in ["say long.toml", "kernel long.toml"] {
+        let words = words_of(alloc, words)?;
+        let ended = run_over(alloc, &mut long_file(alloc)?, &words, &[], &[])?;
+        let told = told_as(alloc, &ended, kept.as_slice())?;
+        println!(rt; "{words:?}: {told}")?;
+    }
+    Ok(())
+}
+
+/// A file with one byte more than a plan may have.
+fn long_file(alloc: Global) -> Result<MemFiles, AllocError> {
+    let name = String::from_str(alloc, "long.toml")?;
+    let file = (name, vec![in alloc; b' '; PLAN_BYTES + 1]?);
+    Ok(MemFiles::new(vec![in alloc; file]?, Vec::new(alloc)))
 }
 
 /// The bytes of a file of the folder.
@@ -49,6 +86,28 @@ fn case_in(line: &str) -> Option<(&str, &str)> {
     line.split_once(' ')
 }
 
+/// How a command ended: its status, and what the sinks took.
+#[derive(Drop)]
+struct Ended {
+    status: u8,
+    out: MemSink,
+    err: MemSink,
+}
+
+/// Runs the command that the words name, over sinks that fail at these calls.
+fn run_over<F: Files>(
+    alloc: Global,
+    files: &mut F,
+    words: &[String],
+    out_fails: &[u64],
+    err_fails: &[u64],
+) -> Result<Ended> {
+    let mut out = MemSink::new(alloc, MOST, Vec::from_slice(alloc, out_fails)?);
+    let mut err = MemSink::new(alloc, MOST, Vec::from_slice(alloc, err_fails)?);
+    let status = top(alloc, words, files, &mut out, &mut err);
+    Ok(Ended { status, out, err })
+}
+
 /// Runs the command that the words name, over sinks that fail at these calls, and tells its status, its message
 /// and how its output compares with what is stored.
 fn run_command<F: Files>(
@@ -59,12 +118,17 @@ fn run_command<F: Files>(
     out_fails: &[u64],
     err_fails: &[u64],
 ) -> Result<String> {
-    let mut out = MemSink::new(alloc, MOST, Vec::from_slice(alloc, out_fails)?);
-    let mut err = MemSink::new(alloc, MOST, Vec::from_slice(alloc, err_fails)?);
-    let status = top(alloc, words, files, &mut out, &mut err);
+    let Ended { status, out, err } = run_over(alloc, files, words, out_fails, err_fails)?;
     let message = str::from_utf8(err.taken())?;
     let told = verdict(alloc, files, out.taken(), kept)?;
     Ok(format!(in alloc; "status {status}, err {message:?}, out {told}")?)
+}
+
+/// Which sink took these bytes.
+fn told_as(alloc: Global, ended: &Ended, bytes: &[u8]) -> Result<String, AllocError> {
+    let Ended { status, out, err } = ended;
+    let (out, err) = (out.taken() == bytes, err.taken() == bytes);
+    format!(in alloc; "status {status}, out took it {out}, err took it {err}")
 }
 
 /// How the bytes compare with those of the file `kept`, or how many there are where that is `-`.

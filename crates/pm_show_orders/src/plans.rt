@@ -1,13 +1,20 @@
 //! The plans.
 
-/// What each plan is, its text, how many disturbances there may be, and how many spots.
-pub fn plans() -> [(&'static str, &'static [u8], usize, usize); 5] {
+/// What each plan is, its text, how many disturbances there may be, how many
+/// spots, and whether only what differs is told.
+pub fn plans() -> [(&'static str, &'static [u8], usize, usize, bool); 5] {
     [
-        ("one caller", ONE.as_slice(), 3, 1000),
-        ("a camera", CAMERA.as_slice(), 3, 1_000_000),
-        ("a camera, to the end", CAMERA.as_slice(), 99, 1_000_000),
-        ("a camera, few spots", CAMERA.as_slice(), 3, 500),
-        ("a camera, few lines", SHORT.as_slice(), 3, 1_000_000),
+        ("one caller", ONE.as_slice(), 3, 1000, false),
+        ("a camera", CAMERA.as_slice(), 3, 1_000_000, false),
+        (
+            "a camera, to the end",
+            CAMERA.as_slice(),
+            99,
+            1_000_000,
+            true,
+        ),
+        ("a camera, few spots", CAMERA.as_slice(), 3, 500, true),
+        ("a camera, few lines", SHORT.as_slice(), 3, 1_000_000, false),
     ]
 }
 

@@ -2,6 +2,7 @@
 -- longer, `..` stands for what is cut.
 use Rattle.std.specs.Prelude.{ℕ, ◌+◌, ◌-◌, max, min, ◌&&◌, List, [], ◌∷◌, ◌++◌, take, drop, codes, decimal, flat_map, length, nat_eq, nat_lt, replicate, if◌then◌else◌}
 use Rattle.pm_source.specs.Places.{chars, is_start, line_of, line_text, text_before, text_behind}
+use Rattle.pm_source.specs.Visible.{visible}
 
 -- how many bytes the first n characters are
 unfoldable pub front_len : ℕ → List ℕ → ℕ
@@ -56,8 +57,10 @@ excerpt number line before behind len =
 -- the line of a text on which a token begins that stands from `start` to `stop`
 unfoldable pub excerpt_text : List ℕ → ℕ → ℕ → List ℕ
 excerpt_text text start stop =
-    excerpt (line_of text start) (line_text text start) (text_before text start) (text_behind text start) (stop - start)
+    let behind = text_behind text start in
+    excerpt (line_of text start) (visible (line_text text start)) (visible (text_before text start)) (visible behind)
+    (length (visible (take (stop - start) behind)))
 
 -- a line below the excerpt of the line of a place
 unfoldable pub hint_text : List ℕ → ℕ → List ℕ → List ℕ
-hint_text text at hint = margin (line_of text at) ++ codes "= " ++ hint ++ codes "\n"
+hint_text text at hint = margin (line_of text at) ++ codes "= " ++ visible hint ++ codes "\n"

@@ -1,6 +1,7 @@
 -- Places in a text: lines and columns from 1 (this project's own). A line ends before its newline.
-use Rattle.std.specs.Prelude.{ℕ, ◌+◌, ◌-◌, ◌≤◌, Bool, not, ◌||◌, List, take, drop, length, nat_eq, nat_lt, nat_le, count_by, slice_index, slice_range, if◌then◌else◌}
+use Rattle.std.specs.Prelude.{ℕ, ◌+◌, ◌-◌, ◌≤◌, max, min, Bool, not, ◌||◌, List, [], ◌∷◌, take, drop, length, nat_eq, nat_lt, nat_le, count_by, slice_index, slice_range, if◌then◌else◌}
 use Rattle.std.specs.List.{position_or_len, suffix_len}
+use Rattle.std.specs.Str.{bytes_eq}
 
 abbrev pub is_newline : ℕ → Bool
 is_newline c = nat_eq c 10
@@ -21,9 +22,16 @@ line_count text = count_by is_newline text + 1
 abbrev pub line_of : List ℕ → ℕ → ℕ
 line_of text at = count_by is_newline (take at text) + 1
 
--- where the line of a place begins: behind the last newline before the place
+-- the bytes of a byte order mark, and how many of them the text begins with: all or none
+abbrev pub mark : List ℕ
+mark = 239 ∷ 187 ∷ 191 ∷ []
+
+unfoldable pub mark_len : List ℕ → ℕ
+mark_len text = if bytes_eq (take 3 text) mark then 3 else 0
+
+-- where the line of a place begins: behind the last newline before the place, or behind the byte order mark
 abbrev pub line_start : List ℕ → ℕ → ℕ
-line_start text at = at - suffix_len (λ c. not (is_newline c)) (take at text)
+line_start text at = max (at - suffix_len (λ c. not (is_newline c)) (take at text)) (min at (mark_len text))
 
 -- where the line of a place ends: at the first newline from the place on, or at the end of the text
 abbrev pub line_end : List ℕ → ℕ → ℕ

@@ -7,6 +7,7 @@ ghost use Rattle.pm_source.specs.Places.{chars};
 use crate::cut::{COLUMNS, push_behind, push_blanks, shown_before};
 use crate::pieces::{push, push_number, push_times};
 use crate::places::{behind, char_count, front, line_of, line_start, line_text};
+use crate::visible::{push_visible, visible};
 use itoa::Buffer;
 use pm_base::NoMemory;
 use std::alloc::Global;
@@ -33,21 +34,24 @@ pub fn push_excerpt(
     let at = span.start;
     let line = line_text(text, at);
     let column = at - line_start(text, at);
+    let rest = behind(line, column);
     let token = Token {
-        line,
-        before: front(line, column),
-        behind: behind(line, column),
-        len: span.end - at,
+        line: visible(alloc, line)?,
+        before: visible(alloc, front(line, column))?,
+        behind: visible(alloc, rest)?,
+        len: visible(alloc, front(rest, span.end - at))?.len(),
     };
     push_lines(alloc, out, line_of(text, at), &token)
 }
 
-/// A token on its line.
-#[derive(Clone, Copy)]
-struct Token<'a> {
-    line: &'a [u8],
-    before: &'a [u8],
-    behind: &'a [u8],
+/// What is shown of a line with a token, uncut.
+#[derive(Drop)]
+struct Token {
+    line: Vec<u8>,
+    before: Vec<u8>,
+    /// The line from the token on.
+    behind: Vec<u8>,
+    /// Bytes of it that the token takes.
     len: usize,
 }
 
@@ -58,9 +62,10 @@ fn push_lines(
     number: usize,
     token: &Token,
 ) -> Result<(), NoMemory>
-    ensures { OnOk result (out.new.items ≡ out.old.items ++ excerpt number token.now.line.now token.now.before.now token.now.behind.now token.now.len) }
+    ensures { OnOk result (out.new.items ≡ out.old.items ++ excerpt number token.now.line.items token.now.before.items token.now.behind.items token.now.len) }
 {
-    let shown = shown_before(alloc, token.line, token.before)?;
+    let shown = shown_before(alloc, token.line.as_slice(), token.before.as_slice())?;
+    let behind = token.behind.as_slice();
     let shown = shown.as_slice();
     let width = width_behind(shown);
     push_margin(out, number)?;
@@ -68,12 +73,12 @@ fn push_lines(
     push_number(out, number)?;
     push(out, b" | ")?;
     push(out, shown)?;
-    push_behind(out, width, token.behind)?;
+    push_behind(out, width, behind)?;
     push(out, b"\n")?;
     push_margin(out, number)?;
     push(out, b"| ")?;
     push_blanks(out, shown)?;
-    push_carets(out, width, front(token.behind, token.len))?;
+    push_carets(out, width, front(behind, token.len))?;
     push(out, b"\n")
 }
 
@@ -86,7 +91,7 @@ pub fn push_hint(out: &mut Vec<u8>, text: &[u8], at: usize, hint: &[u8]) -> Resu
 {
     push_margin(out, line_of(text, at))?;
     push(out, b"= ")?;
-    push(out, hint)?;
+    push_visible(out, hint)?;
     push(out, b"\n")
 }
 

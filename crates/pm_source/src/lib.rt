@@ -2,14 +2,17 @@
 //! underlined (this project's own).
 //!
 //! Lines and columns count from 1, columns in characters of UTF-8. A carriage return at the end of a
-//! line is no part of the line.
+//! line is no part of the line, and neither is a byte order mark at the start of the text. A control character is
+//! shown as `\x` with two digits.
 #![tactic(auto)]
 
 mod cut;
 mod excerpt;
 mod pieces;
 mod places;
+mod visible;
 
 pub use excerpt::{Span, push_excerpt, push_hint};
 pub use pieces::{push, push_number};
-pub use places::{Spot, push_place, spot_of};
+pub use places::{Spot, mark_len, push_place, spot_of};
+pub use visible::push_visible;

@@ -3,7 +3,7 @@
 ghost use Rattle.std.specs.Prelude.{◌≡◌, ◌-◌, ◌≤◌, ◌++◌, not, OnOk, drop, take, length};
 ghost use Rattle.std.specs.List.{suffix_len, position_or_len};
 ghost use Rattle.pm_source.specs.Lines.{place_text};
-ghost use Rattle.pm_source.specs.Places.{IsInText, chars, column_of, is_newline, is_start, line_end, line_of, line_start, line_text, text_before, without_return};
+ghost use Rattle.pm_source.specs.Places.{IsInText, chars, column_of, is_newline, is_start, line_end, line_of, line_start, line_text, mark_len, text_before, without_return};
 
 use crate::pieces::{push, push_number};
 use pm_base::NoMemory;
@@ -84,13 +84,25 @@ fn bytes_behind(rest: &[u8]) -> usize
     rest.iter().take_while(|c| **c != b'\n').count()
 }
 
-/// Where the line of a place begins.
+/// The byte order mark, with which a text may begin.
+const MARK: &[u8] = &[239, 187, 191];
+
+/// How many bytes the byte order mark takes, where the text begins with one.
+#[tactic(auto, unfolding(crate::specs::Places::mark_len))]
+pub fn mark_len(text: &[u8]) -> usize
+    ensures { result ≡ mark_len text.now }
+{
+    if front(text, 3) == MARK { 3 } else { 0 }
+}
+
+/// Where the line of a place begins. A byte order mark is no part of a line.
 pub(crate) fn line_start(text: &[u8], at: usize) -> usize
     requires { at ≤ length text.now }
     ensures value { result ≡ line_start text.now at }
     ensures within { result ≤ at }
 {
-    at - bytes_before(&text[..at])
+    let behind_newline = at - bytes_before(&text[..at]);
+    behind_newline.max(at.min(mark_len(text)))
 }
 
 fn line_end(text: &[u8], at: usize) -> usize

@@ -2,3 +2,4 @@ mod Numbering
 pub mod Places
 mod Successors
 mod Moments
+mod LoopLemmas

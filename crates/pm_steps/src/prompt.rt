@@ -88,10 +88,12 @@ fn any_may(plan: &Plan, state: &State, time: u64, actors: &[ActorId]) -> bool
     requires in_time { time < 2 ^ 63 }
     ensures { result ≡ list_any (may_write plan.now state.now.world time) actors.now }
 {
-    let [actor, rest @ ..] = actors else {
-        return false;
-    };
-    may(plan, state, *actor, time) || any_may(plan, state, time, rest)
+    for actor in actors {
+        if may(plan, state, *actor, time) {
+            return true;
+        }
+    }
+    false
 }
 
 // The earlier of a moment and the least of others, of which each may be missing.
@@ -115,12 +117,14 @@ fn least_due(plan: &Plan, state: &State, time: u64, actors: &[ActorId]) -> Optio
     requires in_time { time < 2 ^ 63 }
     ensures { result ≡ least (filter_map (λ actor. option_and_then late_moment (move_at plan.now state.now.world time actor)) actors.now) }
 {
-    let [actor, rest @ ..] = actors else {
-        return None;
-    };
-    let at = awaits(plan, state, *actor, time);
-    let later = least_due(plan, state, time, rest);
-    earlier(at, later)
+    let mut least = None;
+    let mut left = actors.len();
+    while left > 0 {
+        left -= 1;
+        let at = awaits(plan, state, actors[left], time);
+        least = earlier(at, least);
+    }
+    least
 }
 
 // Whether this is who wrote the last line.
@@ -217,13 +221,12 @@ fn push_lines(
     requires own { own ≡ last_may plan.now (spot_at state.now.world last) }
     ensures { OnOk result (out.new.items ≡ out.old.items ++ filter_map (line_for plan.now (spot_at state.now.world last) spends time) actors.now) }
 {
-    let [actor, rest @ ..] = actors else {
-        return Ok(());
-    };
-    if let Some(line) = line_for(plan, state, last, spends, anyone, own, time, *actor) {
-        out.push(line)?;
+    for actor in actors {
+        if let Some(line) = line_for(plan, state, last, spends, anyone, own, time, *actor) {
+            out.push(line)?;
+        }
     }
-    push_lines(out, plan, state, last, spends, anyone, own, time, rest)
+    Ok(())
 }
 
 // Whether anybody may write now.

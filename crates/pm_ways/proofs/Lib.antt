@@ -3,3 +3,4 @@ mod RunLemmas
 mod WayLemmas
 mod FoundLemmas
 mod ListLemmas
+mod WitnessLemmas

@@ -6,7 +6,7 @@ use Rattle.pm_search.specs.Trees.IsWay.{begins, leads_on}
 use Rattle.pm_search.proofs.Lists.{some_within}
 
 -- it has the place that it leads back from
-way_first : (parents : List ℕ) (at : ℕ) (way : List ℕ) → IsWay parents at way → get_or way 0 0 ≡ at
+pub way_first : (parents : List ℕ) (at : ℕ) (way : List ℕ) → IsWay parents at way → get_or way 0 0 ≡ at
 way_first parents _ _ begins = refl
 way_first parents _ _ (leads_on i pos is rest) = refl
 
@@ -22,7 +22,7 @@ way_last parents _ _ (leads_on {way = way} i pos is rest) zero e = absurd (empty
 way_last parents _ _ (leads_on {way = way} i pos is rest) (suc n) e = way_last parents _ way rest n (omega (arith, e))
 
 -- each place's parent comes next
-record IsLink (parents : List ℕ) (child parent : ℕ) : Type 0 where
+pub record IsLink (parents : List ℕ) (child parent : ℕ) : Type 0 where
   pub later : 0 < child
   pub is : slice_get parents child ≡ Some parent
 
@@ -35,7 +35,7 @@ pub way_some : (parents : List ℕ) (at : ℕ) (way : List ℕ) → IsWay parent
 way_some parents _ _ begins = omega arith
 way_some parents _ _ (leads_on i pos is rest) = omega arith
 
-way_ends : (parents : List ℕ) (at : ℕ) (way : List ℕ) → IsWay parents at way → get_or way (length way - 1) 0 ≡ 0
+pub way_ends : (parents : List ℕ) (at : ℕ) (way : List ℕ) → IsWay parents at way → get_or way (length way - 1) 0 ≡ 0
 way_ends parents at way is = let some = way_some parents at way is in way_last parents at way is (length way - 1) (omega (arith, some))
 
 some_is : {A : Type 0} (x y : A) → Some x ≡ Some y → x ≡ y
@@ -57,7 +57,7 @@ module _ {P : Type 0} (Follows : Bool → P → P → Type 0) (start : P) (point
       ap (slice_get points) (way_ends parents at way is) ∙ s.1 ∙ ap Some (tree.first s.0 s.1 ∙ sym first)
 
   -- each place of a way but the last follows the one after it
-  link_of : (at : ℕ) (way : List ℕ) (left : ℕ) → IsWay parents at way → 0 < left → left < length way → IsLink parents (get_or way (left - 1) 0) (get_or way left 0)
+  pub link_of : (at : ℕ) (way : List ℕ) (left : ℕ) → IsWay parents at way → 0 < left → left < length way → IsLink parents (get_or way (left - 1) 0) (get_or way left 0)
   link_of at way left is pos lt =
       let e : suc (left - 1) ≡ left = omega (arith, pos) in
       subst (λ n. IsLink parents (get_or way (left - 1) 0) (get_or way n 0)) e (way_link parents at way is (left - 1) (omega (arith, pos, lt)))

@@ -7,5 +7,7 @@ mod next;
 mod replay;
 mod run;
 mod searching;
+mod witness;
 
 pub use searching::prompt_orders;
+pub use witness::order_to;

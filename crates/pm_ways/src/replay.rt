@@ -16,8 +16,8 @@ use pm_spot::Spot;
 use pm_steps::{lines_are_by_one, prompt_times_are_near};
 use std::alloc::Global;
 
-// Goes on from one node to one that follows it.
-fn follow(run: &mut Run, plan: &Plan, node: &Spot)
+/// Goes on from one node to one that follows it.
+pub fn follow(run: &mut Run, plan: &Plan, node: &Spot)
     requires run { IsRunOf plan.now run.old }
     requires room { run.old.lines < plan.now.lines }
     requires follows { (spends : Bool) × Follows Prompt plan.now spends (spot_of_run run.old) (spot_of node.now) }

@@ -1,6 +1,6 @@
 //! A run that goes step by step, and keeps no lines.
 
-ghost use Rattle.std.specs.Prelude.{◌≡◌, ◌<◌, ◌≤◌, ◌+◌, IfOk, false, true};
+ghost use Rattle.std.specs.Prelude.{◌≡◌, ◌<◌, ◌≤◌, ◌+◌, IfOk, IfSome, None, false, true};
 ghost use Rattle.pm_model.specs.declared.event.Line.{Line as ALine};
 ghost use Rattle.pm_orders.specs.Spots.{MayFollow, code_of, start_spot};
 ghost use Rattle.pm_spot.specs.SpotOf.{spot_of};
@@ -11,7 +11,7 @@ use pm_base::{ActorId, NoMemory};
 use pm_book::{all_stand_well, each_line_fits, each_line_is_taken, offered};
 use pm_law_bounds::lines_are_bounded;
 use pm_law_counts::sizes;
-use pm_model::{Event, Move, Plan};
+use pm_model::{Event, Line, Move, Plan};
 use pm_spot::Spot;
 use pm_state::State;
 use pm_steps::Last;
@@ -84,6 +84,29 @@ impl Run {
         };
         self.lines += 1;
         true
+    }
+
+    /// The line of an actor of the plan at a time that is near, if it may write one.
+    pub fn line(&self, plan: &Plan, actor: ActorId, time: u64) -> Option<Line>
+        requires run { IsRunOf plan.now self.now }
+        requires in_range { IsActor plan.now actor }
+        requires room { self.now.lines < plan.now.lines }
+        requires near { time ≤ self.now.last.time + 1000000 }
+        ensures may { IfSome result (λ line. MayFollow plan.now (spot_of_run self.now) line) }
+        ensures by { IfSome result (λ line. line.actor ≡ actor) }
+        ensures at { IfSome result (λ line. line.time ≡ time) }
+        ensures none { result ≡ None → (line : ALine) → line.actor ≡ actor → line.time ≡ time → ¬ MayFollow plan.now (spot_of_run self.now) line }
+    {
+        all_stand_well();
+        lines_are_bounded();
+        let mut offer = Move::Late(time);
+        if !offered(plan, &self.state, self.last.time, actor, time, &mut offer) {
+            return None;
+        }
+        let Move::Write(event, _, _) = offer else {
+            unreachable!();
+        };
+        Some(Line { time, actor, event })
     }
 
     /// Where it stands, as it is kept.

@@ -1,14 +1,15 @@
+use Rattle.pm_cmd_ends.specs.Ending.{taking}
 use Rattle.pm_io.specs.Faults.{Rose}
 use Rattle.pm_lab_cmd.specs.Commands.{KernelEnds}
-use Rattle.pm_cmd_ends.specs.Ending.{taking}
-use Rattle.pm_cmd_ends.specs.Reading.{OfPlan}
+use Rattle.pm_lab_ends.specs.Reading.{OfPlan}
 use Rattle.pm_lab_ends.proofs.EndLemmas.{answered}
 use Rattle.pm_lab_cmd.proofs.kernel.kernel_top.Goals as goal
 
 pub returns : goal.returns
 returns g c =
-    let told = g.F.Files.told c.args.files.now c.args.plan.now in
+    let file = c.args.plan.now in
+    let known = g.F.Files.told c.args.files.now file in
     let faults = g.F.Files.faults in
-    answered (OfPlan g.F.Files.tells_all told KernelEnds) c.args.plan.now (Rose (faults c.args.files.now) (faults c.run_kernel.new.files)) c.run_kernel.result c.finish.result
+    answered (OfPlan g.F.Files.tells_all known file KernelEnds) file (Rose (faults c.args.files.now) (faults c.run_kernel.new.files)) c.run_kernel.result c.finish.result
     (taking g.O.Sink.taken g.O.Sink.faults c.args.out.now c.run_kernel.new.out) (taking g.E.Sink.taken g.E.Sink.faults c.args.err.now c.finish.new.err)
     c.run_kernel.ensures c.finish.ensures.status c.finish.ensures.message

@@ -1,0 +1,12 @@
+use Rattle.std.proofs.Common.{◌≡◌, ◌+◌, length, reverse, take}
+use Rattle.pm_findings.specs.AllFound.{found_in}
+use Rattle.pm_findings.specs.WatchTable.{IsTable, counts_in}
+use Rattle.pm_findings.proofs.telling.at_lines.Given as goal
+
+-- what is kept is that of the lines so far, and what is told is what stands out at them
+abbrev pub invariant-loop-line : goal.invariant-loop-line
+invariant-loop-line l = record {
+  kept : IsTable (length l.plan.devices + 1) (length l.plan.callers) (reverse (take l.line-index l.lines)) l.watch;
+  number : l.number ≡ l.line-index;
+  found : l.all.items ≡ found_in (counts_in l.ends) (reverse (take l.line-index l.lines));
+}

@@ -1,0 +1,60 @@
+-- All that stands out in a run, in the order of its lines (this project's own). Lists of lines have the newest line first;
+-- lines are counted from 1.
+use Rattle.std.specs.Prelude.{ℕ, ◌+◌, Bool, List, [], ◌∷◌, ◌++◌, Option, length, option_map, if◌then◌else◌}
+use Rattle.std.specs.List.{flat_map, range_with_len}
+use Rattle.std.specs.Option.{option_to_list}
+use Rattle.pm_base.specs.declared.DevId.{DevId}
+use Rattle.pm_model.specs.declared.event.Line.{Line}
+use Rattle.pm_model.specs.Counted.{only_if, status_of}
+use Rattle.pm_model.specs.Derived.{is_active_status}
+use Rattle.pm_model.specs.History.{History}
+use Rattle.pm_findings.specs.declared.Finding.{Finding}
+use Rattle.pm_findings.specs.declared.Kind.{Kind}
+use Rattle.pm_findings.specs.declared.Kind.TheVariants as kind
+use Rattle.pm_findings.specs.declared.watched.Count.{Count}
+use Rattle.pm_findings.specs.OpenCounts.{device_of, open_counts}
+use Rattle.pm_findings.specs.Said.{call_by, error_line, left_line}
+use Rattle.pm_findings.specs.StandsOut.{answer, earliest, failed, leak, disabled_on, never_on, no_count, poisoned, refused, stolen}
+
+-- a finding of this kind at a line, if there is one
+abbrev pub at_line : ℕ → Option Kind → List Finding
+at_line number found = option_to_list (option_map (λ k. record { line = number; kind = k }) found)
+
+-- what stands out at a line, behind these lines: of gets and puts, of returns, and of callbacks; left are the counts of a
+-- device that are left at the end
+abbrev pub found_at : (DevId → List Count) → History → Line → List Finding
+found_at left h line =
+    let number = length h + 1 in
+    let d = device_of line.event in
+    let called = call_by h line.actor in
+    (at_line number (leak (left d) number called line.actor line.event)
+    ++ at_line number (stolen (open_counts h d) line.actor line.event)
+    ++ at_line number (never_on (open_counts h d) (status_of h d) (left_line h d) line.actor line.event))
+    ++ (at_line number (answer (open_counts h d) called line.actor line.event)
+    ++ at_line number (refused line.actor line.event)
+    ++ at_line number (no_count line.actor line.event)
+    ++ at_line number (poisoned (error_line h d) line.actor line.event)
+    ++ at_line number (disabled_on (open_counts h d) (status_of h d) line.event))
+    ++ at_line number (failed line.event)
+
+-- what stands out at these lines, line by line
+abbrev pub found_in : (DevId → List Count) → History → List Finding
+found_in left [] = []
+found_in left (line ∷ h) = found_in left h ++ found_at left h line
+
+-- the counts that are left at the end of a run, where it is finished
+abbrev pub left_counts : Bool → History → DevId → List Count
+left_counts is_finished run d = if is_finished then open_counts run d else []
+
+-- left on: a device is Active after these lines
+abbrev pub on_after : History → DevId → Option Kind
+on_after run d = only_if (is_active_status (status_of run d)) (kind.LeftOn d (earliest (open_counts run d)))
+
+-- what stands out after these lines, told at the last of them: the devices that are Active, in the order of the plan
+abbrev pub found_after : ℕ → History → List Finding
+found_after devices run = flat_map (λ d. at_line (length run) (on_after run (record { 0 = d }))) (range_with_len 0 devices)
+
+-- all that stands out in a run over so many devices: at its lines, in their order, and after them where it is finished
+abbrev pub all_found : ℕ → Bool → History → List Finding
+all_found devices is_finished run =
+    found_in (left_counts is_finished run) run ++ (if is_finished then found_after devices run else [])

@@ -1,0 +1,6 @@
+pub mod OpenCounts
+pub mod Said
+pub mod StandsOut
+pub mod AllFound
+pub mod Kept
+pub mod WatchTable

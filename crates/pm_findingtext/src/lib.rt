@@ -1,0 +1,78 @@
+//! The text of findings.
+#![tactic(auto)]
+
+ghost use Rattle.std.specs.Prelude.{◌≡◌, ◌++◌, OnOk};
+ghost use Rattle.pm_findingtext.specs.Texts.{count_text, counted_text, finding_text, findings_text};
+ghost use Rattle.pm_model.specs.Text.{names_of};
+
+mod kinds;
+mod pieces;
+mod words;
+
+use kinds::push_kind;
+use pieces::{push, push_number};
+use pm_base::NoMemory;
+use pm_findings::Finding;
+use pm_model::Plan;
+use words::{kind_word, weight_word};
+
+/// Appends the line of a finding in a trace that is called so, as
+/// `cam.trace:12: error: leak: sensor never gives back the count of imx that get_sync took here`, with its newline.
+/// Fails where memory runs out.
+pub fn push_finding(
+    text: &mut Vec<u8>,
+    plan: &Plan,
+    file: &[u8],
+    found: &Finding,
+) -> Result<(), NoMemory>
+    ensures { OnOk result (text.new.items ≡ text.old.items ++ finding_text (names_of plan.now) file.now found.now) }
+{
+    push(text, file)?;
+    push(text, b":")?;
+    push_number(text, found.line)?;
+    push(text, b": ")?;
+    push(text, weight_word(found.kind.weight()))?;
+    push(text, b": ")?;
+    push(text, kind_word(&found.kind))?;
+    push(text, b": ")?;
+    push_kind(text, plan, &found.kind)?;
+    push(text, b"\n")?;
+    Ok(())
+}
+
+/// Appends a line for each finding. Fails where memory runs out.
+pub fn push_findings(
+    text: &mut Vec<u8>,
+    plan: &Plan,
+    file: &[u8],
+    all: &[Finding],
+) -> Result<(), NoMemory>
+    ensures { OnOk result (text.new.items ≡ text.old.items ++ findings_text (names_of plan.now) file.now all.now) }
+{
+    for found in all {
+        push_finding(text, plan, file, found)?;
+    }
+    Ok(())
+}
+
+// Appends so many of something.
+fn push_counted(text: &mut Vec<u8>, count: u32, word: &[u8]) -> Result<(), NoMemory>
+    ensures { OnOk result (text.new.items ≡ text.old.items ++ counted_text count word.now) }
+{
+    push_number(text, count)?;
+    push(text, b" ")?;
+    push(text, word)?;
+    push(text, if count == 1 { b"".as_slice() } else { b"s" })?;
+    Ok(())
+}
+
+/// Appends the last line, as `3 findings in 130 lines`, with its newline. Fails where memory runs out.
+pub fn push_count(text: &mut Vec<u8>, found: u32, lines: u32) -> Result<(), NoMemory>
+    ensures { OnOk result (text.new.items ≡ text.old.items ++ count_text found lines) }
+{
+    push_counted(text, found, b"finding")?;
+    push(text, b" in ")?;
+    push_counted(text, lines, b"line")?;
+    push(text, b"\n")?;
+    Ok(())
+}

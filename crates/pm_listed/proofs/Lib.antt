@@ -1,0 +1,4 @@
+mod FirstLemmas
+pub mod MarkAlike
+mod OrderLemmas
+mod ListingLemmas

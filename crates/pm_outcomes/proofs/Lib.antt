@@ -1,0 +1,5 @@
+mod Among
+mod Seeing
+mod Telling
+mod Once
+mod WitnessLemmas

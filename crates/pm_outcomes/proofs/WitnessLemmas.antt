@@ -1,0 +1,39 @@
+-- The order that leads to a spot shows what the spot does.
+use Rattle.std.proofs.Common.{ℕ, ◌≡◌, ◌<◌, List, Some, length, reverse, slice_get, get_or, sym, subst, ◌∙◌, Result, Ok, Err, Option, None, IfOk}
+use Rattle.std.proofs.lemmas.Option.{slice_get-get_or, slice_get_within}
+use Rattle.std.specs.Option.{IfSome}
+use Rattle.pm_listed.specs.declared.marks.Outcome.{Outcome}
+use Rattle.pm_listed.specs.Shown.{mark_of}
+use Rattle.pm_model.specs.declared.event.Line.{Line}
+use Rattle.pm_model.specs.declared.plan.Plan.{Plan}
+use Rattle.pm_orders.specs.Marks.{HasMark}
+use Rattle.pm_orders.specs.Orders.{spot}
+use Rattle.pm_orders.specs.Spots.{Follows, Spot}
+use Rattle.pm_orders.specs.Spots.Pace.{Prompt}
+use Rattle.pm_search.specs.Trees.{AreLed}
+use Rattle.pm_ways.specs.Runs.{IsAsLed, IsOrderTo}
+use Rattle.pm_outcomes.specs.Had.{AreShown, IsWitness}
+use Rattle.pm_outcomes.proofs.Among.{some_is}
+
+pub is_witness : (plan : Plan) (spots : List Spot) (parents rounds : List ℕ) (outcomes : List Outcome) (index : ℕ) (o : Outcome) (lines : List Line) → AreShown plan spots rounds outcomes → AreLed (Follows Prompt plan) spots parents rounds
+    → slice_get outcomes index ≡ Some o → IsOrderTo plan spots o.place lines → IsAsLed plan spots parents o.place lines → IsWitness plan rounds o lines
+is_witness plan spots parents rounds outcomes index o lines shown led there to few =
+    let s = shown.shown index o there in
+    let stands : s.where_it_stands ≡ spot plan (reverse lines) = some_is s.where_it_stands (spot plan (reverse lines)) (sym s.there ∙ to.stands) in
+    record {
+      order = to.order;
+      lawful = to.lawful;
+      has = subst (λ p. HasMark plan p (mark_of o.mark)) stands s.has;
+      few = λ within.
+          let at = slice_get-get_or rounds o.round 0 within in
+          few o.round (led o.round (get_or rounds o.round 0) o.place at (shown.in_round index o (get_or rounds o.round 0) there at));
+    }
+
+-- what holds of an answer, where there is one, by two things that do
+pub by_both : {V E : Type 0} (P Q R : V → Type 0) (r : Result (Option V) E) → IfOk r (λ f. IfSome f P) → IfOk r (λ f. IfSome f Q) → ((v : V) → P v → Q v → R v) → IfOk r (λ f. IfSome f R)
+by_both P Q R (Ok (Some v)) p q both = both v p q
+by_both P Q R (Ok None) p q both = tt
+by_both P Q R (Err e) p q both = tt
+
+pub is_within : (plan : Plan) (spots : List Spot) (rounds : List ℕ) (outcomes : List Outcome) (index : ℕ) (o : Outcome) → AreShown plan spots rounds outcomes → slice_get outcomes index ≡ Some o → o.place < length spots
+is_within plan spots rounds outcomes index o shown there = slice_get_within spots o.place (shown.shown index o there).where_it_stands (shown.shown index o there).there

@@ -1,0 +1,71 @@
+//! Says of each plan of the folder `data` what stands out in its run on one thread.
+//!
+//! `cases.list` names the plans in order. What is told is stored, and was worked out by another program from the
+//! table of the kinds alone.
+#![tactic(auto)]
+
+use anyhow::Result;
+use pm_base::{NoMemory, PLAN_BYTES};
+use pm_book::Book;
+use pm_findings::findings;
+use pm_findingtext::{push_count, push_findings};
+use pm_io::{DiskFiles, read_all};
+use pm_law_bounds::lines_are_bounded;
+use pm_planread::read_plan;
+use pm_serial::{drain, fresh_books_have_time};
+use std::alloc::Global;
+use std::io::{Print, Write};
+use std::{io, str};
+
+fn main(rt: HostRuntime) -> Result<()> {
+    let alloc = rt.alloc();
+    let mut files = DiskFiles::new(&rt);
+    let cases = read_all(alloc, &mut files, "cases.list", PLAN_BYTES)?;
+    for case in str::from_utf8(&cases)?.lines() {
+        let name = format!(in alloc; "{case}.toml")?;
+        let plan = read_all(alloc, &mut files, &name, PLAN_BYTES)?;
+        show(&rt, alloc, case, plan.as_slice())?;
+    }
+    Ok(())
+}
+
+/// Writes what stands out in the run of a plan.
+fn show<R: Print>(rt: &R, alloc: Global, case: &str, plan: &[u8]) -> Result<()> {
+    println!(rt; "# {case}")?;
+    let Some(book) = run_of(alloc, plan)? else {
+        println!(rt; "no plan")?;
+        return Ok(());
+    };
+    let file = format!(in alloc; "{case}.trace")?;
+    let text = told(alloc, file.as_bytes(), &book)?;
+    let mut out = io::writer(rt);
+    out.write_all(text.as_slice())?;
+    Ok(())
+}
+
+/// The run of a plan on one thread, where it is a plan.
+fn run_of(alloc: Global, text: &[u8]) -> Result<Option<Book>, NoMemory> {
+    let Ok(plan) = read_plan(alloc, text) else {
+        return Ok(None);
+    };
+    fresh_books_have_time();
+    match Book::start(alloc, plan) {
+        Ok(mut book) => {
+            let _end = drain(&mut book)?;
+            Ok(Some(book))
+        }
+        Err(_) => Err(NoMemory),
+    }
+}
+
+/// What is told of a book.
+fn told(alloc: Global, file: &[u8], book: &Book) -> Result<Vec<u8>, NoMemory> {
+    lines_are_bounded();
+    let lines = book.lines();
+    let all = findings(alloc, book.plan(), lines, book.finished())?;
+    let mut text = Vec::new(alloc);
+    push_findings(&mut text, book.plan(), file, &all)?;
+    let count = u32::try_from(all.len()).unwrap_or(u32::MAX);
+    push_count(&mut text, count, lines.len() as u32)?;
+    Ok(text)
+}

@@ -1,0 +1,13 @@
+//! The text that is told of a plan's warnings: the place of each, what looks wrong, and what may help
+//! (this project's own).
+//!
+//! `pm_warnings` says which there are, and `pm_refusals` shows the tokens.
+#![tactic(auto)]
+
+mod commands;
+mod names;
+mod notes;
+mod rows;
+mod told;
+
+pub use told::{MAX_TOLD, warnings_text};
