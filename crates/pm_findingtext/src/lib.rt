@@ -9,6 +9,7 @@ mod kinds;
 mod pieces;
 mod words;
 
+use itoa::Buffer;
 use kinds::push_kind;
 use pieces::{push, push_number};
 use pm_base::NoMemory;
@@ -56,10 +57,10 @@ pub fn push_findings(
 }
 
 // Appends so many of something.
-fn push_counted(text: &mut Vec<u8>, count: u32, word: &[u8]) -> Result<(), NoMemory>
+fn push_counted(text: &mut Vec<u8>, count: usize, word: &[u8]) -> Result<(), NoMemory>
     ensures { OnOk result (text.new.items ≡ text.old.items ++ counted_text count word.now) }
 {
-    push_number(text, count)?;
+    push(text, Buffer::new().format(count).as_bytes())?;
     push(text, b" ")?;
     push(text, word)?;
     push(text, if count == 1 { b"".as_slice() } else { b"s" })?;
@@ -67,7 +68,7 @@ fn push_counted(text: &mut Vec<u8>, count: u32, word: &[u8]) -> Result<(), NoMem
 }
 
 /// Appends the last line, as `3 findings in 130 lines`, with its newline. Fails where memory runs out.
-pub fn push_count(text: &mut Vec<u8>, found: u32, lines: u32) -> Result<(), NoMemory>
+pub fn push_count(text: &mut Vec<u8>, found: usize, lines: usize) -> Result<(), NoMemory>
     ensures { OnOk result (text.new.items ≡ text.old.items ++ count_text found lines) }
 {
     push_counted(text, found, b"finding")?;

@@ -1,5 +1,5 @@
-//! What people look at in a plan and in its runs. `say` tells what is wrong with a refused plan, and `kernel` writes the
-//! plan as a module for a Linux kernel.
+//! What people look at in a plan and in its runs. `say` tells what is wrong with a refused plan, `find` what stands out in
+//! a run, and `kernel` writes the plan as a module for a Linux kernel.
 #![tactic(auto)]
 
 use pm_io::{DiskFiles, StdErr, StdOut};

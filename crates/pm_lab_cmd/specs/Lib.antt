@@ -1,2 +1,4 @@
 pub mod Request
+pub mod OrdersOutcome
+pub mod Orders
 pub mod Commands

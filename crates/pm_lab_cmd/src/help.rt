@@ -3,16 +3,19 @@
 ghost use Rattle.std.specs.Prelude.{[]};
 ghost use Rattle.pm_cmd_ends.specs.Ending.{taking};
 ghost use Rattle.pm_lab_ends.specs.Coming.{Writes};
-ghost use Rattle.pm_lab_ends.specs.Ending.{Answered};
+ghost use Rattle.pm_lab_ends.specs.Ending.{Answered, OfThis};
 
 use pm_io::Sink;
 use pm_lab_ends::{Outcome, finish, write_text};
 
 /// The answer of `help`.
-pub const HELP: &[u8] = b"usage: pm_lab say PLAN | kernel PLAN
+pub const HELP: &[u8] =
+    b"usage: pm_lab say PLAN | find PLAN TRACE [--notes] | orders PLAN [--differ] | kernel PLAN
 
-say PLAN      what is wrong with a plan, and where
-kernel PLAN   the plan as a C file: a module that runs it on a Linux kernel
+say PLAN          what is wrong with a plan, and where
+find PLAN TRACE   what stands out in a run, each with its line
+orders PLAN       what each call may return, and how each device may end
+kernel PLAN       the plan as a C file: a module that runs it on a Linux kernel
 ";
 
 /// The answer of `help say`.
@@ -48,6 +51,73 @@ Status 0: it is a plan, and nothing in it looks wrong. 1: warnings are told.
 bytes. 4: it couldn't be read. 5: writing failed. 7: no memory.
 ";
 
+/// The answer of `help find`.
+pub const FIND_PAGE: &[u8] = b"pm_lab find PLAN TRACE [--notes]
+
+Tells what stands out in a run, in the order of its lines, and how much that is:
+
+    cam.trace:12: error: leak: sensor never gives back the count of imx that get_sync took here
+    cam.trace:22: error: answer: sensor: get_sync imx answers -5 (EIO) and keeps its count
+    2 findings in 130 lines
+
+FILE:LINE comes first, so that an editor or a CI job jumps there. At most 200
+findings are told; the last line counts them all. The trace is read in either
+format.
+
+    error    leak      a get whose count is never put, in a finished run
+             stolen    a put that takes away another caller's count
+             answer    a call that answers an error
+             poisoned  a call that answers -22 since the device has an error
+    warning  left on   a device that is active at the end of a finished run,
+                       or when it is disabled
+             never on  a count under which its device was never active
+    note     refused   a call that answers -11, -16 or -115
+             no count  a get_if_active or get_if_in_use that answers 0
+             failed    a callback that answers an error
+
+Notes are told, and counted, with --notes alone. Of a trace that isn't the text
+of a lawful run the first bad line is told, and why:
+
+    cam.trace:26: not lawful: step
+
+Status 0: no error or warning stands out. 1: one does, or the trace isn't
+lawful. 2: wrong words. 3: the plan is refused, or a file is too long. 4: one
+couldn't be read; its name is on standard error. 5: writing failed.
+7: no memory.
+";
+
+/// The answer of `help orders`.
+pub const ORDERS_PAGE: &[u8] = b"pm_lab orders PLAN [--differ]
+
+Goes through the orders in which the lines of a run of the plan may come, and
+tells what each call returns and how each device ends over all of them:
+
+    probe 5 get_sync cam: 0 / 1 after 1
+    user 1 get_sync cam: -13 / 1 / 0 after 1
+    end cam: active usage 1 error 0
+    within 2, 1844 spots
+
+A line of a call has its caller, its number in the script and its codes, a line
+of a device its status, usage and error at the end of a finished run. `never`
+says that no order has one.
+
+The orders are those at a prompt pace: a line comes as soon as some actor may
+write. `after K` is the least number of disturbances with which it shows: of
+lines at which another writes, or time moves, though the writer of the last
+line, or anybody, may write. Orders of at most two are gone through.
+
+The last line says how far this is exact: `all`, of all orders of that pace;
+`within K`, of those with at most K disturbances; `limit`, where a million
+spots or the lines of the plan came first, of as many as it names. A spot is
+what decides how an order goes on.
+
+With --differ only commands and devices are told that have more than one.
+
+Status 0: each has one. 1: one has more. 2: wrong words. 3: the plan is
+refused. 4: it couldn't be read. 5: writing failed. 6: a limit came first.
+7: no memory.
+";
+
 /// The answer of `help kernel`.
 pub const KERNEL_PAGE: &[u8] = b"pm_lab kernel PLAN
 
@@ -78,7 +148,7 @@ read. 5: writing failed. 7: no memory.
 
 /// Answers a text.
 pub(crate) fn help_top<O: Sink, E: Sink>(text: &[u8], out: &mut O, err: &mut E) -> u8
-    ensures { Answered (Writes Outcome.Done text.now) [] result ⊥
+    ensures { Answered (Writes Outcome.Done text.now) result (OfThis [] ⊥)
         (taking O.taken O.faults out.old out.new) (taking E.taken E.faults err.old err.new) }
 {
     finish(write_text(text, Outcome::Done, out), "", err)

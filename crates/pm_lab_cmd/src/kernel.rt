@@ -4,7 +4,7 @@ ghost use Rattle.pm_cmd_ends.specs.Ending.{taking};
 ghost use Rattle.pm_io.specs.Faults.{Rose};
 ghost use Rattle.pm_lab_cmd.specs.Commands.{KernelEnds};
 ghost use Rattle.pm_lab_ends.specs.Coming.{Came};
-ghost use Rattle.pm_lab_ends.specs.Ending.{Answered};
+ghost use Rattle.pm_lab_ends.specs.Ending.{Answered, OfThis};
 ghost use Rattle.pm_lab_ends.specs.Reading.{OfPlan};
 
 use pm_io::{Files, Sink};
@@ -22,8 +22,8 @@ pub fn kernel_top<F: Files, O: Sink, E: Sink>(
     out: &mut O,
     err: &mut E,
 ) -> u8
-    ensures { Answered (OfPlan F.tells_all (F.told files.old plan.now) plan.now KernelEnds) plan.now result
-        (Rose (F.faults files.old) (F.faults files.new))
+    ensures { Answered (OfPlan F.tells_all (F.told files.old plan.now) plan.now KernelEnds) result
+        (OfThis plan.now (Rose (F.faults files.old) (F.faults files.new)))
         (taking O.taken O.faults out.old out.new) (taking E.taken E.faults err.old err.new) }
 {
     finish(run_kernel(alloc, plan, files, out), plan, err)

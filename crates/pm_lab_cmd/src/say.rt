@@ -5,7 +5,7 @@ ghost use Rattle.pm_cmd_ends.specs.Ending.{taking};
 ghost use Rattle.pm_io.specs.Faults.{Rose};
 ghost use Rattle.pm_lab_cmd.specs.Commands.{SayEnds, SayEndsOf, outcome_of};
 ghost use Rattle.pm_lab_ends.specs.Coming.{Came};
-ghost use Rattle.pm_lab_ends.specs.Ending.{Answered};
+ghost use Rattle.pm_lab_ends.specs.Ending.{Answered, OfThis};
 
 use pm_io::{Files, Sink};
 use pm_lab_ends::{Fault, Outcome, finish, plan_bytes, write_text};
@@ -21,8 +21,8 @@ pub fn say_top<F: Files, O: Sink, E: Sink>(
     out: &mut O,
     err: &mut E,
 ) -> u8
-    ensures { Answered (SayEnds F.tells_all (F.told files.old plan.now) plan.now) plan.now result
-        (Rose (F.faults files.old) (F.faults files.new))
+    ensures { Answered (SayEnds F.tells_all (F.told files.old plan.now) plan.now) result
+        (OfThis plan.now (Rose (F.faults files.old) (F.faults files.new)))
         (taking O.taken O.faults out.old out.new) (taking E.taken E.faults err.old err.new) }
 {
     finish(run_say(alloc, plan, files, out), plan, err)

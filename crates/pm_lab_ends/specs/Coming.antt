@@ -2,7 +2,7 @@
 use Rattle.std.specs.Prelude.{◌≡◌, ⊤, ℕ, Bool, Option, List, [], Result, Ok, Err, codes}
 use Rattle.pm_cmd_ends.specs.Ending.{Failed, Taking, Took, TookNothing, TookTextPart}
 use Rattle.pm_cmd_ends.specs.Reading.{IsTooLong}
-use Rattle.pm_lab_ends.specs.Ending.{Done, Ending, Found, Refused, SaidRefused, read_message, text_of}
+use Rattle.pm_lab_ends.specs.Ending.{AtLimit, Done, Ending, Found, Refused, SaidRefused, read_message, text_of}
 use Rattle.pm_lab_ends.specs.Reading.{OfPlan, TellsTooLong}
 use Rattle.pm_lab_ends.specs.declared.ending.Fault.{Fault}
 use Rattle.pm_lab_ends.specs.declared.ending.Fault.TheVariants as fault
@@ -17,6 +17,7 @@ abbrev pub outcome_status : Outcome → ℕ
 outcome_status outcome.Done = 0
 outcome_status outcome.Found = 1
 outcome_status outcome.Refused = 3
+outcome_status outcome.AtLimit = 6
 
 abbrev pub fault_status : Fault → ℕ
 fault_status (fault.Refused text) = 3
@@ -41,6 +42,7 @@ abbrev pub ending_of : Outcome → List ℕ → Ending
 ending_of outcome.Done text = Done text
 ending_of outcome.Found text = Found text
 ending_of outcome.Refused text = SaidRefused text
+ending_of outcome.AtLimit text = AtLimit text
 
 -- the only ending of a command whose text is this
 abbrev pub Writes : Outcome → List ℕ → Ending → Type 0

@@ -10,12 +10,13 @@ ghost use Rattle.pm_lab_ends.specs.Ending.{read_message, usage};
 ghost use Rattle.pm_model.specs.Spelling.{newline};
 
 use pm_base::{Failed, NoMemory};
-use pm_cmd_ends::{DONE, NO_MEMORY, READ_FAILED, REFUSED, WRITE_FAILED, WRONG_WORDS};
+use pm_cmd_ends::{AT_LIMIT, DONE, NO_MEMORY, READ_FAILED, REFUSED, WRITE_FAILED, WRONG_WORDS};
 use pm_io::{Sink, write_whole};
 use std::alloc::AllocError;
 
 /// How the program is called.
-pub const USAGE: &[u8] = b"usage: pm_lab say PLAN | kernel PLAN\n";
+pub const USAGE: &[u8] =
+    b"usage: pm_lab say PLAN | find PLAN TRACE [--notes] | orders PLAN [--differ] | kernel PLAN\n";
 
 /// Something was found.
 pub const FOUND: u8 = 1;
@@ -29,6 +30,8 @@ pub enum Outcome {
     Found,
     /// The text tells why the plan is refused.
     Refused,
+    /// A limit came first: what the text tells is true, but it may not be all.
+    AtLimit,
 }
 
 /// Why a command didn't write its text.
@@ -86,6 +89,7 @@ impl Outcome {
             Outcome::Done => DONE,
             Outcome::Found => FOUND,
             Outcome::Refused => REFUSED,
+            Outcome::AtLimit => AT_LIMIT,
         }
     }
 }

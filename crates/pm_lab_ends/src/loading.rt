@@ -1,7 +1,8 @@
 //! Plans that are read from their files.
 
-ghost use Rattle.std.specs.Prelude.{IfErr, IfOk};
+ghost use Rattle.std.specs.Prelude.{◌≡◌, ◌≤◌, IfErr, IfOk, IsSome};
 ghost use Rattle.pm_cmd_ends.specs.Reading.{Holds, IsRead};
+ghost use Rattle.pm_io.specs.Asks.{AskedOnly};
 ghost use Rattle.pm_io.specs.Faults.{Rose};
 ghost use Rattle.pm_lab_ends.specs.Coming.{IsUnheld, IsUnread};
 
@@ -17,6 +18,9 @@ pub fn load<F: Files>(alloc: Global, plan: &str, files: &mut F) -> Result<Plan, 
     ensures read { IfOk result (IsRead F.tells_all (F.told files.old plan.now)) }
     ensures unread { IfErr result (IsUnread F.tells_all (F.told files.old plan.now) plan.now
         (Rose (F.faults files.old) (F.faults files.new))) }
+    ensures asked { IsSome (F.told files.old plan.now) → AskedOnly plan.now (F.asked files.old) (F.asked files.new) }
+    ensures never_falls { F.faults files.old ≤ F.faults files.new }
+    ensures same { F.told files.new ≡ F.told files.old }
 {
     let bytes = plan_bytes(alloc, plan, files)?;
     match read_or_tell(alloc, plan.as_bytes(), &bytes) {
@@ -31,6 +35,9 @@ pub fn plan_bytes<F: Files>(alloc: Global, plan: &str, files: &mut F) -> Result<
     ensures held { IfOk result (λ bytes. Holds F.tells_all (F.told files.old plan.now) 1048576 bytes.items) }
     ensures unheld { IfErr result (IsUnheld F.tells_all (F.told files.old plan.now) plan.now
         (Rose (F.faults files.old) (F.faults files.new))) }
+    ensures asked { IsSome (F.told files.old plan.now) → AskedOnly plan.now (F.asked files.old) (F.asked files.new) }
+    ensures never_falls { F.faults files.old ≤ F.faults files.new }
+    ensures same { F.told files.new ≡ F.told files.old }
 {
     match read_all(alloc, files, plan, PLAN_BYTES) {
         Ok(bytes) => Ok(bytes),

@@ -1,5 +1,5 @@
 -- The text of what the orders of a plan show (this project's own).
-use Rattle.std.specs.Prelude.{ℕ, ◌+◌, ◌==◌, ◌&&◌, Bool, false, List, [], ◌∷◌, ◌++◌, Some, None, codes, decimal, filter, length, nat_le, slice_get, if◌then◌else◌}
+use Rattle.std.specs.Prelude.{ℕ, ◌+◌, ◌==◌, ◌&&◌, ◌||◌, Bool, false, List, [], ◌∷◌, ◌++◌, Some, None, codes, decimal, filter, length, nat_le, slice_get, if◌then◌else◌}
 use Rattle.std.specs.Fmt.{signed_decimal}
 use Rattle.std.specs.List.{flat_map, range_with_len}
 use Rattle.std.specs.Option.{option_map_or}
@@ -55,6 +55,18 @@ is_return caller command (End l) = false
 abbrev pub is_end : ℕ → Mark → Bool
 is_end device (Return r) = false
 is_end device (End l) = l.device.0 == device
+
+-- two marks are of one command, or of one device
+abbrev pub is_alike : Mark → Mark → Bool
+is_alike (Return r) (Return s) = (r.caller == s.caller) && (r.command == s.command)
+is_alike (End l) (End m) = l.device.0 == m.device.0
+is_alike _ _ = false
+
+-- a command or a device has more than one mark, in a list in which those of one stand one behind the other
+abbrev pub differs : List Outcome → Bool
+differs [] = false
+differs (o ∷ []) = false
+differs (o ∷ p ∷ rest) = is_alike o.mark p.mark || differs (p ∷ rest)
 
 -- only what differs is told
 abbrev pub is_left_out : Bool → List Outcome → Bool

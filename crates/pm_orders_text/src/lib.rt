@@ -1,10 +1,12 @@
 //! The text of what the orders of a plan show (this project's own).
 #![tactic(auto)]
 
+mod differing;
 mod lines;
 mod pieces;
 mod reach;
 mod texts;
 
+pub use differing::differs;
 pub use reach::{Reach, reach_of};
 pub use texts::{orders_text, told_text};

@@ -65,7 +65,6 @@ fn told(alloc: Global, file: &[u8], book: &Book) -> Result<Vec<u8>, NoMemory> {
     let all = findings(alloc, book.plan(), lines, book.finished())?;
     let mut text = Vec::new(alloc);
     push_findings(&mut text, book.plan(), file, &all)?;
-    let count = u32::try_from(all.len()).unwrap_or(u32::MAX);
-    push_count(&mut text, count, lines.len() as u32)?;
+    push_count(&mut text, all.len(), lines.len())?;
     Ok(text)
 }

@@ -40,6 +40,7 @@ fn show_failing<R: Print, F: Files>(rt: &R, alloc: Global, files: &mut F) -> Res
     for words in [
         "kernel touch.toml",
         "say typos.toml",
+        "find kept_count.toml kept_count.trace",
         "help",
         "kernel no_such.toml",
     ] {
@@ -57,7 +58,11 @@ fn show_failing<R: Print, F: Files>(rt: &R, alloc: Global, files: &mut F) -> Res
 /// Tells of commands over a file that is too long, and which sink took what is stored for it.
 fn show_long<R: Print, F: Files>(rt: &R, alloc: Global, files: &mut F) -> Result<()> {
     let kept = stored(alloc, files, "say_long.txt")?;
-    for words in ["say long.toml", "kernel long.toml"] {
+    for words in [
+        "say long.toml",
+        "kernel long.toml",
+        "find long.toml no_such.trace",
+    ] {
         let words = words_of(alloc, words)?;
         let ended = run_over(alloc, &mut long_file(alloc)?, &words, &[], &[])?;
         let told = told_as(alloc, &ended, kept.as_slice())?;

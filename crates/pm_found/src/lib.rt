@@ -1,0 +1,9 @@
+//! What is told of a trace: what stands out in its run, or its first bad line.
+#![tactic(auto)]
+
+mod telling;
+mod texts;
+mod trace;
+
+pub use telling::Found;
+pub use trace::find;
