@@ -16,6 +16,8 @@ pub use ending::{
     finish, refuse_words, statuses_are_numbers,
 };
 pub use loading::load;
+pub use numbers::number_in;
+pub use ordering::{is_option, is_separator};
 pub use output::{Format, write_text};
 pub use promises::promises_are_kept;
 pub use request::{DEFAULT_HANDS, MAX_HANDS, Request, read_words};

@@ -46,7 +46,7 @@ fn digits_value(word: &[u8]) -> u128
 
 /// The number that a word writes, where it is below 2^64.
 #[tactic(auto, unfolding(crate::specs::Numbers::number_in))]
-pub(crate) fn number_in(word: &[u8]) -> Option<u64>
+pub fn number_in(word: &[u8]) -> Option<u64>
     ensures number { result ≡ number_in word.now }
     ensures in_range { IfSome result (λ n. n < 2 ^ 64) }
 {

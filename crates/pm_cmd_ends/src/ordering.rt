@@ -52,17 +52,24 @@ struct Hands<'a> {
 }
 
 /// Whether the word begins with `-` and isn't `-` alone.
-fn is_option(word: &str) -> bool
+pub fn is_option(word: &str) -> bool
     ensures { result ≡ is_option word.now }
 {
     word.as_bytes().starts_with(b"-") && word != "-"
+}
+
+/// Whether the word is `--`.
+pub fn is_separator(word: &str) -> bool
+    ensures { result ≡ is_separator word.now }
+{
+    word == "--"
 }
 
 /// The place of the first separator.
 fn separator_at(words: &[String]) -> Option<usize>
     ensures { result ≡ position (λ word. is_separator (string_bytes word)) words.now }
 {
-    words.iter().position(|word| word.as_str() == "--")
+    words.iter().position(|word| is_separator(word.as_str()))
 }
 
 /// The place of the first option.

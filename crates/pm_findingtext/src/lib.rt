@@ -11,7 +11,7 @@ mod words;
 
 use itoa::Buffer;
 use kinds::push_kind;
-use pieces::{push, push_number};
+pub use pieces::{push, push_actor, push_code, push_device, push_number};
 use pm_base::NoMemory;
 use pm_findings::Finding;
 use pm_model::Plan;

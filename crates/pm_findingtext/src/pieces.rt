@@ -14,16 +14,16 @@ use pm_linetext::{helper_place, takes_device};
 use pm_model::{Helper, Named, Plan};
 use pm_names::helpers;
 
-/// Appends bytes.
-pub(crate) fn push(text: &mut Vec<u8>, piece: &[u8]) -> Result<(), NoMemory>
+/// Appends bytes. Fails where memory runs out.
+pub fn push(text: &mut Vec<u8>, piece: &[u8]) -> Result<(), NoMemory>
     ensures { OnOk result (text.new.items ≡ text.old.items ++ piece.now) }
 {
     text.extend_from_slice(piece)?;
     Ok(())
 }
 
-/// Appends a number in decimal.
-pub(crate) fn push_number(text: &mut Vec<u8>, number: u32) -> Result<(), NoMemory>
+/// Appends a number in decimal. Fails where memory runs out.
+pub fn push_number(text: &mut Vec<u8>, number: u32) -> Result<(), NoMemory>
     ensures { OnOk result (text.new.items ≡ text.old.items ++ decimal number) }
 {
     push(text, Buffer::new().format(number).as_bytes())
@@ -58,15 +58,15 @@ fn caller_name(plan: &Plan, place: u32) -> &[u8]
     }
 }
 
-/// Appends the name of a device.
-pub(crate) fn push_device(text: &mut Vec<u8>, plan: &Plan, dev: DevId) -> Result<(), NoMemory>
+/// Appends the name of a device of the plan, and no bytes for another. Fails where memory runs out.
+pub fn push_device(text: &mut Vec<u8>, plan: &Plan, dev: DevId) -> Result<(), NoMemory>
     ensures { OnOk result (text.new.items ≡ text.old.items ++ device_name (names_of plan.now) dev.0) }
 {
     push(text, device_name(plan, dev.0))
 }
 
-/// Appends the name of an actor.
-pub(crate) fn push_actor(text: &mut Vec<u8>, plan: &Plan, actor: ActorId) -> Result<(), NoMemory>
+/// Appends the name of an actor. Fails where memory runs out.
+pub fn push_actor(text: &mut Vec<u8>, plan: &Plan, actor: ActorId) -> Result<(), NoMemory>
     ensures { OnOk result (text.new.items ≡ text.old.items ++ actor_text (names_of plan.now) actor) }
 {
     match actor {
@@ -117,8 +117,8 @@ fn code_name(code: i32) -> &'static [u8]
     }
 }
 
-/// Appends a code with its name.
-pub(crate) fn push_code(text: &mut Vec<u8>, code: i32) -> Result<(), NoMemory>
+/// Appends a code with its name, if it has one. Fails where memory runs out.
+pub fn push_code(text: &mut Vec<u8>, code: i32) -> Result<(), NoMemory>
     ensures { OnOk result (text.new.items ≡ text.old.items ++ code_text code) }
 {
     push(text, Buffer::new().format(code).as_bytes())?;

@@ -1,3 +1,2 @@
 pub mod FindLemmas
-pub mod OrdersLemmas
 pub mod SayLemmas

@@ -1,5 +1,5 @@
 -- What each command of pm_lab may come to: its own endings (this project's own).
-use Rattle.std.specs.Prelude.{◌≡◌, ℕ, Bool, Option, List, [], IsSome, if◌then◌else◌}
+use Rattle.std.specs.Prelude.{◌≡◌, ℕ, Bool, Option, Some, None, List, [], IsSome, if◌then◌else◌}
 use Rattle.pm_cmd_ends.specs.Coming.{trace_too_long}
 use Rattle.pm_cmd_ends.specs.Reading.{IsRead, IsTooLong}
 use Rattle.pm_found.specs.Telling.{IsTold}
@@ -15,8 +15,11 @@ use Rattle.pm_say.specs.Says.{Says}
 use Rattle.pm_say.specs.declared.told.Kind.{Kind}
 use Rattle.pm_say.specs.declared.told.Kind.TheVariants as kind
 use Rattle.pm_say.specs.declared.told.Said.{Said}
-use Rattle.pm_lab_cmd.specs.Orders.{OrdersEnds}
-use Rattle.pm_lab_cmd.specs.Request.{Asked, Help, HelpSay, HelpFind, HelpOrders, HelpKernel, Say, Find, Orders, Kernel}
+use Rattle.pm_lab_orders.specs.Orders.{OrdersEnds}
+use Rattle.pm_lab_words.specs.Request.{Asked, Help, HelpOn, Say, Find, Orders, Kernel}
+use Rattle.pm_lab_orders.specs.Seen.{OfSeen, SeenUnread}
+use Rattle.pm_lab_words.specs.declared.names.Command.{Command}
+use Rattle.pm_lab_words.specs.declared.names.Command.TheVariants as command
 use Rattle.pm_lab_cmd.specs.declared.help.TheConstants.{HELP, SAY_PAGE, FIND_PAGE, ORDERS_PAGE, KERNEL_PAGE}
 
 -- what the command told, by what the plan came to
@@ -58,22 +61,28 @@ pub data FindUnread (all : Bool) (known : Option (List ℕ)) (plan trace : List 
   of_plan : (IsSome known → Alone) → Failed → FindUnread all known plan trace Alone Failed plan
   of_trace : (read : Plan) → IsRead all known read → Failed → FindUnread all known plan trace Alone Failed trace
 
+-- the page of a command
+abbrev pub page_of : Command → List ℕ
+page_of command.Say = SAY_PAGE.now
+page_of command.Find = FIND_PAGE.now
+page_of command.Orders = ORDERS_PAGE.now
+page_of command.Kernel = KERNEL_PAGE.now
+
 -- the endings of the command that is asked for, over files of which so much is told
 abbrev pub AskedEnds : Bool → (List ℕ → Option (List ℕ)) → Asked → Ending → Type 0
 AskedEnds all known Help = Writes outcome.Done HELP.now
-AskedEnds all known HelpSay = Writes outcome.Done SAY_PAGE.now
-AskedEnds all known HelpFind = Writes outcome.Done FIND_PAGE.now
-AskedEnds all known HelpOrders = Writes outcome.Done ORDERS_PAGE.now
-AskedEnds all known HelpKernel = Writes outcome.Done KERNEL_PAGE.now
+AskedEnds all known (HelpOn c) = Writes outcome.Done (page_of c)
 AskedEnds all known (Say plan) = SayEnds all (known plan) plan
 AskedEnds all known (Find plan trace notes) = OfPlan all (known plan) plan (OfFind all (known trace) trace notes)
-AskedEnds all known (Orders plan differ) = OfPlan all (known plan) plan (OrdersEnds differ)
+AskedEnds all known (Orders plan bounds differ None) = OfPlan all (known plan) plan (OrdersEnds bounds differ)
+AskedEnds all known (Orders plan bounds differ (Some log)) = OfPlan all (known plan) plan (OfSeen all (known log) bounds differ)
 AskedEnds all known (Kernel plan) = OfPlan all (known plan) plan KernelEnds
 
 -- which file's read failed, of those that it reads
 abbrev pub AskedUnread : Bool → (List ℕ → Option (List ℕ)) → Asked → (List ℕ → Type 0) → Type 0 → List ℕ → Type 0
 AskedUnread all known (Say plan) Alone Failed = OfThis plan Failed
 AskedUnread all known (Find plan trace notes) Alone Failed = FindUnread all (known plan) plan trace (Alone plan) Failed
-AskedUnread all known (Orders plan differ) Alone Failed = OfThis plan Failed
+AskedUnread all known (Orders plan bounds differ None) Alone Failed = OfThis plan Failed
+AskedUnread all known (Orders plan bounds differ (Some log)) Alone Failed = SeenUnread all (known plan) plan log (Alone plan) Failed
 AskedUnread all known (Kernel plan) Alone Failed = OfThis plan Failed
 AskedUnread all known _ Alone Failed = OfThis [] ⊥

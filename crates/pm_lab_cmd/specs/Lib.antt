@@ -1,4 +1,1 @@
-pub mod Request
-pub mod OrdersOutcome
-pub mod Orders
 pub mod Commands

@@ -66,7 +66,7 @@ fn run_find<F: Files, O: Sink>(
 }
 
 /// What is told of a trace that is too long.
-fn too_long_text(alloc: Global) -> Result<Vec<u8>, NoMemory>
+pub(crate) fn too_long_text(alloc: Global) -> Result<Vec<u8>, NoMemory>
     ensures { IfOk result (λ text. text.items ≡ trace_too_long) }
 {
     let text = Vec::from_slice(alloc, b"trace: too_long\n")?;
@@ -74,7 +74,7 @@ fn too_long_text(alloc: Global) -> Result<Vec<u8>, NoMemory>
 }
 
 /// Writes what was found.
-fn write_found<O: Sink>(found: &Found, out: &mut O) -> Result<Outcome, Fault>
+pub(crate) fn write_found<O: Sink>(found: &Found, out: &mut O) -> Result<Outcome, Fault>
     ensures { Came (FindEnds found.now) result ⊥ (taking O.taken O.faults out.old out.new) }
 {
     write_text(

@@ -1,16 +1,18 @@
 //! `help`, and `help COMMAND`: what the commands are.
 
-ghost use Rattle.std.specs.Prelude.{[]};
+ghost use Rattle.std.specs.Prelude.{[], ◌≡◌};
 ghost use Rattle.pm_cmd_ends.specs.Ending.{taking};
+ghost use Rattle.pm_lab_cmd.specs.Commands.{page_of};
 ghost use Rattle.pm_lab_ends.specs.Coming.{Writes};
 ghost use Rattle.pm_lab_ends.specs.Ending.{Answered, OfThis};
 
 use pm_io::Sink;
 use pm_lab_ends::{Outcome, finish, write_text};
+use pm_lab_words::Command;
 
 /// The answer of `help`.
 pub const HELP: &[u8] =
-    b"usage: pm_lab say PLAN | find PLAN TRACE [--notes] | orders PLAN [--differ] | kernel PLAN
+    b"usage: pm_lab say PLAN | find PLAN TRACE [--notes] | orders PLAN [--late] [--most K] [--spots N] [--differ] [--seen LOG] | kernel PLAN
 
 say PLAN          what is wrong with a plan, and where
 find PLAN TRACE   what stands out in a run, each with its line
@@ -87,7 +89,8 @@ couldn't be read; its name is on standard error. 5: writing failed.
 ";
 
 /// The answer of `help orders`.
-pub const ORDERS_PAGE: &[u8] = b"pm_lab orders PLAN [--differ]
+pub const ORDERS_PAGE: &[u8] =
+    b"pm_lab orders PLAN [--late] [--most K] [--spots N] [--differ] [--seen LOG]
 
 Goes through the orders in which the lines of a run of the plan may come, and
 tells what each call returns and how each device ends over all of them:
@@ -102,20 +105,25 @@ of a device its status, usage and error at the end of a finished run. `never`
 says that no order has one.
 
 The orders are those at a prompt pace: a line comes as soon as some actor may
-write. `after K` is the least number of disturbances with which it shows: of
-lines at which another writes, or time moves, though the writer of the last
-line, or anybody, may write. Orders of at most two are gone through.
+write. With --late an actor's line may also come later than another's. `after
+K` is the least number of disturbances with which it shows: of lines at which
+another writes, or time moves, though the writer of the last line, or anybody,
+may write. Orders of at most K are gone through, 0 to 99, two where --most
+isn't given; and at most N spots, 1 to 10,000,000, a million where --spots
+isn't given. A spot is what decides how an order goes on.
 
 The last line says how far this is exact: `all`, of all orders of that pace;
-`within K`, of those with at most K disturbances; `limit`, where a million
-spots or the lines of the plan came first, of as many as it names. A spot is
-what decides how an order goes on.
+`within K`, of those with at most K disturbances; `limit`, where the spots or
+the lines of the plan came first, of as many as it names.
 
-With --differ only commands and devices are told that have more than one.
+With --differ only commands and devices are told that have more than one. With
+--seen LOG a line says behind the last one whether each code and end that the
+log of a kernel's run tells is listed, or names the first that isn't; `kernel`
+makes the module. A device's error isn't told there, nor asked for.
 
-Status 0: each has one. 1: one has more. 2: wrong words. 3: the plan is
-refused. 4: it couldn't be read. 5: writing failed. 6: a limit came first.
-7: no memory.
+Status 0: each has one. 1: one has more, or what was seen isn't listed. 2: wrong
+words. 3: the plan is refused, or the log is too long or tells of no whole run.
+4: one couldn't be read. 5: writing failed. 6: a limit came first. 7: no memory.
 ";
 
 /// The answer of `help kernel`.
@@ -146,8 +154,36 @@ Status 0: written. 2: wrong words. 3: the plan is refused. 4: it couldn't be
 read. 5: writing failed. 7: no memory.
 ";
 
+/// The page of a command.
+fn page_of(command: Command) -> &'static [u8]
+    ensures { result.now ≡ page_of command }
+{
+    match command {
+        Command::Say => SAY_PAGE,
+        Command::Find => FIND_PAGE,
+        Command::Orders => ORDERS_PAGE,
+        Command::Kernel => KERNEL_PAGE,
+    }
+}
+
+/// `help`: the usage and a line for each command.
+pub(crate) fn help_top<O: Sink, E: Sink>(out: &mut O, err: &mut E) -> u8
+    ensures { Answered (Writes Outcome.Done HELP.now) result (OfThis [] ⊥)
+        (taking O.taken O.faults out.old out.new) (taking E.taken E.faults err.old err.new) }
+{
+    tell(HELP, out, err)
+}
+
+/// `help COMMAND`: the page of a command.
+pub(crate) fn page_top<O: Sink, E: Sink>(command: Command, out: &mut O, err: &mut E) -> u8
+    ensures { Answered (Writes Outcome.Done (page_of command)) result (OfThis [] ⊥)
+        (taking O.taken O.faults out.old out.new) (taking E.taken E.faults err.old err.new) }
+{
+    tell(page_of(command), out, err)
+}
+
 /// Answers a text.
-pub(crate) fn help_top<O: Sink, E: Sink>(text: &[u8], out: &mut O, err: &mut E) -> u8
+fn tell<O: Sink, E: Sink>(text: &[u8], out: &mut O, err: &mut E) -> u8
     ensures { Answered (Writes Outcome.Done text.now) result (OfThis [] ⊥)
         (taking O.taken O.faults out.old out.new) (taking E.taken E.faults err.old err.new) }
 {

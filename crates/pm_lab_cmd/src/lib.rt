@@ -5,14 +5,10 @@ mod dispatch;
 mod find;
 mod help;
 mod kernel;
-mod orders;
-mod request;
 mod say;
 
 pub use dispatch::top;
 pub use find::find_top;
 pub use help::{FIND_PAGE, HELP, KERNEL_PAGE, ORDERS_PAGE, SAY_PAGE};
 pub use kernel::kernel_top;
-pub use orders::orders_top;
-pub use request::{Request, read_words};
 pub use say::say_top;

@@ -4,7 +4,7 @@ use Rattle.pm_cmd_ends.specs.Ending.{Failed, Taking, Told, TookNothing, TookText
 use Rattle.pm_model.specs.Spelling.{newline}
 
 abbrev pub usage : List ℕ
-usage = codes "usage: pm_lab say PLAN | find PLAN TRACE [--notes] | orders PLAN [--differ] | kernel PLAN\n"
+usage = codes "usage: pm_lab say PLAN | find PLAN TRACE [--notes] | orders PLAN [--late] [--most K] [--spots N] [--differ] [--seen LOG] | kernel PLAN\n"
 
 -- a read of this file failed
 abbrev pub read_message : List ℕ → List ℕ

@@ -16,7 +16,7 @@ use std::alloc::AllocError;
 
 /// How the program is called.
 pub const USAGE: &[u8] =
-    b"usage: pm_lab say PLAN | find PLAN TRACE [--notes] | orders PLAN [--differ] | kernel PLAN\n";
+    b"usage: pm_lab say PLAN | find PLAN TRACE [--notes] | orders PLAN [--late] [--most K] [--spots N] [--differ] [--seen LOG] | kernel PLAN\n";
 
 /// Something was found.
 pub const FOUND: u8 = 1;

@@ -20,7 +20,7 @@ use Rattle.pm_model.specs.Serial.{callers_and_works, goes_on, late_moment, least
 use Rattle.pm_model.specs.World.{World, due, move, row, stage_at, world}
 use Rattle.pm_orders.specs.Orders.{IsOrder, spot}
 use Rattle.pm_orders.specs.Spots.{anyone_may, due_moment, due_moments, prompt_time}
-use Rattle.pm_orders.specs.Spots.Pace.{Prompt}
+use Rattle.pm_orders.specs.declared.Pace.TheVariants.{Prompt}
 use Rattle.pm_orders.proofs.Rounds.{any_found, any_round, least_passes, least_round, none_found}
 
 some_is : {A : Type 0} (x y : A) → Some x ≡ Some y → x ≡ y

@@ -7,7 +7,8 @@ use Rattle.pm_model.specs.Lawful.{IsLawful, Permits}
 use Rattle.pm_search.specs.Reached.{Reached}
 use Rattle.pm_search.specs.Reached.Reached.{begins, goes_on, spends}
 use Rattle.pm_orders.specs.Orders.{IsOrder, disturbances, one_more_if, spot}
-use Rattle.pm_orders.specs.Spots.{Follows, IsTimely, MayFollow, Pace, Spot, disturbs, start_spot}
+use Rattle.pm_orders.specs.declared.Pace.{Pace}
+use Rattle.pm_orders.specs.Spots.{Follows, IsTimely, MayFollow, Spot, disturbs, start_spot}
 
 may_follow : (plan : Plan) (h : History) (line : Line) → Permits plan h line → MayFollow plan (spot plan h) line
 may_follow plan h line p = record { stage = p.stage; stands = p.stands; change = p.change; next = p.next; gives = p.gives; in_time = p.in_time }

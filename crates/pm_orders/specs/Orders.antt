@@ -5,7 +5,8 @@ use Rattle.pm_model.specs.declared.plan.Plan.{Plan}
 use Rattle.pm_model.specs.History.{History}
 use Rattle.pm_model.specs.Lawful.{Permits, last_time}
 use Rattle.pm_model.specs.World.{world}
-use Rattle.pm_orders.specs.Spots.{IsTimely, Pace, Spot, code_of, disturbs}
+use Rattle.pm_orders.specs.declared.Pace.{Pace}
+use Rattle.pm_orders.specs.Spots.{IsTimely, Spot, code_of, disturbs}
 
 abbrev pub last_actor : History → Option ActorId
 last_actor [] = None

@@ -18,11 +18,8 @@ use Rattle.pm_model.specs.Promises.{is_actor}
 use Rattle.pm_model.specs.Serial.{callers_and_works, late_moment, least, may_write, move_at, timer_actors}
 use Rattle.pm_model.specs.Views.{Views}
 use Rattle.pm_model.specs.World.{World, after_line, move, row_at, stage_at, start}
-
--- how late lines come: all at the first moment at which any may be written, or each actor's as late as it likes
-pub data Pace : Type 0 where
-  Prompt : Pace
-  Late : Pace
+use Rattle.pm_orders.specs.declared.Pace.{Pace}
+use Rattle.pm_orders.specs.declared.Pace.TheVariants.{Late, Prompt}
 
 -- where the run stands, when the last line was written and by whom, and the code that it returned to a caller
 pub record Spot : Type 0 where

@@ -8,22 +8,32 @@ ghost use Rattle.pm_model.specs.Lawful.{IsLawful};
 ghost use Rattle.pm_model.specs.Serial.{serial};
 ghost use Rattle.pm_model.specs.World.{called_by, world};
 ghost use Rattle.pm_search.specs.Reached.{Reached};
+ghost use Rattle.pm_orders.specs.declared.Pace.{Pace as APace};
+ghost use Rattle.pm_orders.specs.declared.Pace.TheVariants.{Prompt};
 ghost use Rattle.pm_orders.specs.Marks.{EndsWithReturn, HasMark};
 ghost use Rattle.pm_orders.specs.Marks.Mark.{Returns};
 ghost use Rattle.pm_orders.specs.Orders.{IsOrder, disturbances, spot};
-ghost use Rattle.pm_orders.specs.Spots.{Follows, Pace, Spot, start_spot};
-ghost use Rattle.pm_orders.specs.Spots.Pace.{Prompt};
+ghost use Rattle.pm_orders.specs.Spots.{Follows, Spot, start_spot};
+
+/// When the lines of an order come.
+#[derive(Clone, Copy, Debug, PartialEq, Eq)]
+pub enum Pace {
+    /// All at the first moment at which any may be written: nobody is late.
+    Prompt,
+    /// Each actor's as late as it likes, where that may show. None is early.
+    Late,
+}
 
 /// The spots that are reached by steps of which k disturb are exactly those where the orders stand of whose
 /// lines k disturb.
 pub fn orders_are_ways()
-    ensures reached { (pace : Pace) (plan : Plan) (h : History) → IsOrder pace plan h → Reached (Follows pace plan) (start_spot plan) (disturbances plan h) (spot plan h) }
-    ensures ordered { (pace : Pace) (plan : Plan) (k : ℕ) (s : Spot) → Reached (Follows pace plan) (start_spot plan) k s → (h : History) × IsOrder pace plan h × (disturbances plan h ≡ k) × (spot plan h ≡ s) }
+    ensures reached { (pace : APace) (plan : Plan) (h : History) → IsOrder pace plan h → Reached (Follows pace plan) (start_spot plan) (disturbances plan h) (spot plan h) }
+    ensures ordered { (pace : APace) (plan : Plan) (k : ℕ) (s : Spot) → Reached (Follows pace plan) (start_spot plan) k s → (h : History) × IsOrder pace plan h × (disturbances plan h ≡ k) × (spot plan h ≡ s) }
 {}
 
 /// An order of no more lines than the plan allows is lawful.
 pub fn orders_are_lawful()
-    ensures { (pace : Pace) (plan : Plan) (h : History) → IsOrder pace plan h → length h ≤ plan.lines → IsLawful plan h }
+    ensures { (pace : APace) (plan : Plan) (h : History) → IsOrder pace plan h → length h ≤ plan.lines → IsLawful plan h }
 {}
 
 /// What one thread writes is an order at a prompt pace.

@@ -5,8 +5,10 @@ mod differing;
 mod lines;
 mod pieces;
 mod reach;
+mod seen;
 mod texts;
 
 pub use differing::differs;
 pub use reach::{Reach, reach_of};
+pub use seen::push_seen;
 pub use texts::{orders_text, told_text};

@@ -27,8 +27,8 @@ pub fn push_number(text: &mut Vec<u8>, number: usize) -> Result<(), NoMemory>
     push(text, Buffer::new().format(number).as_bytes())
 }
 
-// Appends a code in decimal, with a minus where it is below 0.
-fn push_code(text: &mut Vec<u8>, code: i32) -> Result<(), NoMemory>
+/// Appends a code in decimal, with a minus where it is below 0.
+pub fn push_code(text: &mut Vec<u8>, code: i64) -> Result<(), NoMemory>
     ensures { OnOk result (text.new.items ≡ text.old.items ++ signed_decimal code) }
 {
     push(text, Buffer::new().format(code).as_bytes())
@@ -45,8 +45,8 @@ pub fn device_name(plan: &Plan, place: usize) -> &[u8]
     }
 }
 
-// The word of a status.
-fn status_text(status: Status) -> &'static [u8]
+/// The word of a status.
+pub fn status_text(status: Status) -> &'static [u8]
     ensures { result.now ≡ status_text status }
 {
     match status {
@@ -65,7 +65,7 @@ fn push_left(text: &mut Vec<u8>, left: &Left) -> Result<(), NoMemory>
     push(text, b" usage ")?;
     push_number(text, left.usage as usize)?;
     push(text, b" error ")?;
-    push_code(text, left.error)
+    push_code(text, i64::from(left.error))
 }
 
 // Appends what a mark tells.
@@ -73,7 +73,7 @@ fn push_value(text: &mut Vec<u8>, mark: &Mark) -> Result<(), NoMemory>
     ensures { OnOk result (text.new.items ≡ text.old.items ++ value_text mark.now) }
 {
     match mark {
-        Mark::Return(returned) => push_code(text, returned.code),
+        Mark::Return(returned) => push_code(text, i64::from(returned.code)),
         Mark::End(left) => push_left(text, left),
     }
 }

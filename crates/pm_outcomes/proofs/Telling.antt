@@ -11,6 +11,7 @@ use Rattle.pm_listed.specs.declared.marks.Outcome.{Outcome}
 use Rattle.pm_listed.specs.Listing.{AreListed, outcome_of, round_of}
 use Rattle.pm_listed.specs.Shown.{mark_of}
 use Rattle.pm_model.specs.declared.plan.Plan.{Plan}
+use Rattle.pm_orders.specs.declared.Pace.{Pace}
 use Rattle.pm_orders.specs.Marks.{HasMark, Mark as Shown}
 use Rattle.pm_orders.specs.Orders.{spot}
 use Rattle.pm_orders.specs.Spots.{Spot}
@@ -122,8 +123,8 @@ module _ (plan : Plan) (spots : List Spot) (rounds : List ℕ) (whole : Bool) (f
   pub numbers_count : (i : ℕ) (o : Outcome) → slice_get outcomes i ≡ Some o → (whole ≡ true) ⊎ (o.round < length rounds)
   numbers_count i o there = let c = comes i o there in subst (λ r. (whole ≡ true) ⊎ (r < length rounds)) (sym c.round) c.counts
 
-  pub exact_within : ((k bound : ℕ) → slice_get rounds k ≡ Some bound → AreOfOrders plan k spots bound) → (k bound : ℕ) → slice_get rounds k ≡ Some bound → AreExactWithin plan k outcomes
-  exact_within of_orders k bound at = record {
+  pub exact_within : (pace : Pace) → ((k bound : ℕ) → slice_get rounds k ≡ Some bound → AreOfOrders pace plan k spots bound) → (k bound : ℕ) → slice_get rounds k ≡ Some bound → AreExactWithin pace plan k outcomes
+  exact_within pace of_orders k bound at = record {
     sound = λ m l.
         let c = comes l.index l.outcome l.there in
         let few = l.few in
@@ -147,8 +148,8 @@ module _ (plan : Plan) (spots : List Spot) (rounds : List ℕ) (whole : Bool) (f
         record { index = t.0; outcome = t.1; there = t.2; mark = t.3; few = omega (arith, is, round) };
   }
 
-  pub exact : whole ≡ true → AreOfAllOrders plan spots → AreExact plan outcomes
-  exact is all = record {
+  pub exact : (pace : Pace) → whole ≡ true → AreOfAllOrders pace plan spots → AreExact pace plan outcomes
+  exact pace is all = record {
     sound = λ m l.
         let c = comes l.index l.outcome l.there in
         let h = all.sound l.outcome.place c.shown.where_it_stands c.shown.there in

@@ -6,18 +6,18 @@ use Rattle.pm_listed.specs.declared.marks.Outcome.{Outcome}
 use Rattle.pm_listed.specs.Shown.{mark_of}
 use Rattle.pm_model.specs.declared.event.Line.{Line}
 use Rattle.pm_model.specs.declared.plan.Plan.{Plan}
+use Rattle.pm_orders.specs.declared.Pace.{Pace}
 use Rattle.pm_orders.specs.Marks.{HasMark}
 use Rattle.pm_orders.specs.Orders.{spot}
 use Rattle.pm_orders.specs.Spots.{Follows, Spot}
-use Rattle.pm_orders.specs.Spots.Pace.{Prompt}
 use Rattle.pm_search.specs.Trees.{AreLed}
 use Rattle.pm_ways.specs.Runs.{IsAsLed, IsOrderTo}
 use Rattle.pm_outcomes.specs.Had.{AreShown, IsWitness}
 use Rattle.pm_outcomes.proofs.Among.{some_is}
 
-pub is_witness : (plan : Plan) (spots : List Spot) (parents rounds : List ℕ) (outcomes : List Outcome) (index : ℕ) (o : Outcome) (lines : List Line) → AreShown plan spots rounds outcomes → AreLed (Follows Prompt plan) spots parents rounds
-    → slice_get outcomes index ≡ Some o → IsOrderTo plan spots o.place lines → IsAsLed plan spots parents o.place lines → IsWitness plan rounds o lines
-is_witness plan spots parents rounds outcomes index o lines shown led there to few =
+pub is_witness : (pace : Pace) (plan : Plan) (spots : List Spot) (parents rounds : List ℕ) (outcomes : List Outcome) (index : ℕ) (o : Outcome) (lines : List Line) → AreShown plan spots rounds outcomes → AreLed (Follows pace plan) spots parents rounds
+    → slice_get outcomes index ≡ Some o → IsOrderTo pace plan spots o.place lines → IsAsLed pace plan spots parents o.place lines → IsWitness pace plan rounds o lines
+is_witness pace plan spots parents rounds outcomes index o lines shown led there to few =
     let s = shown.shown index o there in
     let stands : s.where_it_stands ≡ spot plan (reverse lines) = some_is s.where_it_stands (spot plan (reverse lines)) (sym s.there ∙ to.stands) in
     record {

@@ -6,24 +6,24 @@ use Rattle.pm_model.specs.declared.event.Line.{Line}
 use Rattle.pm_model.specs.declared.plan.Plan.{Plan}
 use Rattle.pm_model.specs.History.{History}
 use Rattle.pm_model.specs.Lawful.{IsLawful}
+use Rattle.pm_orders.specs.declared.Pace.{Pace}
 use Rattle.pm_orders.specs.Marks.{HasMark, Mark}
 use Rattle.pm_orders.specs.Orders.{IsOrder, disturbances, spot}
 use Rattle.pm_orders.specs.Spots.{Spot}
-use Rattle.pm_orders.specs.Spots.Pace.{Prompt}
 use Rattle.pm_search.specs.declared.found.Ended.{Ended}
 use Rattle.pm_search.specs.declared.found.Ended.TheVariants.{Whole}
 
 -- some order of whose lines at most k disturb has the mark
-pub record IsHadWithin (plan : Plan) (k : ℕ) (m : Mark) : Type 0 where
+pub record IsHadWithin (pace : Pace) (plan : Plan) (k : ℕ) (m : Mark) : Type 0 where
   pub order : History
-  pub is_order : IsOrder Prompt plan order
+  pub is_order : IsOrder pace plan order
   pub few : disturbances plan order ≤ k
   pub has : HasMark plan (spot plan order) m
 
 -- some order has the mark
-pub record IsHad (plan : Plan) (m : Mark) : Type 0 where
+pub record IsHad (pace : Pace) (plan : Plan) (m : Mark) : Type 0 where
   pub order : History
-  pub is_order : IsOrder Prompt plan order
+  pub is_order : IsOrder pace plan order
   pub has : HasMark plan (spot plan order) m
 
 -- the mark is listed with a number of at most k
@@ -42,14 +42,14 @@ pub record IsListed (outcomes : List Outcome) (m : Mark) : Type 0 where
   pub mark : mark_of outcome.mark ≡ m
 
 -- a mark is listed with a number of at most k exactly where some order of at most k disturbances has it
-pub record AreExactWithin (plan : Plan) (k : ℕ) (outcomes : List Outcome) : Type 0 where
-  pub sound : (m : Mark) → IsListedWithin outcomes k m → IsHadWithin plan k m
-  pub complete : (m : Mark) → IsHadWithin plan k m → IsListedWithin outcomes k m
+pub record AreExactWithin (pace : Pace) (plan : Plan) (k : ℕ) (outcomes : List Outcome) : Type 0 where
+  pub sound : (m : Mark) → IsListedWithin outcomes k m → IsHadWithin pace plan k m
+  pub complete : (m : Mark) → IsHadWithin pace plan k m → IsListedWithin outcomes k m
 
 -- a mark is listed exactly where some order has it
-pub record AreExact (plan : Plan) (outcomes : List Outcome) : Type 0 where
-  pub sound : (m : Mark) → IsListed outcomes m → IsHad plan m
-  pub complete : (m : Mark) → IsHad plan m → IsListed outcomes m
+pub record AreExact (pace : Pace) (plan : Plan) (outcomes : List Outcome) : Type 0 where
+  pub sound : (m : Mark) → IsListed outcomes m → IsHad pace plan m
+  pub complete : (m : Mark) → IsHad pace plan m → IsListed outcomes m
 
 -- the number of each outcome is that of a complete round, unless the search was whole
 abbrev pub AreOfRounds : Ended → List ℕ → List Outcome → Type 0
@@ -71,8 +71,8 @@ pub record AreShown (plan : Plan) (spots : List Spot) (rounds : List ℕ) (outco
   pub in_round : (i : ℕ) (o : Outcome) (bound : ℕ) → slice_get outcomes i ≡ Some o → slice_get rounds o.round ≡ Some bound → o.place < bound
 
 -- the lines are a lawful order that has the mark of the outcome, and no more of them disturb than its number says
-pub record IsWitness (plan : Plan) (rounds : List ℕ) (o : Outcome) (lines : List Line) : Type 0 where
-  pub order : IsOrder Prompt plan (reverse lines)
+pub record IsWitness (pace : Pace) (plan : Plan) (rounds : List ℕ) (o : Outcome) (lines : List Line) : Type 0 where
+  pub order : IsOrder pace plan (reverse lines)
   pub lawful : IsLawful plan (reverse lines)
   pub has : HasMark plan (spot plan (reverse lines)) (mark_of o.mark)
   pub few : o.round < length rounds → disturbances plan (reverse lines) ≤ o.round

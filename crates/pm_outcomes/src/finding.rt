@@ -4,21 +4,21 @@ ghost use Rattle.std.specs.Prelude.{ℕ, ◌≡◌, ◌≤◌, ◌+◌, IfOk, So
 ghost use Rattle.std.specs.List.Sorted.{IsSorted};
 ghost use Rattle.pm_listed.specs.Order.{by_text};
 ghost use Rattle.pm_orders.specs.Spots.{Follows, start_spot};
-ghost use Rattle.pm_orders.specs.Spots.Pace.{Prompt};
 ghost use Rattle.pm_outcomes.specs.Had.{AreExact, AreExactWithin, AreOfRounds, AreShown, IsListedOnce};
 ghost use Rattle.pm_search.specs.declared.found.Ended.TheVariants.{Rounds, Stopped, Whole};
 ghost use Rattle.pm_search.specs.declared.graph.Stop.TheVariants.{Full, NoMemory as WantsMemory, TooFar};
 ghost use Rattle.pm_search.specs.Trees.{AreLed, IsTree};
 ghost use Rattle.pm_spot.specs.SpotOf.{spot_of};
-ghost use Rattle.pm_ways.specs.Found.{IsTooFar};
+ghost use Rattle.pm_ways.specs.Found.{AreOfAllOrders, AreOfOrders, IsTooFar};
 
 use crate::firsts::first_marks;
 use pm_base::NoMemory;
 use pm_listed::{Outcome, listed};
 use pm_model::Plan;
+use pm_orders::Pace;
 use pm_search::{Ended, Found, Stop};
 use pm_spot::Spot;
-use pm_ways::prompt_orders;
+use pm_ways::all_orders;
 use std::alloc::Global;
 
 /// What the orders of a plan show, and the spots at which they stand.
@@ -41,33 +41,36 @@ fn is_whole(ended: Ended) -> bool
     }
 }
 
-/// All that the orders of a plan show whose lines come at a prompt pace, with the least number of disturbances, up to
+/// All that the orders of a plan show whose lines come at a pace, with the least number of disturbances, up to
 /// so many; or all that any order shows, where that is seen; or what was found before the limit of spots, or another
 /// stop.
 pub fn all_outcomes(
     alloc: Global,
     plan: &Plan,
+    pace: Pace,
     most: usize,
     limit: usize,
 ) -> Result<Outcomes, NoMemory>
     // For each number of disturbances whose round is complete, and for all orders where it is whole.
-    ensures rounds { IfOk result (λ all. (k bound : ℕ) → slice_get all.found.rounds.items k ≡ Some bound → AreExactWithin plan.now k all.marks.items) }
-    ensures whole { IfOk result (λ all. all.found.ended ≡ Ended.Whole → AreExact plan.now all.marks.items) }
+    ensures rounds { IfOk result (λ all. (k bound : ℕ) → slice_get all.found.rounds.items k ≡ Some bound → AreExactWithin pace plan.now k all.marks.items) }
+    ensures whole { IfOk result (λ all. all.found.ended ≡ Ended.Whole → AreExact pace plan.now all.marks.items) }
+    ensures orders { IfOk result (λ all. (k bound : ℕ) → slice_get all.found.rounds.items k ≡ Some bound → AreOfOrders pace plan.now k (map spot_of all.found.tree.nodes.keys) bound) }
+    ensures all_orders { IfOk result (λ all. all.found.ended ≡ Ended.Whole → AreOfAllOrders pace plan.now (map spot_of all.found.tree.nodes.keys)) }
     ensures of_rounds { IfOk result (λ all. AreOfRounds all.found.ended all.found.rounds.items all.marks.items) }
     ensures once { IfOk result (λ all. IsListedOnce all.marks.items) }
     ensures in_order { IfOk result (λ all. IsSorted by_text all.marks.items) }
 
     // Where each shows.
     ensures shown { IfOk result (λ all. AreShown plan.now (map spot_of all.found.tree.nodes.keys) all.found.rounds.items all.marks.items) }
-    ensures tree { IfOk result (λ all. IsTree (Follows Prompt plan.now) (start_spot plan.now) (map spot_of all.found.tree.nodes.keys) all.found.tree.parents.items) }
-    ensures led { IfOk result (λ all. AreLed (Follows Prompt plan.now) (map spot_of all.found.tree.nodes.keys) all.found.tree.parents.items all.found.rounds.items) }
+    ensures tree { IfOk result (λ all. IsTree (Follows pace plan.now) (start_spot plan.now) (map spot_of all.found.tree.nodes.keys) all.found.tree.parents.items) }
+    ensures led { IfOk result (λ all. AreLed (Follows pace plan.now) (map spot_of all.found.tree.nodes.keys) all.found.tree.parents.items all.found.rounds.items) }
 
     // How the search ended.
     ensures complete { IfOk result (λ all. all.found.ended ≡ Ended.Rounds → length all.found.rounds.items ≡ most + 1) }
     ensures full { IfOk result (λ all. all.found.ended ≡ Ended.Stopped Stop.Full → limit ≤ length all.found.tree.nodes.keys) }
     ensures too_far { IfOk result (λ all. all.found.ended ≡ Ended.Stopped Stop.TooFar → (at : ℕ) × IsTooFar plan.now all.found.tree.parents.items at) }
 {
-    let found = prompt_orders(alloc, plan, most, limit)?;
+    let found = all_orders(alloc, plan, pace, most, limit)?;
     let firsts = first_marks(alloc, plan, &found.tree)?;
     let marks = listed(
         alloc,

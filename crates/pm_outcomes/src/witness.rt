@@ -3,7 +3,6 @@
 ghost use Rattle.std.specs.Prelude.{◌≡◌, ◌<◌, IfOk, IfSome, Some, length, map, slice_get};
 ghost use Rattle.pm_listed.specs.declared.marks.Outcome.{Outcome as AnOutcome};
 ghost use Rattle.pm_orders.specs.Spots.{Follows, start_spot};
-ghost use Rattle.pm_orders.specs.Spots.Pace.{Prompt};
 ghost use Rattle.pm_outcomes.specs.Had.{AreShown, IsWitness};
 ghost use Rattle.pm_search.specs.Trees.{AreLed, IsTree};
 ghost use Rattle.pm_spot.specs.SpotOf.{spot_of};
@@ -11,6 +10,7 @@ ghost use Rattle.pm_spot.specs.SpotOf.{spot_of};
 use crate::finding::Outcomes;
 use pm_base::NoMemory;
 use pm_model::{Line, Plan};
+use pm_orders::Pace;
 use pm_ways::order_to;
 use std::alloc::Global;
 
@@ -19,15 +19,16 @@ use std::alloc::Global;
 pub fn witness_of(
     alloc: Global,
     plan: &Plan,
+    pace: Pace,
     all: &Outcomes,
     index: usize,
 ) -> Result<Option<Vec<Line>>, NoMemory>
     requires within { index < length all.now.marks.items }
-    requires tree { IsTree (Follows Prompt plan.now) (start_spot plan.now) (map spot_of all.now.found.tree.nodes.keys) all.now.found.tree.parents.items }
-    requires led { AreLed (Follows Prompt plan.now) (map spot_of all.now.found.tree.nodes.keys) all.now.found.tree.parents.items all.now.found.rounds.items }
+    requires tree { IsTree (Follows pace plan.now) (start_spot plan.now) (map spot_of all.now.found.tree.nodes.keys) all.now.found.tree.parents.items }
+    requires led { AreLed (Follows pace plan.now) (map spot_of all.now.found.tree.nodes.keys) all.now.found.tree.parents.items all.now.found.rounds.items }
     requires shown { AreShown plan.now (map spot_of all.now.found.tree.nodes.keys) all.now.found.rounds.items all.now.marks.items }
-    ensures { IfOk result (λ found. IfSome found (λ lines. (o : AnOutcome) → slice_get all.now.marks.items index ≡ Some o → IsWitness plan.now all.now.found.rounds.items o lines.items)) }
+    ensures { IfOk result (λ found. IfSome found (λ lines. (o : AnOutcome) → slice_get all.now.marks.items index ≡ Some o → IsWitness pace plan.now all.now.found.rounds.items o lines.items)) }
 {
     let outcome = all.marks[index];
-    order_to(alloc, plan, &all.found.tree, outcome.place)
+    order_to(alloc, plan, pace, &all.found.tree, outcome.place)
 }

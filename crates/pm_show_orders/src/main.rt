@@ -1,64 +1,105 @@
-//! Shows the orders of plans at a prompt pace, searched through: for each plan how many spots there are by at most 0,
-//! 1, .. disturbances, how the search ended, and the text of what they show. The camera's first four numbers were
-//! counted by another program too.
+//! Shows the orders of the plans of the folder `data`, searched through.
+//!
+//! `searches.list` names the searches: a plan, a pace, how many disturbances there may be, how many spots, and what is
+//! told. Of each it is told how the search ended, how many spots there are by at most 0, 1, .. disturbances, and the text
+//! of what they show, of all or of what differs, or how many marks there are by at most 0, 1, .. disturbances. How many
+//! spots there are at a prompt pace, of the camera, the failing parent and the panel, was counted by another program too.
 #![tactic(auto)]
 
-mod plans;
-
-use plans::plans;
+use anyhow::Result;
+use pm_base::PLAN_BYTES;
+use pm_io::{DiskFiles, read_all};
+use pm_model::Plan;
+use pm_orders::Pace;
 use pm_orders_text::orders_text;
-use pm_outcomes::all_outcomes;
+use pm_outcomes::{Outcomes, all_outcomes};
 use pm_planread::read_plan;
 use pm_search::{Ended, Stop};
 use std::alloc::Global;
-use std::io;
+use std::io::{Print, Write};
+use std::{io, str};
 
-fn main(rt: HostRuntime) -> io::Result<()> {
-    for (what, text, most, limit, differ) in plans() {
-        show(&rt, rt.alloc(), what, text, most, limit, differ)?;
+fn main(rt: HostRuntime) -> Result<()> {
+    let alloc = rt.alloc();
+    let mut files = DiskFiles::new(&rt);
+    let searches = read_all(alloc, &mut files, "searches.list", PLAN_BYTES)?;
+    for search in str::from_utf8(&searches)?.lines() {
+        println!(rt; "# {search}")?;
+        let mut words = search.split_whitespace();
+        let name = words.next().unwrap_or("");
+        let file = format!(in alloc; "{name}.toml")?;
+        let text = read_all(alloc, &mut files, &file, PLAN_BYTES)?;
+        let pace = pace_of(words.next().unwrap_or(""));
+        let most = words.next().unwrap_or("").parse::<usize>().unwrap_or(0);
+        let limit = words.next().unwrap_or("").parse::<usize>().unwrap_or(0);
+        let told = words.next().unwrap_or("");
+        show(&rt, alloc, text.as_slice(), pace, most, limit, told)?;
     }
     Ok(())
 }
 
-/// Writes what a search of a plan comes to.
-fn show(
-    rt: &impl Print,
+fn pace_of(word: &str) -> Pace {
+    if word == "late" {
+        Pace::Late
+    } else {
+        Pace::Prompt
+    }
+}
+
+/// Writes what a search comes to.
+fn show<R: Print>(
+    rt: &R,
     alloc: Global,
-    what: &str,
     text: &[u8],
+    pace: Pace,
     most: usize,
     limit: usize,
-    differ: bool,
-) -> io::Result<()> {
+    told: &str,
+) -> Result<()> {
     let Ok(plan) = read_plan(alloc, text) else {
-        println!(rt; "{what}: no plan")?;
+        println!(rt; "no plan")?;
         return Ok(());
     };
-    let Ok(all) = all_outcomes(alloc, &plan, most, limit) else {
-        println!(rt; "{what}: no memory")?;
-        return Ok(());
-    };
-    print!(rt; "{what}: {}", word(all.found.ended))?;
+    let all = all_outcomes(alloc, &plan, pace, most, limit)?;
+    print!(rt; "{}:", word(all.found.ended))?;
     for count in all.found.rounds.iter() {
         print!(rt; " {count}")?;
     }
-    println!(rt; "")?;
-    let Ok(told) = orders_text(alloc, &plan, &all, differ) else {
-        println!(rt; "{what}: no memory")?;
-        return Ok(());
-    };
-    let Ok(lines) = String::from_utf8(told) else {
-        println!(rt; "{what}: no text")?;
-        return Ok(());
-    };
-    print!(rt; "{lines}")?;
+    println!(rt; " spots")?;
+    match told {
+        "counts" => show_counts(rt, &all),
+        _ => show_text(rt, alloc, &plan, &all, told == "differ"),
+    }
+}
+
+/// Writes how many marks there are by at most 0, 1, .. disturbances.
+fn show_counts<R: Print>(rt: &R, all: &Outcomes) -> Result<()> {
+    for most in 0..all.found.rounds.len() {
+        let count = all.marks.iter().filter(|o| o.round <= most).count();
+        print!(rt; "{count} ")?;
+    }
+    println!(rt; "marks")?;
+    Ok(())
+}
+
+/// Writes what the orders show.
+fn show_text<R: Print>(
+    rt: &R,
+    alloc: Global,
+    plan: &Plan,
+    all: &Outcomes,
+    differ: bool,
+) -> Result<()> {
+    let text = orders_text(alloc, plan, all, differ)?;
+    let mut out = io::writer(rt);
+    out.write_all(text.as_slice())?;
     Ok(())
 }
 
 /// How a search ended.
 fn word(ended: Ended) -> &'static str {
     match ended {
-        Ended::Whole => "all spots, by rounds",
+        Ended::Whole => "all",
         Ended::Rounds => "these rounds",
         Ended::Stopped(Stop::Full) => "too many spots, rounds",
         Ended::Stopped(Stop::TooFar) => "too many lines, rounds",

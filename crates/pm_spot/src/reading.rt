@@ -17,7 +17,7 @@ fn devices_of(alloc: Global, plan: &Plan, state: &State) -> Result<Vec<Device>, 
     requires entries { HasEntries plan.now state.now.world.views }
     ensures { IfOk result (λ out. out.items ≡ state.now.world.views.devices) }
 {
-    let mut out = Vec::new(alloc);
+    let mut out = Vec::with_capacity(alloc, plan.devices.len())?;
     for dev in 0..plan.devices.len() {
         out.push(*state.parts().device(DevId(dev as u32)))?;
     }
@@ -29,7 +29,7 @@ fn pending_of(alloc: Global, plan: &Plan, state: &State) -> Result<Vec<Pending>,
     requires entries { HasEntries plan.now state.now.world.views }
     ensures { IfOk result (λ out. out.items ≡ state.now.world.views.pending) }
 {
-    let mut out = Vec::new(alloc);
+    let mut out = Vec::with_capacity(alloc, plan.devices.len())?;
     for dev in 0..plan.devices.len() {
         out.push(state.parts().pending(DevId(dev as u32)))?;
     }
@@ -41,7 +41,7 @@ fn timers_of(alloc: Global, plan: &Plan, state: &State) -> Result<Vec<Option<Arm
     requires entries { HasEntries plan.now state.now.world.views }
     ensures { IfOk result (λ out. out.items ≡ state.now.world.views.timers) }
 {
-    let mut out = Vec::new(alloc);
+    let mut out = Vec::with_capacity(alloc, plan.devices.len())?;
     for dev in 0..plan.devices.len() {
         out.push(state.parts().timer(DevId(dev as u32)))?;
     }
@@ -52,7 +52,7 @@ fn domains_on(alloc: Global, plan: &Plan, state: &State) -> Result<Vec<bool>, Al
     requires entries { HasEntries plan.now state.now.world.views }
     ensures { IfOk result (λ out. out.items ≡ state.now.world.views.on) }
 {
-    let mut out = Vec::new(alloc);
+    let mut out = Vec::with_capacity(alloc, plan.domains.len())?;
     for domain in 0..plan.domains.len() {
         out.push(state.parts().is_on(domain as u32))?;
     }
@@ -63,7 +63,7 @@ fn links_held(alloc: Global, plan: &Plan, state: &State) -> Result<Vec<bool>, Al
     requires entries { HasEntries plan.now state.now.world.views }
     ensures { IfOk result (λ out. out.items ≡ state.now.world.views.held) }
 {
-    let mut out = Vec::new(alloc);
+    let mut out = Vec::with_capacity(alloc, plan.links.as_slice().len())?;
     for link in 0..plan.links.as_slice().len() {
         out.push(state.parts().holds(link))?;
     }
@@ -74,7 +74,7 @@ fn links_present(alloc: Global, plan: &Plan, state: &State) -> Result<Vec<bool>,
     requires entries { HasEntries plan.now state.now.world.views }
     ensures { IfOk result (λ out. out.items ≡ state.now.world.views.present) }
 {
-    let mut out = Vec::new(alloc);
+    let mut out = Vec::with_capacity(alloc, plan.links.as_slice().len())?;
     for link in 0..plan.links.as_slice().len() {
         out.push(state.parts().has(link))?;
     }
@@ -94,7 +94,7 @@ fn stages_of(
     ensures { IfOk result (λ stages. stages.items ≡ place state.now.world actor) }
 {
     let open = state.open(plan, actor);
-    let mut stages = Vec::new(alloc);
+    let mut stages = Vec::with_capacity(alloc, open.len())?;
     for back in 0..open.len() {
         stages.push(open[open.len() - 1 - back])?;
     }
@@ -105,7 +105,7 @@ fn caller_places(alloc: Global, plan: &Plan, state: &State) -> Result<Vec<Vec<St
     requires is_of { IsOf plan.now state.now }
     ensures { IfOk result (λ out. map (λ v. v.items) out.items ≡ state.now.world.caller_places) }
 {
-    let mut out = Vec::new(alloc);
+    let mut out = Vec::with_capacity(alloc, plan.callers.len())?;
     for caller in 0..plan.callers.len() {
         let stages = stages_of(alloc, plan, state, ActorId::Caller(caller as u32))?;
         out.push(stages)?;
@@ -117,7 +117,7 @@ fn work_places(alloc: Global, plan: &Plan, state: &State) -> Result<Vec<Vec<Stag
     requires is_of { IsOf plan.now state.now }
     ensures { IfOk result (λ out. map (λ v. v.items) out.items ≡ state.now.world.work_places) }
 {
-    let mut out = Vec::new(alloc);
+    let mut out = Vec::with_capacity(alloc, plan.devices.len())?;
     for dev in 0..plan.devices.len() {
         let stages = stages_of(alloc, plan, state, ActorId::Work(dev as u32))?;
         out.push(stages)?;
@@ -129,7 +129,7 @@ fn timer_places(alloc: Global, plan: &Plan, state: &State) -> Result<Vec<Vec<Sta
     requires is_of { IsOf plan.now state.now }
     ensures { IfOk result (λ out. map (λ v. v.items) out.items ≡ state.now.world.timer_places) }
 {
-    let mut out = Vec::new(alloc);
+    let mut out = Vec::with_capacity(alloc, plan.devices.len())?;
     for dev in 0..plan.devices.len() {
         let stages = stages_of(alloc, plan, state, ActorId::Timer(dev as u32))?;
         out.push(stages)?;

@@ -1,5 +1,8 @@
 mod Numbering
 pub mod Places
+mod Busy
+mod Found
 mod Successors
-mod Moments
+mod Near
+mod MomentLemmas
 mod LoopLemmas

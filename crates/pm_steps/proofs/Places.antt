@@ -25,12 +25,12 @@ pub record IsSized (plan : Plan) (w : World) : Type 0 where
   pub entries : HasEntries plan w.views
   pub places : HasPlaces plan w
 
-in_left : {A : Type 0} (xs ys : List A) (i : ℕ) (x : A) → slice_get xs i ≡ Some x → slice_get (xs ++ ys) i ≡ Some x
+pub in_left : {A : Type 0} (xs ys : List A) (i : ℕ) (x : A) → slice_get xs i ≡ Some x → slice_get (xs ++ ys) i ≡ Some x
 in_left [] ys i x is = cc is
 in_left (y ∷ xs) ys zero x is = is
 in_left (y ∷ xs) ys (suc i) x is = in_left xs ys i x is
 
-in_right : {A : Type 0} (xs ys : List A) (x : A) → IsIn ys x → IsIn (xs ++ ys) x
+pub in_right : {A : Type 0} (xs ys : List A) (x : A) → IsIn ys x → IsIn (xs ++ ys) x
 in_right [] ys x is = is
 in_right (y ∷ xs) ys x is = let rest = in_right xs ys x is in (suc rest.0, rest.1)
 
@@ -42,18 +42,18 @@ numbered n (x ∷ xs) (suc i) lt =
     let e : n + 1 + i ≡ n + suc i = omega arith in
     (rest.0, rest.1 ∙ ap (λ k. Some (k, rest.0)) e)
 
-each : {A B : Type 0} (f : ℕ → B) (xs : List A) (i : ℕ) → i < length xs → IsIn (map (λ p. f p.0) (enumerate_from 0 xs)) (f i)
+pub each : {A B : Type 0} (f : ℕ → B) (xs : List A) (i : ℕ) → i < length xs → IsIn (map (λ p. f p.0) (enumerate_from 0 xs)) (f i)
 each f xs i lt =
     let at = numbered 0 xs i lt in
     let e : 0 + i ≡ i = omega arith in
     (i, slice_get-map (λ p. f p.0) (enumerate_from 0 xs) i ∙ ap (option_map (λ p. f p.0)) at.1 ∙ ap (λ k. Some (f k)) e)
 
-past : {A : Type 0} (xs : List A) (i : ℕ) (d : A) → length xs ≤ i → slice_index_or xs i d ≡ d
+pub past : {A : Type 0} (xs : List A) (i : ℕ) (d : A) → length xs ≤ i → slice_index_or xs i d ≡ d
 past [] i d le = refl
 past (x ∷ xs) zero d le = absurd (omega (arith, le))
 past (x ∷ xs) (suc i) d le = past xs i d (omega (arith, le))
 
-within : {A : Type 0} (xs : List A) (i : ℕ) → (length xs ≤ i → ⊥) → i < length xs
+pub within : {A : Type 0} (xs : List A) (i : ℕ) → (length xs ≤ i → ⊥) → i < length xs
 within xs i not = elim (slice_get_cases xs i).1 [ inl there ↦ there.1 | inr gone ↦ absurd (not gone.0) ]
 
 resting : (o : Option Stage) (l : List Stage) (s : Stage) → o ≡ None → l ≡ [] → top o l ≡ Some s → ⊥
@@ -103,3 +103,10 @@ in_plan plan w (Work d) s has is =
     (here.0, in_left (callers_of plan ++ works_of plan) (timer_actors plan) here.0 (Work d) here.1)
 in_plan plan w (Timer d) s has is =
     in_right (callers_of plan ++ works_of plan) (timer_actors plan) (Timer d) (each Timer plan.devices d (timer_within plan w d s has is))
+
+-- each row has its number
+pub each_row : {A : Type 0} (xs : List A) (i : ℕ) → i < length xs → (j : ℕ) × (p : ℕ × A) × (slice_get (enumerate_from 0 xs) j ≡ Some p) × (p.0 ≡ i)
+each_row xs i lt =
+    let at = numbered 0 xs i lt in
+    let e : 0 + i ≡ i = omega arith in
+    (i, (0 + i, at.0), at.1, e)

@@ -1,2 +1,3 @@
-pub mod Successors
+pub mod Lines
+pub mod Moments
 pub mod Standing

@@ -1,12 +1,13 @@
-//! What may come next in an order of a plan's lines at a prompt pace: all of it, and nothing else (this project's own).
+//! What may come next in an order of a plan's lines at a pace: all of it, and nothing else (this project's own).
 #![tactic(auto)]
 
 mod laws;
+mod lines;
 mod listing;
-mod prompt;
+mod moments;
+mod moves;
 
-pub use laws::{
-    lines_are_by_one, prompt_lines_are_all, prompt_lines_follow, prompt_times_are_near,
-};
+pub use laws::{lines_are_all, lines_are_by_one, next_spots_are_all, times_are_near};
+pub use lines::next_lines;
 pub use listing::actors;
-pub use prompt::{Last, prompt_lines};
+pub use moves::Last;

@@ -4,3 +4,4 @@ mod WayLemmas
 mod FoundLemmas
 mod ListLemmas
 mod WitnessLemmas
+mod NextLemmas

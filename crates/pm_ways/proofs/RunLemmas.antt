@@ -16,10 +16,11 @@ use Rattle.pm_state.specs.Standing.{IsActor, IsOf, Standing, after_write}
 use Rattle.pm_book.specs.Offering.{line_by}
 use Rattle.pm_book.specs.Sometime.{MayCome, Writes}
 use Rattle.pm_book.proofs.Moves.{permits, stays_of, world_after}
+use Rattle.pm_orders.specs.declared.Pace.{Pace}
 use Rattle.pm_orders.specs.Orders.{last_actor, spot}
-use Rattle.pm_orders.specs.Spots.{Follows, MayFollow, Spot, after, code_of, prompt_time}
-use Rattle.pm_orders.specs.Spots.Pace.{Prompt}
-use Rattle.pm_steps.specs.declared.prompt.Last.{Last}
+use Rattle.pm_orders.specs.Spots.{Follows, IsTimely, MayFollow, Spot, after, code_of}
+use Rattle.pm_steps.specs.declared.moves.Last.{Last}
+use Rattle.pm_steps.specs.Lines.{IsMoment}
 use Rattle.pm_steps.proofs.Places.{IsSized, caller_within, timer_within, work_within}
 use Rattle.pm_ways.specs.declared.run.Run.{Run}
 use Rattle.pm_ways.specs.Runs.{IsRunOf, Took, spot_of_run}
@@ -91,10 +92,16 @@ sized plan r k entries places =
 pub writer_is : (plan : Plan) (r : Run) (line : Line) → (k : IsRunOf plan r) → HasEntries plan (world plan k.list).views → HasPlaces plan (world plan k.list) → MayFollow plan (spot_of_run r) line → IsActor plan line.actor
 writer_is plan r line k entries places may = in_range plan r.state.world line.actor may.stage (sized plan r k entries places) may.stands
 
--- the next line of a prompt pace is near
-pub near : (plan : Plan) (r : Run) (t : ℕ) → (k : IsRunOf plan r) → ((n : ℕ) → prompt_time plan (spot plan k.list) ≡ Some n → n ≤ last_time k.list + 1000000) → prompt_time plan (spot_of_run r) ≡ Some t → t ≤ r.last.time + 1000000
-near plan r t k most is =
-    let le = most t (ap (prompt_time plan) k.stands ∙ is) in
+-- the next moment of a pace is near, and so is the next line
+pub moment_near : (pace : Pace) (plan : Plan) (r : Run) (t : ℕ) → (k : IsRunOf plan r) → ((n : ℕ) → IsMoment pace plan (spot plan k.list) n → n ≤ last_time k.list + 1000000) → IsMoment pace plan (spot_of_run r) t → t ≤ r.last.time + 1000000
+moment_near pace plan r t k most is =
+    let le = most t (subst (λ s. IsMoment pace plan s t) (sym k.stands) is) in
+    let same = time_is plan r k in
+    omega (arith, le, same)
+
+pub near : (pace : Pace) (plan : Plan) (r : Run) (line : Line) → (k : IsRunOf plan r) → ((l : Line) → IsTimely pace plan (spot plan k.list) l → l.time ≤ last_time k.list + 1000000) → IsTimely pace plan (spot_of_run r) line → line.time ≤ r.last.time + 1000000
+near pace plan r line k most is =
+    let le = most line (subst (λ s. IsTimely pace plan s line) (sym k.stands) is) in
     let same = time_is plan r k in
     omega (arith, le, same)
 
@@ -102,21 +109,21 @@ some_is : {A : Type 0} (x y : A) → Some x ≡ Some y → x ≡ y
 some_is x y is = cc is
 
 -- a node that follows: who wrote its line, and when
-pub actor_is : (plan : Plan) (b : Bool) (from to : Spot) (actor : ActorId) → (f : Follows Prompt plan b from to) → to.last ≡ Some actor → f.line.actor ≡ actor
-actor_is plan b from to actor f is = some_is f.line.actor actor (sym (ap (λ (s : Spot). s.last) f.leads) ∙ is)
+pub actor_is : (pace : Pace) (plan : Plan) (b : Bool) (from to : Spot) (actor : ActorId) → (f : Follows pace plan b from to) → to.last ≡ Some actor → f.line.actor ≡ actor
+actor_is pace plan b from to actor f is = some_is f.line.actor actor (sym (ap (λ (s : Spot). s.last) f.leads) ∙ is)
 
-pub at_is : (plan : Plan) (b : Bool) (from to : Spot) → (f : Follows Prompt plan b from to) → f.line.time ≡ to.time
-at_is plan b from to f = sym (ap (λ (s : Spot). s.time) f.leads)
+pub at_is : (pace : Pace) (plan : Plan) (b : Bool) (from to : Spot) → (f : Follows pace plan b from to) → f.line.time ≡ to.time
+at_is pace plan b from to f = sym (ap (λ (s : Spot). s.time) f.leads)
 
-pub some_last : (plan : Plan) (b : Bool) (from to : Spot) → Follows Prompt plan b from to → to.last ≡ None → ⊥
-some_last plan b from to f none = let gone : Some f.line.actor ≡ None = sym (ap (λ (s : Spot). s.last) f.leads) ∙ none in cc gone
+pub some_last : (pace : Pace) (plan : Plan) (b : Bool) (from to : Spot) → Follows pace plan b from to → to.last ≡ None → ⊥
+some_last pace plan b from to f none = let gone : Some f.line.actor ≡ None = sym (ap (λ (s : Spot). s.last) f.leads) ∙ none in cc gone
 
 -- the line that was taken leads there
-pub led_to : (plan : Plan) (b : Bool) (old new : Run) (actor : ActorId) (time : ℕ) (to : Spot) → (f : Follows Prompt plan b (spot_of_run old) to) → (t : Took plan old new actor time)
+pub led_to : (pace : Pace) (plan : Plan) (b : Bool) (old new : Run) (actor : ActorId) (time : ℕ) (to : Spot) → (f : Follows pace plan b (spot_of_run old) to) → (t : Took plan old new actor time)
     → f.line.actor ≡ actor → f.line.time ≡ time
     → ((one other : Line) → MayFollow plan (spot_of_run old) one → MayFollow plan (spot_of_run old) other → one.actor ≡ other.actor → one.time ≡ other.time → one ≡ other)
     → spot_of_run new ≡ to
-led_to plan b old new actor time to f t by at one =
+led_to pace plan b old new actor time to f t by at one =
     t.leads ∙ ap (after plan (spot_of_run old)) (one t.line f.line t.may f.may (t.by ∙ sym by) (t.at ∙ sym at)) ∙ sym f.leads
 
 -- the laws of all lawful lists that are used
@@ -126,8 +133,8 @@ HaveEntries plan = (h : History) → IsLawful plan h → HasEntries plan (world 
 abbrev pub HavePlaces : Plan → Type 0
 HavePlaces plan = (h : History) → IsLawful plan h → HasPlaces plan (world plan h)
 
-abbrev pub AreNear : Plan → Type 0
-AreNear plan = (h : History) (t : ℕ) → IsLawful plan h → prompt_time plan (spot plan h) ≡ Some t → t ≤ last_time h + 1000000
+abbrev pub AreNear : Pace → Plan → Type 0
+AreNear pace plan = (h : History) (line : Line) → IsLawful plan h → IsTimely pace plan (spot plan h) line → line.time ≤ last_time h + 1000000
 
 -- an actor may write at a time that is near
 pub record CanStep (plan : Plan) (r : Run) (actor : ActorId) (time : ℕ) : Type 0 where
@@ -138,23 +145,23 @@ pub record CanStep (plan : Plan) (r : Run) (actor : ActorId) (time : ℕ) : Type
   pub at : line.time ≡ time
   pub may : MayFollow plan (spot_of_run r) line
 
-pub can_by : (plan : Plan) (r : Run) (line : Line) → IsRunOf plan r → HaveEntries plan → HavePlaces plan → AreNear plan → MayFollow plan (spot_of_run r) line → prompt_time plan (spot_of_run r) ≡ Some line.time
+pub can_by : (pace : Pace) (plan : Plan) (r : Run) (line : Line) → IsRunOf plan r → HaveEntries plan → HavePlaces plan → AreNear pace plan → MayFollow plan (spot_of_run r) line → IsTimely pace plan (spot_of_run r) line
     → CanStep plan r line.actor line.time
-can_by plan r line k entries places most may timely = record {
+can_by pace plan r line k entries places most may timely = record {
   in_range = writer_is plan r line k (entries k.list k.lawful) (places k.list k.lawful) may;
-  near = near plan r line.time k (λ n. most k.list n k.lawful) timely;
+  near = near pace plan r line k (λ l. most k.list l k.lawful) timely;
   line = line;
   by = refl;
   at = refl;
   may = may;
 }
 
-pub can_to : (plan : Plan) (r : Run) (b : Bool) (to : Spot) (actor : ActorId) → IsRunOf plan r → HaveEntries plan → HavePlaces plan → AreNear plan → Follows Prompt plan b (spot_of_run r) to → to.last ≡ Some actor
+pub can_to : (pace : Pace) (plan : Plan) (r : Run) (b : Bool) (to : Spot) (actor : ActorId) → IsRunOf plan r → HaveEntries plan → HavePlaces plan → AreNear pace plan → Follows pace plan b (spot_of_run r) to → to.last ≡ Some actor
     → CanStep plan r actor to.time
-can_to plan r b to actor k entries places most f is =
-    let by = actor_is plan b (spot_of_run r) to actor f is in
-    let at = at_is plan b (spot_of_run r) to f in
-    subst (λ t. CanStep plan r actor t) at (subst (λ a. CanStep plan r a f.line.time) by (can_by plan r f.line k entries places most f.may f.timely))
+can_to pace plan r b to actor k entries places most f is =
+    let by = actor_is pace plan b (spot_of_run r) to actor f is in
+    let at = at_is pace plan b (spot_of_run r) to f in
+    subst (λ t. CanStep plan r actor t) at (subst (λ a. CanStep plan r a f.line.time) by (can_by pace plan r f.line k entries places most f.may f.timely))
 
 -- so it does
 pub takes : (taken : Bool) (plan : Plan) (r : Run) (actor : ActorId) (time : ℕ) → CanStep plan r actor time
@@ -170,10 +177,10 @@ last_in_range plan r k entries places = subst (λ (o : Option ActorId). IfSome o
     go [] lawful = tt
     go (line ∷ h) lawful = in_range plan (world plan h) line.actor lawful.0.stage (record { entries = entries h lawful.2; places = places h lawful.2 }) lawful.0.stands
 
--- times of a prompt pace are early
-pub in_time : (plan : Plan) (r : Run) (t : ℕ) → (k : IsRunOf plan r) → AreNear plan → length k.list ≤ 200000 → prompt_time plan (spot_of_run r) ≡ Some t → t < 2 ^ 63
-in_time plan r t k most few is =
-    let le = near plan r t k (λ n. most k.list n k.lawful) is in
+-- the moments of a pace are early
+pub in_time : (pace : Pace) (plan : Plan) (r : Run) (t : ℕ) → (k : IsRunOf plan r) → ((h : History) (n : ℕ) → IsLawful plan h → IsMoment pace plan (spot plan h) n → n ≤ last_time h + 1000000) → length k.list ≤ 200000 → IsMoment pace plan (spot_of_run r) t → t < 2 ^ 63
+in_time pace plan r t k most few is =
+    let le = moment_near pace plan r t k (λ n. most k.list n k.lawful) is in
     let end = early r.last.time r.lines k.early (let same = k.lines in omega (arith, few, same)) in
     omega (arith, le, end)
 

@@ -3,22 +3,22 @@ use Rattle.std.specs.Prelude.{ℕ, ◌≡◌, ◌<◌, ◌≤◌, List, Some, le
 use Rattle.pm_model.specs.declared.event.Line.{Line}
 use Rattle.pm_model.specs.declared.plan.Plan.{Plan}
 use Rattle.pm_model.specs.History.{History}
+use Rattle.pm_orders.specs.declared.Pace.{Pace}
 use Rattle.pm_orders.specs.Orders.{IsOrder, disturbances, spot}
-use Rattle.pm_orders.specs.Spots.{MayFollow, Spot, prompt_time}
-use Rattle.pm_orders.specs.Spots.Pace.{Prompt}
+use Rattle.pm_orders.specs.Spots.{IsTimely, MayFollow, Spot}
 use Rattle.pm_search.specs.Exact.{IsAmong}
 use Rattle.pm_search.specs.Trees.{IsWay}
 
 -- the first so many spots are exactly those at which the orders stand of whose lines at most k disturb
-pub record AreOfOrders (plan : Plan) (k : ℕ) (spots : List Spot) (bound : ℕ) : Type 0 where
+pub record AreOfOrders (pace : Pace) (plan : Plan) (k : ℕ) (spots : List Spot) (bound : ℕ) : Type 0 where
   pub within : bound ≤ length spots
-  pub sound : (i : ℕ) (s : Spot) → i < bound → slice_get spots i ≡ Some s → (h : History) × IsOrder Prompt plan h × (disturbances plan h ≤ k) × (spot plan h ≡ s)
-  pub complete : (h : History) → IsOrder Prompt plan h → disturbances plan h ≤ k → IsAmong spots bound (spot plan h)
+  pub sound : (i : ℕ) (s : Spot) → i < bound → slice_get spots i ≡ Some s → (h : History) × IsOrder pace plan h × (disturbances plan h ≤ k) × (spot plan h ≡ s)
+  pub complete : (h : History) → IsOrder pace plan h → disturbances plan h ≤ k → IsAmong spots bound (spot plan h)
 
 -- the spots are exactly those at which the orders stand
-pub record AreOfAllOrders (plan : Plan) (spots : List Spot) : Type 0 where
-  pub sound : (i : ℕ) (s : Spot) → slice_get spots i ≡ Some s → (h : History) × IsOrder Prompt plan h × (spot plan h ≡ s)
-  pub complete : (h : History) → IsOrder Prompt plan h → IsAmong spots (length spots) (spot plan h)
+pub record AreOfAllOrders (pace : Pace) (plan : Plan) (spots : List Spot) : Type 0 where
+  pub sound : (i : ℕ) (s : Spot) → slice_get spots i ≡ Some s → (h : History) × IsOrder pace plan h × (spot plan h ≡ s)
+  pub complete : (h : History) → IsOrder pace plan h → IsAmong spots (length spots) (spot plan h)
 
 -- the way back from a place has as many lines as the plan allows, or more
 pub record IsTooFar (plan : Plan) (parents : List ℕ) (at : ℕ) : Type 0 where
@@ -26,7 +26,7 @@ pub record IsTooFar (plan : Plan) (parents : List ℕ) (at : ℕ) : Type 0 where
   pub leads : IsWay parents at way
   pub far : plan.lines < length way
 
--- the line may come next there, at the moment of a prompt pace
-pub record IsPrompt (plan : Plan) (s : Spot) (line : Line) : Type 0 where
+-- the line may come next there, when the pace lets it
+pub record MayComeNext (pace : Pace) (plan : Plan) (s : Spot) (line : Line) : Type 0 where
   pub may : MayFollow plan s line
-  pub timely : prompt_time plan s ≡ Some line.time
+  pub timely : IsTimely pace plan s line

@@ -1,13 +1,13 @@
 -- What a run is of which no lines are kept, and what one line makes of it (this project's own).
-use Rattle.std.specs.Prelude.{ℕ, ◌≡◌, ◌≤◌, ◌+◌, ◌*◌, List, Some, length, reverse, slice_get}
+use Rattle.std.specs.Prelude.{ℕ, ◌≡◌, ◌<◌, ◌≤◌, ◌+◌, ◌*◌, List, Some, length, reverse, slice_get}
 use Rattle.pm_base.specs.declared.ActorId.{ActorId}
 use Rattle.pm_model.specs.declared.event.Line.{Line}
 use Rattle.pm_model.specs.declared.plan.Plan.{Plan}
 use Rattle.pm_model.specs.History.{History}
 use Rattle.pm_model.specs.Lawful.{IsLawful}
+use Rattle.pm_orders.specs.declared.Pace.{Pace}
 use Rattle.pm_orders.specs.Orders.{IsOrder, disturbances, spot}
-use Rattle.pm_orders.specs.Spots.{Follows, MayFollow, Spot, after, prompt_time}
-use Rattle.pm_orders.specs.Spots.Pace.{Prompt}
+use Rattle.pm_orders.specs.Spots.{Follows, IsTimely, MayFollow, Spot, after}
 use Rattle.pm_search.specs.Trees.{IsLedWithin}
 use Rattle.pm_state.specs.Standing.{IsOf}
 use Rattle.pm_steps.specs.Standing.{spot_at}
@@ -26,6 +26,12 @@ pub record IsRunOf (plan : Plan) (r : Run) : Type 0 where
   pub is_of : IsOf plan r.state
   pub early : r.last.time ≤ 1000000 * r.lines
 
+-- it stands at the spot of a place, and has room for a line
+pub record IsRunAt (plan : Plan) (spots : List Spot) (at : ℕ) (r : Run) : Type 0 where
+  pub run : IsRunOf plan r
+  pub here : slice_get spots at ≡ Some (spot_of_run r)
+  pub room : r.lines < plan.lines
+
 -- from one to the other by the line of this actor at this time
 pub record Took (plan : Plan) (old new : Run) (actor : ActorId) (time : ℕ) : Type 0 where
   pub line : Line
@@ -37,23 +43,23 @@ pub record Took (plan : Plan) (old new : Run) (actor : ActorId) (time : ℕ) : T
   pub lines : new.lines ≡ old.lines + 1
 
 -- by the line, which the pace lets come, from one spot to the other
-pub record LeadsTo (plan : Plan) (from to : Spot) (line : Line) : Type 0 where
+pub record LeadsTo (pace : Pace) (plan : Plan) (from to : Spot) (line : Line) : Type 0 where
   pub may : MayFollow plan from line
-  pub timely : prompt_time plan from ≡ Some line.time
+  pub timely : IsTimely pace plan from line
   pub leads : to ≡ after plan from line
 
 -- the lines are an order that stands where the run does
-pub record AreLinesOf (plan : Plan) (r : Run) (lines : List Line) : Type 0 where
-  pub order : IsOrder Prompt plan (reverse lines)
+pub record AreLinesOf (pace : Pace) (plan : Plan) (r : Run) (lines : List Line) : Type 0 where
+  pub order : IsOrder pace plan (reverse lines)
   pub stands : spot plan (reverse lines) ≡ spot_of_run r
   pub many : length lines ≡ r.lines
 
 -- the lines are a lawful order, which stands at a spot
-pub record IsOrderTo (plan : Plan) (spots : List Spot) (at : ℕ) (lines : List Line) : Type 0 where
-  pub order : IsOrder Prompt plan (reverse lines)
+pub record IsOrderTo (pace : Pace) (plan : Plan) (spots : List Spot) (at : ℕ) (lines : List Line) : Type 0 where
+  pub order : IsOrder pace plan (reverse lines)
   pub lawful : IsLawful plan (reverse lines)
   pub stands : slice_get spots at ≡ Some (spot plan (reverse lines))
 
 -- no more of the lines disturb than the parents lead to the place by
-abbrev pub IsAsLed : Plan → List Spot → List ℕ → ℕ → List Line → Type 0
-IsAsLed plan spots parents at lines = (k : ℕ) → IsLedWithin (Follows Prompt plan) spots parents k at → disturbances plan (reverse lines) ≤ k
+abbrev pub IsAsLed : Pace → Plan → List Spot → List ℕ → ℕ → List Line → Type 0
+IsAsLed pace plan spots parents at lines = (k : ℕ) → IsLedWithin (Follows pace plan) spots parents k at → disturbances plan (reverse lines) ≤ k

@@ -2,7 +2,6 @@
 
 ghost use Rattle.std.specs.Prelude.{◌≡◌, map};
 ghost use Rattle.pm_orders.specs.Spots.{Follows, all_actors, start_spot};
-ghost use Rattle.pm_orders.specs.Spots.Pace.{Prompt};
 ghost use Rattle.pm_orders.specs.Spots.{Spot as Where};
 ghost use Rattle.pm_spot.specs.SpotOf.{spot_of};
 ghost use Rattle.pm_ways.specs.Found.{IsTooFar};
@@ -10,20 +9,22 @@ ghost use Rattle.pm_ways.specs.Found.{IsTooFar};
 use crate::next::next_spots;
 use pm_base::{ActorId, NoMemory};
 use pm_model::Plan;
+use pm_orders::Pace;
 use pm_search::{Graph, Stop, Tree, way_back};
 use pm_spot::Spot;
 use std::alloc::Global;
 
-/// The spots of a plan, each followed by those to which the lines of a prompt pace lead.
+/// The spots of a plan, each followed by those to which the lines of a pace lead.
 #[derive(Drop)]
-pub struct PromptGraph<'a> {
+pub struct PaceGraph<'a> {
     pub plan: &'a Plan,
+    pub pace: Pace,
     /// All actors of the plan.
     pub actors: &'a [ActorId],
     ghost all: { actors.now ≡ all_actors plan.now },
 }
 
-impl Graph<Spot> for PromptGraph<'_> {
+impl Graph<Spot> for PaceGraph<'_> {
     ghost use Rattle.pm_spot.proofs.SpotAlike.{same_if};
 
     ghost Point = { Where };
@@ -32,7 +33,7 @@ impl Graph<Spot> for PromptGraph<'_> {
 
     ghost start = { λ g. start_spot g.plan.now };
 
-    ghost Follows = { λ g. Follows Prompt g.plan.now };
+    ghost Follows = { λ g. Follows g.pace g.plan.now };
 
     ghost IsTooFar = { λ g points parents at. IsTooFar g.plan.now parents at };
 
@@ -50,6 +51,7 @@ impl Graph<Spot> for PromptGraph<'_> {
         match next_spots(
             alloc,
             self.plan,
+            self.pace,
             self.actors,
             tree,
             at,

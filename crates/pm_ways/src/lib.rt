@@ -1,5 +1,5 @@
-//! The orders of a plan's lines at a prompt pace, searched through: where they stand by which number of disturbances
-//! (this project's own).
+//! The orders of a plan's lines at a pace, searched through: where they stand by which number of disturbances (this
+//! project's own).
 #![tactic(auto)]
 
 mod graph;
@@ -9,5 +9,5 @@ mod run;
 mod searching;
 mod witness;
 
-pub use searching::prompt_orders;
+pub use searching::all_orders;
 pub use witness::order_to;

@@ -2,7 +2,6 @@
 
 ghost use Rattle.std.specs.Prelude.{◌≡◌, ◌<◌, ◌≤◌, ◌+◌, Bool, IfOk, IfSome, None, length, map};
 ghost use Rattle.pm_orders.specs.Spots.{Follows, start_spot};
-ghost use Rattle.pm_orders.specs.Spots.Pace.{Prompt};
 ghost use Rattle.pm_search.specs.Trees.{IsTree, IsWay};
 ghost use Rattle.pm_spot.specs.SpotOf.{spot_of};
 ghost use Rattle.pm_ways.specs.Found.{IsTooFar};
@@ -13,24 +12,24 @@ use crate::run::Run;
 use pm_base::NoMemory;
 use pm_law_counts::sizes;
 use pm_model::{Line, Plan};
-use pm_orders::orders_are_lawful;
+use pm_orders::{Pace, orders_are_lawful};
 use pm_search::{Tree, way_back};
 use pm_spot::Spot;
-use pm_steps::{lines_are_by_one, prompt_times_are_near};
+use pm_steps::{lines_are_by_one, times_are_near};
 use std::alloc::Global;
 
 // Goes on from one node to one that follows it; the line that leads there.
-fn follow_by(run: &mut Run, plan: &Plan, node: &Spot) -> Line
+fn follow_by(run: &mut Run, plan: &Plan, pace: Pace, node: &Spot) -> Line
     requires run { IsRunOf plan.now run.old }
     requires room { run.old.lines < plan.now.lines }
-    requires follows { (spends : Bool) × Follows Prompt plan.now spends (spot_of_run run.old) (spot_of node.now) }
+    requires follows { (spends : Bool) × Follows pace plan.now spends (spot_of_run run.old) (spot_of node.now) }
     ensures run { IsRunOf plan.now run.new }
     ensures spot { spot_of_run run.new ≡ spot_of node.now }
     ensures lines { run.new.lines ≡ run.old.lines + 1 }
-    ensures line { LeadsTo plan.now (spot_of_run run.old) (spot_of_run run.new) result }
+    ensures line { LeadsTo pace plan.now (spot_of_run run.old) (spot_of_run run.new) result }
 {
     sizes();
-    prompt_times_are_near();
+    times_are_near();
     lines_are_by_one();
     let Some(actor) = node.last else {
         unreachable!();
@@ -38,7 +37,7 @@ fn follow_by(run: &mut Run, plan: &Plan, node: &Spot) -> Line
     let Some(line) = run.line(plan, actor, node.time) else {
         unreachable!();
     };
-    follow(run, plan, node);
+    follow(run, plan, pace, node);
     line
 }
 
@@ -46,16 +45,17 @@ fn follow_by(run: &mut Run, plan: &Plan, node: &Spot) -> Line
 fn lines_to(
     alloc: Global,
     plan: &Plan,
+    pace: Pace,
     tree: &Tree<Spot>,
     at: usize,
     way: &[usize],
 ) -> Result<Vec<Line>, NoMemory>
     requires within { at < length tree.now.nodes.keys }
-    requires tree { IsTree (Follows Prompt plan.now) (start_spot plan.now) (map spot_of tree.now.nodes.keys) tree.now.parents.items }
+    requires tree { IsTree (Follows pace plan.now) (start_spot plan.now) (map spot_of tree.now.nodes.keys) tree.now.parents.items }
     requires way { IsWay tree.now.parents.items at way.now }
     requires room { length way.now ≤ plan.now.lines + 1 }
-    ensures order { IfOk result (λ lines. IsOrderTo plan.now (map spot_of tree.now.nodes.keys) at lines.items) }
-    ensures few { IfOk result (λ lines. IsAsLed plan.now (map spot_of tree.now.nodes.keys) tree.now.parents.items at lines.items) }
+    ensures order { IfOk result (λ lines. IsOrderTo pace plan.now (map spot_of tree.now.nodes.keys) at lines.items) }
+    ensures few { IfOk result (λ lines. IsAsLed pace plan.now (map spot_of tree.now.nodes.keys) tree.now.parents.items at lines.items) }
 {
     lines_are_by_one();
     orders_are_lawful();
@@ -67,7 +67,7 @@ fn lines_to(
         let Some(node) = tree.nodes.get_index(way[left]) else {
             unreachable!();
         };
-        let line = follow_by(&mut run, plan, node);
+        let line = follow_by(&mut run, plan, pace, node);
         lines.push(line)?;
     }
     Ok(lines)
@@ -78,19 +78,20 @@ fn lines_to(
 pub fn order_to(
     alloc: Global,
     plan: &Plan,
+    pace: Pace,
     tree: &Tree<Spot>,
     at: usize,
 ) -> Result<Option<Vec<Line>>, NoMemory>
     requires within { at < length tree.now.nodes.keys }
-    requires tree { IsTree (Follows Prompt plan.now) (start_spot plan.now) (map spot_of tree.now.nodes.keys) tree.now.parents.items }
-    ensures order { IfOk result (λ found. IfSome found (λ lines. IsOrderTo plan.now (map spot_of tree.now.nodes.keys) at lines.items)) }
-    ensures few { IfOk result (λ found. IfSome found (λ lines. IsAsLed plan.now (map spot_of tree.now.nodes.keys) tree.now.parents.items at lines.items)) }
+    requires tree { IsTree (Follows pace plan.now) (start_spot plan.now) (map spot_of tree.now.nodes.keys) tree.now.parents.items }
+    ensures order { IfOk result (λ found. IfSome found (λ lines. IsOrderTo pace plan.now (map spot_of tree.now.nodes.keys) at lines.items)) }
+    ensures few { IfOk result (λ found. IfSome found (λ lines. IsAsLed pace plan.now (map spot_of tree.now.nodes.keys) tree.now.parents.items at lines.items)) }
     ensures far { IfOk result (λ found. found ≡ None → IsTooFar plan.now tree.now.parents.items at) }
 {
     let way = way_back(alloc, tree.parents.as_slice(), at)?;
     if way.len() > plan.lines as usize + 1 {
         return Ok(None);
     }
-    let lines = lines_to(alloc, plan, tree, at, way.as_slice())?;
+    let lines = lines_to(alloc, plan, pace, tree, at, way.as_slice())?;
     Ok(Some(lines))
 }

@@ -13,7 +13,7 @@ returns-clause-rounds c =
     let firsts = c.in_ok-firsts.firsts.entries.entries in
     let before = subst (λ n. AreFirstsBefore c.args.plan.now (map spot_of keys) n firsts) (sym (length-map keys spot_of)) c.in_ok-firsts.ensures in
     let listed = subst (λ r. AreListed firsts r c.is_whole.result c.in_ok-marks.marks.items) c.as_slice.ensures.value c.in_ok-marks.ensures in
-    exact_within c.args.plan.now (map spot_of keys) c.in_ok-found.found.rounds.items c.is_whole.result firsts c.in_ok-marks.marks.items before listed c.in_ok-found.ensures.rounds
+    exact_within c.args.plan.now (map spot_of keys) c.in_ok-found.found.rounds.items c.is_whole.result firsts c.in_ok-marks.marks.items before listed c.args.pace c.in_ok-found.ensures.rounds
 
 pub returns-clause-whole : goal.returns-clause-whole
 returns-clause-whole c = λ is.
@@ -21,7 +21,7 @@ returns-clause-whole c = λ is.
     let firsts = c.in_ok-firsts.firsts.entries.entries in
     let before = subst (λ n. AreFirstsBefore c.args.plan.now (map spot_of keys) n firsts) (sym (length-map keys spot_of)) c.in_ok-firsts.ensures in
     let listed = subst (λ r. AreListed firsts r c.is_whole.result c.in_ok-marks.marks.items) c.as_slice.ensures.value c.in_ok-marks.ensures in
-    exact c.args.plan.now (map spot_of keys) c.in_ok-found.found.rounds.items c.is_whole.result firsts c.in_ok-marks.marks.items before listed (c.is_whole.ensures.whole is) (c.in_ok-found.ensures.whole is)
+    exact c.args.plan.now (map spot_of keys) c.in_ok-found.found.rounds.items c.is_whole.result firsts c.in_ok-marks.marks.items before listed c.args.pace (c.is_whole.ensures.whole is) (c.in_ok-found.ensures.whole is)
 
 pub returns-clause-shown : goal.returns-clause-shown
 returns-clause-shown c =

@@ -26,5 +26,5 @@ returns c =
     let marks = c.args.all.now.marks.items in
     let o = c.index-outcome.result.now in
     let there : slice_get marks c.args.index ≡ Some o = slice_get-get_or marks c.args.index o c.requires.within ∙ ap Some (sym c.index-outcome.ensures) in
-    by_both (λ v. IsOrderTo plan spots o.place v.items) (λ v. IsAsLed plan spots parents o.place v.items) (λ v. (p : Outcome) → slice_get marks c.args.index ≡ Some p → IsWitness plan rounds p v.items) c.order_to.result c.order_to.ensures.order
-    c.order_to.ensures.few (λ v to few. λ p at. subst (λ x. IsWitness plan rounds x v.items) (some_is o p (sym there ∙ at)) (is_witness plan spots parents rounds marks c.args.index o v.items c.requires.shown c.requires.led there to few))
+    by_both (λ v. IsOrderTo c.args.pace plan spots o.place v.items) (λ v. IsAsLed c.args.pace plan spots parents o.place v.items) (λ v. (p : Outcome) → slice_get marks c.args.index ≡ Some p → IsWitness c.args.pace plan rounds p v.items) c.order_to.result c.order_to.ensures.order
+    c.order_to.ensures.few (λ v to few. λ p at. subst (λ x. IsWitness c.args.pace plan rounds x v.items) (some_is o p (sym there ∙ at)) (is_witness c.args.pace plan spots parents rounds marks c.args.index o v.items c.requires.shown c.requires.led there to few))

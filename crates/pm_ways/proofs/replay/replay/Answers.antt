@@ -2,7 +2,6 @@
 use Rattle.std.proofs.Common.{map, ◌∙◌, ap, Some, arith, sym}
 use Rattle.std.proofs.lemmas.List.{length-map}
 use Rattle.pm_orders.specs.Spots.{Follows, start_spot}
-use Rattle.pm_orders.specs.Spots.Pace.{Prompt}
 use Rattle.pm_spot.specs.SpotOf.{spot_of}
 use Rattle.pm_ways.specs.Runs.{spot_of_run}
 use Rattle.pm_ways.proofs.WayLemmas.{arrives, is_found, node_is, place_within, starts, step_to, way_some}
@@ -23,7 +22,7 @@ loop-left-init c =
     record {
       within = omega (arith, some);
       run = c.in_ok-run.ensures.run;
-      here = starts (Follows Prompt plan) (start_spot plan) (map spot_of keys) parents c.args.at way (spot_of_run c.in_ok-run.run') c.requires.tree c.requires.way (omega (arith, inside, length-map keys spot_of)) c.in_ok-run.ensures.spot;
+      here = starts (Follows c.args.pace plan) (start_spot plan) (map spot_of keys) parents c.args.at way (spot_of_run c.in_ok-run.run') c.requires.tree c.requires.way (omega (arith, inside, length-map keys spot_of)) c.in_ok-run.ensures.spot;
       lines = omega (arith, some, none);
     }
 
@@ -46,17 +45,17 @@ follow-requires-clause-follows c =
     let plan = c.args.plan.now in
     let keys = c.args.tree.now.nodes.keys in
     let i = c.loop-left.invariant in
-    step_to (Follows Prompt plan) (start_spot plan) (map spot_of keys) c.args.tree.now.parents.items c.args.at c.args.way.now c.loop-left.left (spot_of_run c.loop-left.run) (spot_of c.in-Some.node.now) c.requires.tree c.requires.way c.loop-left-test.true i.within
+    step_to (Follows c.args.pace plan) (start_spot plan) (map spot_of keys) c.args.tree.now.parents.items c.args.at c.args.way.now c.loop-left.left (spot_of_run c.loop-left.run) (spot_of c.in-Some.node.now) c.requires.tree c.requires.way c.loop-left-test.true i.within
     i.here (node_is spot_of keys _ c.in-Some.node.now c.in-Some.ensures.key)
 
 pub unreachable-requires : goal.unreachable-requires
 unreachable-requires c =
     let plan = c.args.plan.now in
     let keys = c.args.tree.now.nodes.keys in
-    let inside = place_within (Follows Prompt plan) (start_spot plan) (map spot_of keys) c.args.tree.now.parents.items c.args.at c.args.way.now c.loop-left.left c.requires.tree c.requires.way c.loop-left-test.true c.loop-left.invariant.within in
+    let inside = place_within (Follows c.args.pace plan) (start_spot plan) (map spot_of keys) c.args.tree.now.parents.items c.args.at c.args.way.now c.loop-left.left c.requires.tree c.requires.way c.loop-left-test.true c.loop-left.invariant.within in
     is_found keys _ (omega (arith, inside, length-map keys spot_of)) c.in_default.ensures.key
 
 pub returns-clause-spot : goal.returns-clause-spot
 returns-clause-spot c =
     let plan = c.args.plan.now in
-    arrives (Follows Prompt plan) (start_spot plan) (map spot_of c.args.tree.now.nodes.keys) c.args.tree.now.parents.items c.args.at c.args.way.now c.loop-left.left (spot_of_run c.loop-left.run) c.requires.way c.loop-left-test.false c.loop-left.invariant.here
+    arrives (Follows c.args.pace plan) (start_spot plan) (map spot_of c.args.tree.now.nodes.keys) c.args.tree.now.parents.items c.args.at c.args.way.now c.loop-left.left (spot_of_run c.loop-left.run) c.requires.way c.loop-left-test.false c.loop-left.invariant.here

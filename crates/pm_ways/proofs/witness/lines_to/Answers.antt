@@ -2,7 +2,6 @@
 use Rattle.std.proofs.Common.{◌≡◌, ◌-◌, map, ◌∙◌, ap, Some, arith, get_or, length, sym}
 use Rattle.std.proofs.lemmas.List.{length-map}
 use Rattle.pm_orders.specs.Spots.{Follows, start_spot}
-use Rattle.pm_orders.specs.Spots.Pace.{Prompt}
 use Rattle.pm_spot.specs.SpotOf.{spot_of}
 use Rattle.pm_ways.specs.Runs.{spot_of_run}
 use Rattle.pm_ways.proofs.WayLemmas.{arrives, is_found, link_of, node_is, place_within, starts, step_to, way_ends, way_first, way_some}
@@ -24,10 +23,10 @@ loop-left-init c =
     record {
       within = omega (arith, some);
       run = c.in_ok-run.ensures.run;
-      here = starts (Follows Prompt plan) (start_spot plan) (map spot_of keys) parents c.args.at way (spot_of_run c.in_ok-run.run') c.requires.tree c.requires.way (omega (arith, inside, length-map keys spot_of)) c.in_ok-run.ensures.spot;
+      here = starts (Follows c.args.pace plan) (start_spot plan) (map spot_of keys) parents c.args.at way (spot_of_run c.in_ok-run.run') c.requires.tree c.requires.way (omega (arith, inside, length-map keys spot_of)) c.in_ok-run.ensures.spot;
       count = omega (arith, some, none);
-      are = no_lines plan c.in_ok-run.run' c.new-lines.result.items c.new-lines.ensures.items c.in_ok-run.ensures.spot c.in_ok-run.ensures.lines;
-      spent = spent_first plan (map spot_of keys) parents (get_or way (length way - 1) 0) c.new-lines.result.items c.new-lines.ensures.items (way_ends parents c.args.at way c.requires.way);
+      are = no_lines c.args.pace plan c.in_ok-run.run' c.new-lines.result.items c.new-lines.ensures.items c.in_ok-run.ensures.spot c.in_ok-run.ensures.lines;
+      spent = spent_first c.args.pace plan (map spot_of keys) parents (get_or way (length way - 1) 0) c.new-lines.result.items c.new-lines.ensures.items (way_ends parents c.args.at way c.requires.way);
     }
 
 pub loop-left-preserved : goal.loop-left-preserved
@@ -47,10 +46,10 @@ loop-left-preserved c =
       run = c.follow_by-line.ensures.run;
       here = there;
       count = omega (arith, before, more, some);
-      are = one_more plan c.loop-left.run c.follow_by-line.new.run c.loop-left.lines.items c.push.new.self.items c.follow_by-line.result i.are c.follow_by-line.ensures.line more c.in_ok-push.ensures.items;
+      are = one_more c.args.pace plan c.loop-left.run c.follow_by-line.new.run c.loop-left.lines.items c.push.new.self.items c.follow_by-line.result i.are c.follow_by-line.ensures.line more c.in_ok-push.ensures.items;
       spent =
-          spent_more plan points parents (get_or way c.loop-left.left 0) (get_or way (c.loop-left.left - 1) 0) c.loop-left.run c.follow_by-line.new.run c.loop-left.lines.items c.push.new.self.items c.follow_by-line.result
-          (link_of (Follows Prompt plan) (start_spot plan) points parents c.args.at way c.loop-left.left c.requires.way some within) i.here there i.are c.follow_by-line.ensures.line (c.lines_are_by_one.ensures plan (spot_of_run c.loop-left.run)) c.in_ok-push.ensures.items
+          spent_more c.args.pace plan points parents (get_or way c.loop-left.left 0) (get_or way (c.loop-left.left - 1) 0) c.loop-left.run c.follow_by-line.new.run c.loop-left.lines.items c.push.new.self.items c.follow_by-line.result
+          (link_of (Follows c.args.pace plan) (start_spot plan) points parents c.args.at way c.loop-left.left c.requires.way some within) i.here there i.are c.follow_by-line.ensures.line (c.lines_are_by_one.ensures plan (spot_of_run c.loop-left.run)) c.in_ok-push.ensures.items
           i.spent;
     }
 
@@ -59,14 +58,14 @@ follow_by-line-requires-clause-follows c =
     let plan = c.args.plan.now in
     let keys = c.args.tree.now.nodes.keys in
     let i = c.loop-left.invariant in
-    step_to (Follows Prompt plan) (start_spot plan) (map spot_of keys) c.args.tree.now.parents.items c.args.at c.args.way.now c.loop-left.left (spot_of_run c.loop-left.run) (spot_of c.in-Some.node.now) c.requires.tree c.requires.way c.loop-left-test.true i.within
+    step_to (Follows c.args.pace plan) (start_spot plan) (map spot_of keys) c.args.tree.now.parents.items c.args.at c.args.way.now c.loop-left.left (spot_of_run c.loop-left.run) (spot_of c.in-Some.node.now) c.requires.tree c.requires.way c.loop-left-test.true i.within
     i.here (node_is spot_of keys _ c.in-Some.node.now c.in-Some.ensures.key)
 
 pub unreachable-requires : goal.unreachable-requires
 unreachable-requires c =
     let plan = c.args.plan.now in
     let keys = c.args.tree.now.nodes.keys in
-    let inside = place_within (Follows Prompt plan) (start_spot plan) (map spot_of keys) c.args.tree.now.parents.items c.args.at c.args.way.now c.loop-left.left c.requires.tree c.requires.way c.loop-left-test.true c.loop-left.invariant.within in
+    let inside = place_within (Follows c.args.pace plan) (start_spot plan) (map spot_of keys) c.args.tree.now.parents.items c.args.at c.args.way.now c.loop-left.left c.requires.tree c.requires.way c.loop-left-test.true c.loop-left.invariant.within in
     is_found keys _ (omega (arith, inside, length-map keys spot_of)) c.in_default.ensures.key
 
 pub returns-clause-order : goal.returns-clause-order
@@ -76,8 +75,8 @@ returns-clause-order c =
     let i = c.loop-left.invariant in
     let count = i.count in
     let room = c.requires.room in
-    let here = arrives (Follows Prompt plan) (start_spot plan) spots c.args.tree.now.parents.items c.args.at c.args.way.now c.loop-left.left (spot_of_run c.loop-left.run) c.requires.way c.loop-left-test.false i.here in
-    order_there plan spots c.args.at c.loop-left.run c.loop-left.lines.items (c.orders_are_lawful.ensures Prompt plan) i.are (omega (arith, count, room)) here
+    let here = arrives (Follows c.args.pace plan) (start_spot plan) spots c.args.tree.now.parents.items c.args.at c.args.way.now c.loop-left.left (spot_of_run c.loop-left.run) c.requires.way c.loop-left-test.false i.here in
+    order_there c.args.pace plan spots c.args.at c.loop-left.run c.loop-left.lines.items (c.orders_are_lawful.ensures c.args.pace plan) i.are (omega (arith, count, room)) here
 
 pub returns-clause-few : goal.returns-clause-few
 returns-clause-few c =
@@ -85,4 +84,4 @@ returns-clause-few c =
     let left = c.loop-left-test.false in
     let first : c.loop-left.left ≡ 0 = omega (arith, left) in
     let front : get_or way c.loop-left.left 0 ≡ c.args.at = ap (λ n. get_or way n 0) first ∙ way_first c.args.tree.now.parents.items c.args.at way c.requires.way in
-    few_spent c.args.plan.now (map spot_of c.args.tree.now.nodes.keys) c.args.tree.now.parents.items (get_or way c.loop-left.left 0) c.args.at c.loop-left.lines.items front c.loop-left.invariant.spent
+    few_spent c.args.pace c.args.plan.now (map spot_of c.args.tree.now.nodes.keys) c.args.tree.now.parents.items (get_or way c.loop-left.left 0) c.args.at c.loop-left.lines.items front c.loop-left.invariant.spent

@@ -10,8 +10,8 @@ invariant-loop-left l = record {
   run : IsRunOf l.plan l.run;
   here : slice_get (map spot_of l.tree.nodes.keys) (get_or l.way l.left 0) ≡ Some (spot_of_run l.run);
   count : l.run.lines + l.left + 1 ≡ length l.way;
-  are : AreLinesOf l.plan l.run l.lines.items;
-  spent : AreSpent l.plan (map spot_of l.tree.nodes.keys) l.tree.parents.items (get_or l.way l.left 0) l.lines.items;
+  are : AreLinesOf l.pace l.plan l.run l.lines.items;
+  spent : AreSpent l.pace l.plan (map spot_of l.tree.nodes.keys) l.tree.parents.items (get_or l.way l.left 0) l.lines.items;
 }
 
 abbrev pub decreases-loop-left : goal.decreases-loop-left

@@ -1,0 +1,14 @@
+mod Ignoring
+mod IgnoringFrames
+mod StatusFrames
+mod DomainFrames
+mod PickLemmas
+mod PresentFrames
+mod Breaking
+mod BrokenBy
+mod StandLemmas
+mod GroupLemmas
+mod PastLemmas
+mod ReplayLemmas
+mod ToldLemmas
+mod KeptLemmas

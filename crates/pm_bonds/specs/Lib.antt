@@ -1,0 +1,10 @@
+pub mod Bonds
+pub mod Excuses
+pub mod Past
+pub mod Told
+pub mod Broken
+pub mod Turning
+pub mod Looked
+pub mod Grouped
+pub mod Replayed
+pub mod Kept

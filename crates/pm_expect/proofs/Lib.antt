@@ -1,0 +1,4 @@
+pub mod SameLemmas
+pub mod RowLemmas
+pub mod ItemLemmas
+pub mod FewLemmas

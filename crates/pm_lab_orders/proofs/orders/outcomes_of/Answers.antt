@@ -1,0 +1,36 @@
+use Rattle.std.proofs.Common.{◌≤◌, map, refl, subst, sym}
+use Rattle.std.proofs.lemmas.List.{length-map}
+use Rattle.pm_outcomes.specs.Had.{AreExact, AreExactWithin}
+use Rattle.pm_spot.specs.SpotOf.{spot_of}
+use Rattle.pm_ways.specs.Found.{AreOfAllOrders, AreOfOrders}
+use Rattle.pm_lab_orders.proofs.orders.outcomes_of.Goals as goal
+
+pub returns : goal.returns
+returns c =
+    let all = c.in_ok-all.all in
+    let plan = c.args.plan.now in
+    let keys = all.found.tree.nodes.keys in
+    let pace = c.pace_of.ensures in
+    record {
+      found = record {
+        marks = all.marks.items;
+        rounds = all.found.rounds.items;
+        spots = map spot_of keys;
+        parents = all.found.tree.parents.items;
+        ended = all.found.ended;
+        exact = λ k bound there. subst (λ p. AreExactWithin p plan k all.marks.items) pace (c.in_ok-all.ensures.rounds k bound there);
+        of_orders = λ k bound there. subst (λ p. AreOfOrders p plan k (map spot_of keys) bound) pace (c.in_ok-all.ensures.orders k bound there);
+        whole = λ is. subst (λ p. AreExact p plan all.marks.items) pace (c.in_ok-all.ensures.whole is);
+        all_orders = λ is. subst (λ p. AreOfAllOrders p plan (map spot_of keys)) pace (c.in_ok-all.ensures.all_orders is);
+        of_rounds = c.in_ok-all.ensures.of_rounds;
+        once = c.in_ok-all.ensures.once;
+        complete = c.in_ok-all.ensures.complete;
+        full = λ is. subst (λ n. c.args.bounds.spots ≤ n) (sym (length-map keys spot_of)) (c.in_ok-all.ensures.full is);
+        too_far = c.in_ok-all.ensures.too_far;
+        memory = c.wants_memory.ensures c.if-wants_memory.false;
+      };
+      marks = refl;
+      rounds = refl;
+      spots = refl;
+      ended = refl;
+    }

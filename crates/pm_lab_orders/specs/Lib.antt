@@ -1,0 +1,4 @@
+pub mod OrdersOutcome
+pub mod Orders
+pub mod Found
+pub mod Seen

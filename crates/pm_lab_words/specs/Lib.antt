@@ -1,0 +1,5 @@
+pub mod Options
+pub mod Given
+pub mod Numbers
+pub mod Read
+pub mod Request

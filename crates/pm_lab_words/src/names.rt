@@ -1,0 +1,79 @@
+//! The commands and their options, by name.
+
+ghost use Rattle.std.specs.Prelude.{◌≡◌};
+ghost use Rattle.pm_lab_words.specs.Options.{command_of, has_value, name_of, takes};
+
+/// A command of `pm_lab`, but `help`.
+#[derive(Clone, Copy, Debug, PartialEq, Eq)]
+pub enum Command {
+    Say,
+    Find,
+    Orders,
+    Kernel,
+}
+
+/// An option of some command.
+#[derive(Clone, Copy, Debug, PartialEq, Eq)]
+pub enum Name {
+    Notes,
+    Ktap,
+    Expect,
+    Json,
+    Late,
+    Most,
+    Spots,
+    Differ,
+    Seen,
+}
+
+/// The command of a word, but `help`.
+pub fn command_of(word: &str) -> Option<Command>
+    ensures { result ≡ command_of word.now }
+{
+    match word {
+        "say" => Some(Command::Say),
+        "find" => Some(Command::Find),
+        "orders" => Some(Command::Orders),
+        "kernel" => Some(Command::Kernel),
+        _ => None,
+    }
+}
+
+/// The option of a word, its value left out.
+pub fn name_of(word: &str) -> Option<Name>
+    ensures { result ≡ name_of word.now }
+{
+    match word {
+        "--notes" => Some(Name::Notes),
+        "--ktap" => Some(Name::Ktap),
+        "--expect" => Some(Name::Expect),
+        "--json" => Some(Name::Json),
+        "--late" => Some(Name::Late),
+        "--most" => Some(Name::Most),
+        "--spots" => Some(Name::Spots),
+        "--differ" => Some(Name::Differ),
+        "--seen" => Some(Name::Seen),
+        _ => None,
+    }
+}
+
+/// Whether an option has a value.
+pub fn has_value(name: Name) -> bool
+    ensures { result ≡ has_value name }
+{
+    matches!(name, Name::Expect | Name::Most | Name::Spots | Name::Seen)
+}
+
+/// Whether a command takes an option.
+pub fn takes(command: Command, name: Name) -> bool
+    ensures { result ≡ takes command name }
+{
+    match command {
+        Command::Find => matches!(name, Name::Notes),
+        Command::Orders => matches!(
+            name,
+            Name::Late | Name::Most | Name::Spots | Name::Differ | Name::Seen
+        ),
+        Command::Say | Command::Kernel => false,
+    }
+}

@@ -1,0 +1,5 @@
+pub mod PushLemmas
+pub mod NextLemmas
+pub mod LaneAlike
+pub mod TellLemmas
+pub mod WalkLemmas

@@ -1,0 +1,3 @@
+pub mod Lanes
+pub mod Pieces
+pub mod Walking

@@ -1,0 +1,75 @@
+//! Where a run stands while its lines are read again.
+
+ghost use Rattle.std.specs.Prelude.{◌≡◌, ◌+◌, ◌<◌, [], IfOk, length, reverse, take, true};
+ghost use Rattle.std.specs.List.{list_all};
+ghost use Rattle.pm_lanes.specs.Pieces.{is_open};
+ghost use Rattle.pm_lanes.specs.Walking.{StandsAfter};
+ghost use Rattle.pm_model.specs.Lawful.{IsLawful};
+ghost use Rattle.pm_model.specs.LineOf.{is_line_of};
+ghost use Rattle.pm_model.specs.World.{place};
+ghost use Rattle.pm_state.specs.Standing.{IsActor, IsOf};
+
+use pm_base::{ActorId, NoMemory};
+use pm_book::{all_stand_well, decide, each_line_fits, each_line_is_taken};
+use pm_model::{Line, Plan};
+use pm_state::State;
+use std::alloc::Global;
+
+/// The counters and places after some lines of a run, and when the last of them was written, in
+/// milliseconds of the run; 0 where there is none.
+pub struct Walk {
+    pub state: State,
+    pub last: u64,
+}
+
+impl Drop for Walk {
+    fn drop(self) {
+        let Walk { state, last: _ } = self;
+        drop(state);
+    }
+}
+
+impl Walk {
+    /// Before any line. All memory that a walk ever needs is taken here.
+    pub fn start(alloc: Global, plan: &Plan) -> Result<Walk, NoMemory>
+        ensures { IfOk result (StandsAfter plan.now []) }
+    {
+        let state = State::fresh(alloc, plan)?;
+        Ok(Walk { state, last: 0 })
+    }
+
+    /// Whether a stage of an actor is open.
+    pub fn is_open(&self, plan: &Plan, actor: ActorId) -> bool
+        requires is_of { IsOf plan.now self.now.state }
+        requires in_range { IsActor plan.now actor }
+        ensures { result ≡ is_open (place self.now.state.world actor) }
+    {
+        self.state.top(plan, actor).is_some()
+    }
+
+    /// Goes on behind the line at this place of a run. It takes no memory.
+    pub fn go(&mut self, plan: &Plan, lines: &[Line], place: usize)
+        requires lawful { IsLawful plan.now (reverse lines.now) }
+        requires of_plan { list_all (is_line_of plan.now) (reverse lines.now) ≡ true }
+        requires within { place < length lines.now }
+        requires stands { StandsAfter plan.now (reverse (take place lines.now)) self.old }
+        ensures { StandsAfter plan.now (reverse (take (place + 1) lines.now)) self.new }
+    {
+        all_stand_well();
+        each_line_is_taken();
+        each_line_fits();
+        let line = &lines[place];
+        let Ok(coming) = decide(plan, &self.state, self.last, line) else {
+            return;
+        };
+        self.state.go(
+            plan,
+            line.time,
+            line.actor,
+            &line.event,
+            &coming.change,
+            &coming.next,
+        );
+        self.last = line.time;
+    }
+}

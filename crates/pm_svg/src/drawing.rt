@@ -1,0 +1,114 @@
+//! A picture while it is drawn.
+
+ghost use Rattle.std.specs.Prelude.{◌≡◌, ◌++◌, IfOk, OnErr, OnOk, codes};
+ghost use Rattle.pm_svg.specs.Shapes.{IsPicture, block_text, head_text, label_text, rule_text, sheet};
+
+use crate::pieces::{push, push_attribute};
+use crate::shapes::{Block, Label, Rule, push_block, push_label, push_rule};
+use crate::sheet::SHEET;
+use pm_base::NoMemory;
+use std::alloc::Global;
+use std::marker::Model;
+
+/// The text of a picture so far. Contracts see its bytes, which are a head and some shapes and nothing else,
+/// whoever draws.
+#[derive(Drop)]
+pub struct Drawing {
+    text: Vec<u8>,
+    // The shape that is being written. It goes into the text as a whole or not at all.
+    shape: Vec<u8>,
+}
+
+impl Model for Drawing {
+    ghost use Rattle.std.specs.Prelude.{ℕ, List};
+    ghost use Rattle.pm_svg.specs.Shapes.{IsBegun};
+
+    ghost Value = { List ℕ };
+
+    ghost view = { λ d. d.text.items };
+
+    ghost invariant = { λ d. IsBegun d.text.items };
+}
+
+// Appends the style sheet.
+#[tactic(auto, unfolding(crate::specs::Shapes::sheet))]
+fn push_sheet(text: &mut Vec<u8>) -> Result<(), NoMemory>
+    ensures { OnOk result (text.new.items ≡ text.old.items ++ sheet) }
+{
+    push(text, SHEET)
+}
+
+// The head of a picture.
+#[tactic(auto, unfolding(crate::specs::Shapes::head_text))]
+fn push_head(text: &mut Vec<u8>, width: u32, height: u32) -> Result<(), NoMemory>
+    ensures { OnOk result (text.new.items ≡ text.old.items ++ head_text width height) }
+{
+    push(text, b"<svg xmlns=\"http://www.w3.org/2000/svg\"")?;
+    push_attribute(text, b" width=\"", width)?;
+    push_attribute(text, b"\" height=\"", height)?;
+    push(text, b"\">\n")?;
+    push_sheet(text)
+}
+
+// Appends bytes, all of them or none.
+fn append(text: &mut Vec<u8>, piece: &[u8]) -> Result<(), NoMemory>
+    ensures ok { OnOk result (text.new.items ≡ text.old.items ++ piece.now) }
+    ensures err { OnErr result (text.new.items ≡ text.old.items) }
+{
+    text.extend_from_slice(piece)?;
+    Ok(())
+}
+
+impl Drawing {
+    /// A picture of this width and height, in pixels, with nothing on it. Fails where memory runs out, as do the
+    /// others, which then change nothing.
+    pub fn start(alloc: Global, width: u32, height: u32) -> Result<Drawing, NoMemory>
+        ensures { IfOk result (λ drawing. drawing ≡ head_text width height) }
+    {
+        let mut text = Vec::new(alloc);
+        push_head(&mut text, width, height)?;
+        Ok(Drawing {
+            text,
+            shape: Vec::new(alloc),
+        })
+    }
+
+    /// Draws a block, with words that are shown where the mouse points at it.
+    pub fn block(&mut self, block: &Block, title: &[u8]) -> Result<(), NoMemory>
+        ensures ok { OnOk result (self.new ≡ self.old ++ block_text block.now title.now) }
+        ensures err { OnErr result (self.new ≡ self.old) }
+    {
+        self.shape.clear();
+        push_block(&mut self.shape, block, title)?;
+        append(&mut self.text, &self.shape)
+    }
+
+    /// Writes words, with those that are shown where the mouse points at them.
+    pub fn label(&mut self, label: &Label, words: &[u8], title: &[u8]) -> Result<(), NoMemory>
+        ensures ok { OnOk result (self.new ≡ self.old ++ label_text label.now words.now title.now) }
+        ensures err { OnErr result (self.new ≡ self.old) }
+    {
+        self.shape.clear();
+        push_label(&mut self.shape, label, words, title)?;
+        append(&mut self.text, &self.shape)
+    }
+
+    /// Draws a thin line.
+    pub fn rule(&mut self, rule: &Rule) -> Result<(), NoMemory>
+        ensures ok { OnOk result (self.new ≡ self.old ++ rule_text rule.now) }
+        ensures err { OnErr result (self.new ≡ self.old) }
+    {
+        self.shape.clear();
+        push_rule(&mut self.shape, rule)?;
+        append(&mut self.text, &self.shape)
+    }
+
+    /// The text of the whole picture.
+    pub fn finish(self) -> Result<Vec<u8>, NoMemory>
+        ensures { IfOk result (λ text. IsPicture text.items) }
+    {
+        let Drawing { mut text, shape: _ } = self;
+        text.extend_from_slice(b"</svg>\n")?;
+        Ok(text)
+    }
+}
