@@ -13,4 +13,5 @@ mod told;
 pub use bond::{Bond, Excuse};
 pub use bonds::Bonds;
 pub use laws::{domains_stay_on, lines_break_near_bonds, lines_turn_their_device};
+pub use replay::Replay;
 pub use standing::{off_domain, off_link, off_parent};

@@ -39,7 +39,7 @@ impl Model for Calls {
 }
 
 /// What an event says of the call that its caller is in: a call begins one, and a return ends it.
-fn call_said(event: &Event) -> Option<Option<Command>>
+pub fn call_said(event: &Event) -> Option<Option<Command>>
     ensures { result ≡ call_said event.now }
 {
     match *event {

@@ -10,6 +10,6 @@ mod ending;
 mod verdict;
 
 pub use answering::{answers, once, returns_of};
-pub use calls::{Calls, Return, returns};
+pub use calls::{Calls, Return, call_said, returns};
 pub use ending::ends;
 pub use verdict::{Judged, Lack, Leaves, Verdict};

@@ -1,7 +1,14 @@
 -- Lists of counts, and the same lists with the newest count last.
-use Rattle.std.proofs.Common.{ℕ, ◌≡◌, ◌+◌, ◌-◌, ◌<◌, ◌++◌, List, [], ◌∷◌, drop, get_or, length, remove, reverse, suc, take, ap, sym, ◌∙◌, arith, add-one, append_assoc}
-use Rattle.std.proofs.lemmas.List.{drop_more, length-drop, length-reverse, reverse-append, take-append-drop}
+use Rattle.std.proofs.Common.{ℕ, ◌≡◌, ◌+◌, ◌-◌, ◌<◌, ◌++◌, List, [], ◌∷◌, drop, get_or, length, map, remove, reverse, suc, take, ap, refl, sym, ◌∙◌, arith, add-one, append_assoc}
+use Rattle.std.proofs.lemmas.List.{drop_more, length-drop, length-reverse, map-append, reverse-append, take-append-drop}
 use Rattle.std.proofs.lemmas.List.Edits.{remove-append_right}
+
+-- what is done to each is done to each from the end
+pub reverse_map : {X : Type 0} (f : X → X) (xs : List X) → reverse (map f xs) ≡ map f (reverse xs)
+reverse_map f [] = refl
+reverse_map f (x ∷ xs) =
+    reverse-append (f x ∷ []) (map f xs) ∙ ap (λ ys. ys ++ f x ∷ []) (reverse_map f xs)
+    ∙ sym (ap (map f) (reverse-append (x ∷ []) xs) ∙ map-append f (reverse xs) (x ∷ []))
 
 -- without the element in the middle
 middle : {X : Type 0} (front back : List X) (x : X) (n : ℕ) → length front ≡ n → remove (front ++ x ∷ back) n ≡ front ++ back

@@ -1,7 +1,8 @@
 -- The open counts of a device are as many as its share.
-use Rattle.std.proofs.Common.{ℕ, ◌≡◌, ◌+◌, ◌<◌, ◌≤◌, Bool, true, false, cond, ◌&&◌, List, [], ◌∷◌, Option, Some, None, length, remove, unwrap_or, if◌then◌else◌, ap, refl, ◌∙◌, arith}
+use Rattle.std.proofs.Common.{ℕ, ◌≡◌, ◌+◌, ◌<◌, ◌≤◌, Bool, true, false, cond, ◌&&◌, List, [], ◌∷◌, Option, Some, None, length, map, remove, unwrap_or, if◌then◌else◌, ap, refl, ◌∙◌, arith}
 use Rattle.std.specs.List.{position}
 use Rattle.std.proofs.lemmas.Bool.{eq-eqb}
+use Rattle.std.proofs.lemmas.List.{length-map}
 use Rattle.std.proofs.lemmas.List.Edits.{length-remove}
 use Rattle.std.proofs.lemmas.List.Quantifiers.{position-Some}
 use Rattle.std.proofs.lemmas.List.Sums.{sum_by-cons}
@@ -18,7 +19,8 @@ use Rattle.pm_model.specs.History.{History}
 use Rattle.pm_model.specs.Lawful.{IsLawful}
 use Rattle.pm_law_counts.proofs.Said.{share_counted}
 use Rattle.pm_findings.specs.declared.watched.Count.{Count}
-use Rattle.pm_findings.specs.OpenCounts.{counts_after, device_of, is_of, open_counts, taken_place}
+use Rattle.pm_findings.specs.Codes.{is_error}
+use Rattle.pm_findings.specs.OpenCounts.{counts_after, device_of, is_of, open_counts, taken_place, with_error}
 
 -- where there is a count, one is taken away
 place_below : (actor : ActorId) (counts : List Count) → 0 < length counts → taken_place actor counts < length counts
@@ -26,7 +28,7 @@ place_below actor counts some = go (position (is_of actor) counts) refl
   where
     go : (o : Option ℕ) → position (is_of actor) counts ≡ o → unwrap_or o 0 < length counts
     go None is = some
-    go (Some i) is = (position-Some (is_of actor) counts i (record { actor = Caller 0; line = 0 }) is).0
+    go (Some i) is = (position-Some (is_of actor) counts i (record { actor = Caller 0; line = 0; failed = false }) is).0
 
 taken_away : (actor : ActorId) (counts : List Count) → 0 < length counts → length (remove counts (taken_place actor counts)) + 1 ≡ length counts
 taken_away actor counts some = length-remove counts (taken_place actor counts) (place_below actor counts some)
@@ -46,13 +48,19 @@ other_line : (b : Bool) (counts : List Count) (p g : ℕ) → length counts + p 
 other_line true counts p g was = omega arith
 other_line false counts p g was = omega arith
 
+other_ret : (actor : ActorId) (b e : Bool) (counts : List Count) (p g : ℕ) → length counts + p ≡ g
+    → length (if b then (if e then map (with_error actor) counts else counts) else counts) + (0 + p) ≡ 0 + g
+other_ret actor true true counts p g was = omega (arith, length-map counts (with_error actor))
+other_ret actor true false counts p g was = omega arith
+other_ret actor false e counts p g was = omega arith
+
 -- one event more: counts are taken and given back
 step : (d : DevId) (actor : ActorId) (n : ℕ) (e : Event) (counts : List Count) (p g : ℕ) → length counts + p ≡ g
     → one (gives_back is_callers d e) + p ≤ one (takes is_callers d e) + g
     → length (if is_same d (device_of e) then counts_after actor n e counts else counts) + (one (gives_back is_callers d e) + p) ≡ one (takes is_callers d e) + g
 step d actor n (event.Get x why.Caller) counts p g was more = go (is_same d x) more
   where
-    go : (b : Bool) → 0 + p ≤ one (b && true) + g → length (if b then record { actor = actor; line = n } ∷ counts else counts) + (0 + p) ≡ one (b && true) + g
+    go : (b : Bool) → 0 + p ≤ one (b && true) + g → length (if b then record { actor = actor; line = n; failed = false } ∷ counts else counts) + (0 + p) ≡ one (b && true) + g
     go true more = omega arith
     go false more = omega arith
 step d actor n (event.Get x w) counts p g was more = other_get (is_same d x) counts p g was
@@ -62,6 +70,7 @@ step d actor n (event.Put x why.Caller) counts p g was more = go (is_same d x) m
     go true more = let some : 0 < length counts = omega arith in omega (arith, taken_away actor counts some)
     go false more = omega arith
 step d actor n (event.Put x w) counts p g was more = other_put (is_same d x) counts p g was
+step d actor n (event.Ret h x code) counts p g was more = other_ret actor (is_same d x) (is_error code) counts p g was
 step d actor n e counts p g was more = other_line (is_same d (device_of e)) counts p g was
 
 balance : (plan : Plan) (h : History) (d : DevId) → IsLawful plan h → d.0 < length plan.devices → length (open_counts h d) + puts is_callers h d ≡ gets is_callers h d

@@ -1,5 +1,5 @@
 -- The loops over lines and over devices, one turn on.
-use Rattle.std.proofs.Common.{ℕ, ◌≡◌, ◌+◌, ◌^◌, ◌<◌, Bool, true, false, ◌&&◌, ◌++◌, List, [], ◌∷◌, Option, drop, get_or, length, nat_eq, nat_lt, reverse, take, if◌then◌else◌, ap, refl, sym, subst, ◌∙◌, arith}
+use Rattle.std.proofs.Common.{ℕ, ◌≡◌, ◌+◌, ◌^◌, ◌<◌, Bool, true, false, ◌&&◌, ◌++◌, List, [], ◌∷◌, Option, drop, get_or, length, nat_eq, nat_lt, reverse, take, if◌then◌else◌, ap, refl, sym, subst, ◌∙◌, append_assoc, arith}
 use Rattle.std.specs.List.{flat_map, list_all, range_with_len}
 use Rattle.std.proofs.lemmas.Bool.{eqb-true}
 use Rattle.std.proofs.lemmas.List.{flat_map_more, length-reverse, length-take-le, map-id, reverse-append, take_more}
@@ -12,12 +12,14 @@ use Rattle.pm_model.specs.declared.event.Event.{Event}
 use Rattle.pm_model.specs.declared.event.Event.TheVariants as event
 use Rattle.pm_model.specs.declared.event.Line.{Line}
 use Rattle.pm_model.specs.declared.plan.Plan.{Plan}
+use Rattle.pm_bonds.specs.Kept.{IsKept, Kept}
 use Rattle.pm_model.specs.History.{History}
+use Rattle.pm_model.specs.Lawful.{IsLawful}
 use Rattle.pm_model.specs.LineOf.{is_actor_of, is_device_of, is_event_of, is_line_of, is_number_of}
 use Rattle.pm_model.specs.Spelling.{operand_of, takes_device}
 use Rattle.pm_findings.specs.declared.Finding.{Finding}
 use Rattle.pm_findings.specs.declared.watched.Called.{Called}
-use Rattle.pm_findings.specs.AllFound.{found_at, found_in}
+use Rattle.pm_findings.specs.AllFound.{bonds_at, found_at, found_in}
 use Rattle.pm_findings.specs.Kept.{AreCalled, known}
 use Rattle.pm_findings.specs.OpenCounts.{device_of}
 use Rattle.pm_findings.specs.Said.{call_by}
@@ -63,7 +65,7 @@ among p [] ys y all = front (p y) (list_all p ys) all
 among p (x ∷ xs) ys y all = among p xs ys y (rear (p x) (list_all p (xs ++ y ∷ ys)) all)
 
 -- each line is one of the plan's
-line_at : (plan : Plan) (lines : List Line) (i : ℕ) (e : Line) → i < length lines → list_all (is_line_of plan) (reverse lines) ≡ true → is_line_of plan (get_or lines i e) ≡ true
+pub line_at : (plan : Plan) (lines : List Line) (i : ℕ) (e : Line) → i < length lines → list_all (is_line_of plan) (reverse lines) ≡ true → is_line_of plan (get_or lines i e) ≡ true
 line_at plan lines i e within all =
     among (is_line_of plan) (reverse (drop (i + 1) lines)) (reverse (take i lines)) (get_or lines i e)
     (ap (list_all (is_line_of plan)) (sym (reverse_parts lines i e within)) ∙ all)
@@ -115,19 +117,47 @@ told_is plan line h ends t of_plan inside kept =
     ∙ ap (λ called. told (counts_in ends (device_of line.event)) (known h (device_of line.event)) called (length h + 1) line)
     (called_is plan h t.calls line.actor kept.called (actor_of_plan plan line of_plan))
 
-pub found_more : (plan : Plan) (lines : List Line) (i number : ℕ) (e : Line) (ends t : Table) (before after : List Finding) → i < length lines
-    → list_all (is_line_of plan) (reverse lines) ≡ true → number ≡ i
-    → IsTable (length plan.devices + 1) (length plan.callers) (reverse (take i lines)) t
-    → before ≡ found_in (counts_in ends) (reverse (take i lines))
-    → after ≡ before ++ told_at ends t (number + 1) (get_or lines i e)
-    → after ≡ found_in (counts_in ends) (reverse (take (i + 1) lines))
-found_more plan lines i number e ends t before after within all same kept was is =
-    is
-    ∙ ap (λ l. l ++ told_at ends t (number + 1) (get_or lines i e)) was
-    ∙ ap (λ m. found_in (counts_in ends) (reverse (take i lines)) ++ told_at ends t (m + 1) (get_or lines i e)) (same ∙ sym (numbered lines i within))
-    ∙ ap (λ l. found_in (counts_in ends) (reverse (take i lines)) ++ l)
-    (told_is plan (get_or lines i e) (reverse (take i lines)) ends t (line_at plan lines i e within all) (inside_at plan lines i (length plan.devices + 1) e within refl all) kept)
-    ∙ ap (found_in (counts_in ends)) (sym (reverse_more lines i e within))
+-- the line at a place may come behind those before it
+lawful_rest : (plan : Plan) (more h : History) → IsLawful plan (more ++ h) → IsLawful plan h
+lawful_rest plan [] h lawful = lawful
+lawful_rest plan (line ∷ more) h lawful = lawful_rest plan more h lawful.2
+
+pub lawful_at : (plan : Plan) (lines : List Line) (i : ℕ) (e : Line) → i < length lines → IsLawful plan (reverse lines) → IsLawful plan (get_or lines i e ∷ reverse (take i lines))
+lawful_at plan lines i e within lawful =
+    lawful_rest plan (reverse (drop (i + 1) lines)) (get_or lines i e ∷ reverse (take i lines)) (subst (λ h. IsLawful plan h) (reverse_parts lines i e within) lawful)
+
+-- where the lines before it stand, and what its number is
+pub stands_at : (plan : Plan) (lines : List Line) (i number : ℕ) (e : Line) (k : Kept) → i < length lines → IsLawful plan (reverse lines) → number ≡ i
+    → IsKept plan k (reverse (take i lines)) → (h : History) × IsLawful plan (get_or lines i e ∷ h) × IsKept plan k h × (number + 1 ≡ length h + 1)
+stands_at plan lines i number e k within lawful same kept =
+    (reverse (take i lines), lawful_at plan lines i e within lawful, kept, ap (λ m. m + 1) (same ∙ sym (numbered lines i within)))
+
+pub bonds_more : (plan : Plan) (lines : List Line) (i number : ℕ) (e : Line) (before after : Kept) → i < length lines → IsLawful plan (reverse lines) → number ≡ i
+    → IsKept plan before (reverse (take i lines))
+    → ((h : History) → IsLawful plan (get_or lines i e ∷ h) → IsKept plan before h → number + 1 ≡ length h + 1 → IsKept plan after (get_or lines i e ∷ h))
+    → IsKept plan after (reverse (take (i + 1) lines))
+bonds_more plan lines i number e before after within lawful same kept more =
+    subst (λ h. IsKept plan after h) (sym (reverse_more lines i e within))
+    (more (reverse (take i lines)) (lawful_at plan lines i e within lawful) kept (ap (λ m. m + 1) (same ∙ sym (numbered lines i within))))
+
+pub found_more : (plan : Plan) (lines : List Line) (i number : ℕ) (e : Line) (ends t : Table) (k : Kept) (before told after : List Finding) → i < length lines
+    → IsLawful plan (reverse lines) → list_all (is_line_of plan) (reverse lines) ≡ true → number ≡ i
+    → IsTable (length plan.devices + 1) (length plan.callers) (reverse (take i lines)) t → IsKept plan k (reverse (take i lines))
+    → before ≡ found_in plan (counts_in ends) (reverse (take i lines))
+    → told ≡ before ++ told_at ends t (number + 1) (get_or lines i e)
+    → ((h : History) → IsLawful plan (get_or lines i e ∷ h) → IsKept plan k h → number + 1 ≡ length h + 1 → after ≡ told ++ bonds_at plan h (get_or lines i e))
+    → after ≡ found_in plan (counts_in ends) (reverse (take (i + 1) lines))
+found_more plan lines i number e ends t k before told after within lawful all same kept bonds was is more =
+    let line = get_or lines i e in
+    let h = reverse (take i lines) in
+    let broken = bonds_at plan h line in
+    more h (lawful_at plan lines i e within lawful) bonds (ap (λ m. m + 1) (same ∙ sym (numbered lines i within)))
+    ∙ ap (λ l. l ++ broken) (is ∙ ap (λ l. l ++ told_at ends t (number + 1) line) was
+    ∙ ap (λ m. found_in plan (counts_in ends) h ++ told_at ends t (m + 1) line) (same ∙ sym (numbered lines i within))
+    ∙ ap (λ l. found_in plan (counts_in ends) h ++ l)
+    (told_is plan line h ends t (line_at plan lines i e within all) (inside_at plan lines i (length plan.devices + 1) e within refl all) kept))
+    ∙ append_assoc (found_in plan (counts_in ends) h) (found_at (counts_in ends) h line) broken
+    ∙ ap (found_in plan (counts_in ends)) (sym (reverse_more lines i e within))
 
 -- one device more is looked at
 range_more : (i : ℕ) → range_with_len 0 (i + 1) ≡ range_with_len 0 i ++ i ∷ []

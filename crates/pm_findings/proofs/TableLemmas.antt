@@ -1,10 +1,11 @@
 -- What is kept of all devices and callers, line by line.
-use Rattle.std.proofs.Common.{ℕ, ◌≡◌, ◌+◌, ◌<◌, Bool, true, false, List, [], ◌∷◌, Option, Some, None, get_or, length, nat_eq, option_map, replicate, set, unwrap_or, if◌then◌else◌, ap, refl, sym, subst, ◌∙◌, arith}
+use Rattle.std.proofs.Common.{ℕ, ◌≡◌, ◌+◌, ◌<◌, Bool, true, false, List, [], ◌∷◌, Option, None, get_or, length, nat_eq, replicate, set, if◌then◌else◌, ap, refl, sym, subst, ◌∙◌, arith}
 use Rattle.std.proofs.lemmas.Bool.{eq-eqb, eqb-false, eqb-true}
 use Rattle.std.proofs.lemmas.List.{get_or-replicate, get_or-set_other, get_or-set_same, length-replicate, length-set}
 use Rattle.pm_base.specs.declared.ActorId.{ActorId}
 use Rattle.pm_base.specs.declared.ActorId.TheVariants.{Caller, Work, Timer}
 use Rattle.pm_base.specs.declared.DevId.{DevId}
+use Rattle.pm_model.specs.declared.event.Event.{Event}
 use Rattle.pm_model.specs.declared.event.Line.{Line}
 use Rattle.pm_model.specs.Counted.{is_same}
 use Rattle.pm_model.specs.History.{History}
@@ -12,9 +13,9 @@ use Rattle.pm_model.specs.Promises.{is_actor}
 use Rattle.pm_findings.specs.declared.watched.Called.{Called}
 use Rattle.pm_findings.specs.Kept.{AreCalled, AreKnown, Known, known, known_after, row_at, unknown}
 use Rattle.pm_findings.specs.OpenCounts.{device_of}
-use Rattle.pm_findings.specs.Said.{call_of, called_in}
+use Rattle.pm_findings.specs.Said.{call_of, called_after}
 use Rattle.pm_findings.specs.WatchTable.{IsTable, Table, calls_after, rows_after, table_after}
-use Rattle.pm_findings.proofs.KnownLemmas.{known_other, known_own, said}
+use Rattle.pm_findings.proofs.KnownLemmas.{known_other, known_own}
 
 same_device : (d e : DevId) → nat_eq d.0 e.0 ≡ true → d ≡ e
 same_device d e same = ap (λ n. let x : DevId = record { 0 = n } in x) (eqb-true d.0 e.0 same)
@@ -50,35 +51,29 @@ rows_step n line h rows inside known_rows = record {
   each = λ d within. known_more n line h rows d within known_rows inside;
 }
 
--- a call more, or none
-call_more : (calls : List (Option Called)) (c : ℕ) (before : Option Called) (actor : ActorId) (o : Option Called) → c < length calls → get_or calls c None ≡ before
-    → get_or (calls_after actor o calls) c None ≡ unwrap_or (if is_actor (Caller c) actor then option_map (λ called. Some called) o else None) before
-call_more calls c before (Work d) o within was = was
-call_more calls c before (Timer d) o within was = was
-call_more calls c before (Caller k) None within was = was ∙ none (nat_eq c k)
+-- one line more in the last calls
+call_more : (calls : List (Option Called)) (c : ℕ) (before : Option Called) (actor : ActorId) (n : ℕ) (e : Event) → c < length calls → get_or calls c None ≡ before
+    → get_or (calls_after actor n e calls) c None ≡ (if is_actor (Caller c) actor then called_after n e before else before)
+call_more calls c before (Work d) n e within was = was
+call_more calls c before (Timer d) n e within was = was
+call_more calls c before (Caller k) n e within was = go (nat_eq c k) refl
   where
-    none : (b : Bool) → before ≡ unwrap_or (if b then None else None) before
-    none true = refl
-    none false = refl
-call_more calls c before (Caller k) (Some call) within was = go (nat_eq c k) refl
-  where
-    go : (b : Bool) → nat_eq c k ≡ b → get_or (set calls k (Some call)) c None ≡ unwrap_or (if b then Some (Some call) else None) before
-    go true same = ap (λ m. get_or (set calls m (Some call)) c None) (sym (eqb-true c k same)) ∙ get_or-set_same calls c (Some call) None within
-    go false other = get_or-set_other calls k c (Some call) None (eqb-false c k other) ∙ was
+    go : (b : Bool) → nat_eq c k ≡ b → get_or (set calls k (called_after n e (get_or calls k None))) c None ≡ (if b then called_after n e before else before)
+    go true same =
+        ap (λ m. get_or (set calls m (called_after n e (get_or calls m None))) c None) (sym (eqb-true c k same))
+        ∙ get_or-set_same calls c (called_after n e (get_or calls c None)) None within ∙ ap (called_after n e) was
+    go false other = get_or-set_other calls k c (called_after n e (get_or calls k None)) None (eqb-false c k other) ∙ was
 
-calls_kept : (actor : ActorId) (o : Option Called) (calls : List (Option Called)) → length (calls_after actor o calls) ≡ length calls
-calls_kept (Work d) o calls = refl
-calls_kept (Timer d) o calls = refl
-calls_kept (Caller k) None calls = refl
-calls_kept (Caller k) (Some call) calls = length-set calls k (Some call)
+calls_kept : (actor : ActorId) (n : ℕ) (e : Event) (calls : List (Option Called)) → length (calls_after actor n e calls) ≡ length calls
+calls_kept (Work d) n e calls = refl
+calls_kept (Timer d) n e calls = refl
+calls_kept (Caller k) n e calls = length-set calls k (called_after n e (get_or calls k None))
 
 calls_step : (n : ℕ) (line : Line) (h : History) (calls : List (Option Called)) → AreCalled n h calls
-    → AreCalled n (line ∷ h) (calls_after line.actor (called_in (length h + 1) line.event) calls)
+    → AreCalled n (line ∷ h) (calls_after line.actor (length h + 1) line.event calls)
 calls_step n line h calls called = record {
-  entries = calls_kept line.actor (called_in (length h + 1) line.event) calls ∙ called.entries;
-  each = λ c within.
-      call_more calls c (call_of h c) line.actor (called_in (length h + 1) line.event) (omega (arith, called.entries)) (called.each c within)
-      ∙ sym (said (if is_actor (Caller c) line.actor then option_map (λ call. Some call) (called_in (length h + 1) line.event) else None) (call_of h c));
+  entries = calls_kept line.actor (length h + 1) line.event calls ∙ called.entries;
+  each = λ c within. call_more calls c (call_of h c) line.actor (length h + 1) line.event (omega (arith, called.entries)) (called.each c within);
 }
 
 pub table_step : (devices callers : ℕ) (line : Line) (h : History) (t : Table) → (let of : DevId = device_of line.event in of.0 < devices) → IsTable devices callers h t

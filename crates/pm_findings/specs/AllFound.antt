@@ -1,10 +1,13 @@
 -- All that stands out in a run, in the order of its lines (this project's own). Lists of lines have the newest line first;
 -- lines are counted from 1.
-use Rattle.std.specs.Prelude.{ℕ, ◌+◌, Bool, List, [], ◌∷◌, ◌++◌, Option, length, option_map, if◌then◌else◌}
+use Rattle.std.specs.Prelude.{ℕ, ◌+◌, Bool, List, [], ◌∷◌, ◌++◌, Option, length, map, option_map, if◌then◌else◌}
 use Rattle.std.specs.List.{flat_map, range_with_len}
 use Rattle.std.specs.Option.{option_to_list}
 use Rattle.pm_base.specs.declared.DevId.{DevId}
+use Rattle.pm_bonds.specs.declared.bond.Bond.{Bond}
+use Rattle.pm_bonds.specs.Broken.{broken_at}
 use Rattle.pm_model.specs.declared.event.Line.{Line}
+use Rattle.pm_model.specs.declared.plan.Plan.{Plan}
 use Rattle.pm_model.specs.Counted.{only_if, status_of}
 use Rattle.pm_model.specs.Derived.{is_active_status}
 use Rattle.pm_model.specs.History.{History}
@@ -30,17 +33,25 @@ found_at left h line =
     (at_line number (leak (left d) number called line.actor line.event)
     ++ at_line number (stolen (open_counts h d) line.actor line.event)
     ++ at_line number (never_on (open_counts h d) (status_of h d) (left_line h d) line.actor line.event))
-    ++ (at_line number (answer (open_counts h d) called line.actor line.event)
+    ++ (at_line number (answer (error_line h d) (open_counts h d) called line.actor line.event)
     ++ at_line number (refused line.actor line.event)
     ++ at_line number (no_count line.actor line.event)
-    ++ at_line number (poisoned (error_line h d) line.actor line.event)
+    ++ at_line number (poisoned (error_line h d) (open_counts h d) called line.actor line.event)
     ++ at_line number (disabled_on (open_counts h d) (status_of h d) line.event))
     ++ at_line number (failed line.event)
 
--- what stands out at these lines, line by line
-abbrev pub found_in : (DevId → List Count) → History → List Finding
-found_in left [] = []
-found_in left (line ∷ h) = found_in left h ++ found_at left h line
+-- a bond that a line of this number breaks
+abbrev pub broken_off : ℕ → Bond → Finding
+broken_off number bond = record { line = number; kind = kind.Off bond }
+
+-- the bonds that a line behind these breaks
+abbrev pub bonds_at : Plan → History → Line → List Finding
+bonds_at plan h line = map (broken_off (length h + 1)) (broken_at plan h line)
+
+-- what stands out at these lines, line by line, and behind it the bonds that the line breaks
+abbrev pub found_in : Plan → (DevId → List Count) → History → List Finding
+found_in plan left [] = []
+found_in plan left (line ∷ h) = found_in plan left h ++ (found_at left h line ++ bonds_at plan h line)
 
 -- the counts that are left at the end of a run, where it is finished
 abbrev pub left_counts : Bool → History → DevId → List Count
@@ -54,7 +65,7 @@ on_after run d = only_if (is_active_status (status_of run d)) (kind.LeftOn d (ea
 abbrev pub found_after : ℕ → History → List Finding
 found_after devices run = flat_map (λ d. at_line (length run) (on_after run (record { 0 = d }))) (range_with_len 0 devices)
 
--- all that stands out in a run over so many devices: at its lines, in their order, and after them where it is finished
-abbrev pub all_found : ℕ → Bool → History → List Finding
-all_found devices is_finished run =
-    found_in (left_counts is_finished run) run ++ (if is_finished then found_after devices run else [])
+-- all that stands out in a run of a plan: at its lines, in their order, and after them where it is finished
+abbrev pub all_found : Plan → Bool → History → List Finding
+all_found plan is_finished run =
+    found_in plan (left_counts is_finished run) run ++ (if is_finished then found_after (length plan.devices) run else [])

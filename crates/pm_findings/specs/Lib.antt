@@ -1,3 +1,4 @@
+pub mod Codes
 pub mod OpenCounts
 pub mod Said
 pub mod StandsOut

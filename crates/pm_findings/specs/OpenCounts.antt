@@ -1,6 +1,6 @@
 -- The counts of callers that are open after a list of lines (this project's own). Lists of lines have the newest line
 -- first, lists of counts the newest count; lines are counted from 1.
-use Rattle.std.specs.Prelude.{ℕ, ◌+◌, Bool, List, [], ◌∷◌, Option, length, position, remove, slice_get, unwrap_or, if◌then◌else◌}
+use Rattle.std.specs.Prelude.{ℕ, ◌+◌, Bool, true, false, List, [], ◌∷◌, Option, length, map, position, remove, slice_get, unwrap_or, if◌then◌else◌}
 use Rattle.pm_base.specs.declared.ActorId.{ActorId}
 use Rattle.pm_base.specs.declared.DevId.{DevId}
 use Rattle.pm_base.specs.declared.Why.TheVariants as why
@@ -10,6 +10,7 @@ use Rattle.pm_model.specs.Counted.{is_same}
 use Rattle.pm_model.specs.History.{History}
 use Rattle.pm_model.specs.Promises.{is_actor}
 use Rattle.pm_findings.specs.declared.watched.Count.{Count}
+use Rattle.pm_findings.specs.Codes.{is_error}
 
 -- the device that a line is about
 abbrev pub device_of : Event → DevId
@@ -41,10 +42,15 @@ taken_place actor counts = unwrap_or (position (is_of actor) counts) 0
 abbrev pub taken : ActorId → List Count → Option Count
 taken actor counts = slice_get counts (taken_place actor counts)
 
+-- a call of this actor on the device has answered an error since the count was taken, if it is the actor's
+abbrev pub with_error : ActorId → Count → Count
+with_error actor count = if is_of actor count then record count { failed = true } else count
+
 -- what an event of a line by this actor makes of the open counts of its device
 abbrev pub counts_after : ActorId → ℕ → Event → List Count → List Count
-counts_after actor line (event.Get d why.Caller) counts = record { actor = actor; line = line } ∷ counts
+counts_after actor line (event.Get d why.Caller) counts = record { actor = actor; line = line; failed = false } ∷ counts
 counts_after actor line (event.Put d why.Caller) counts = remove counts (taken_place actor counts)
+counts_after actor line (event.Ret h d code) counts = if is_error code then map (with_error actor) counts else counts
 counts_after actor line _ counts = counts
 
 -- the open counts of d after these lines

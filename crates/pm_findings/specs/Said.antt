@@ -1,10 +1,11 @@
 -- What the lines last said of a device and of a caller (this project's own). Lists of lines have the newest line first;
 -- lines are counted from 1.
-use Rattle.std.specs.Prelude.{ℕ, ◌+◌, Bool, false, not, ◌&&◌, ◌||◌, [], ◌∷◌, nat_le, Option, Some, None, pos, length, option_map, if◌then◌else◌}
+use Rattle.std.specs.Prelude.{ℕ, ◌+◌, Bool, true, false, not, ◌&&◌, ◌||◌, [], ◌∷◌, nat_le, Option, Some, None, pos, length, option_map, if◌then◌else◌}
 use Rattle.std.specs.Ordering.{int_eq}
 use Rattle.pm_base.specs.declared.ActorId.{ActorId}
 use Rattle.pm_base.specs.declared.ActorId.TheVariants.{Caller, Work, Timer}
 use Rattle.pm_base.specs.declared.DevId.{DevId}
+use Rattle.pm_base.specs.declared.Why.TheVariants as why
 use Rattle.pm_model.specs.declared.event.Event.{Event}
 use Rattle.pm_model.specs.declared.event.Event.TheVariants as event
 use Rattle.pm_model.specs.Counted.{only_if, says_error, status_of}
@@ -13,14 +14,20 @@ use Rattle.pm_model.specs.History.{History, last_said}
 use Rattle.pm_model.specs.Promises.{is_actor}
 use Rattle.pm_findings.specs.declared.watched.Called.{Called}
 
--- the helper that an event calls, in a line of this number
-abbrev pub called_in : ℕ → Event → Option Called
-called_in number (event.Call command) = Some (record { helper = command.helper; line = number })
-called_in number _ = None
+-- the same call, which has put a count
+abbrev pub with_put : Called → Called
+with_put call = record call { has_put = true }
 
--- the last call of this caller
+-- what an event of a caller, in a line of this number, makes of its last call
+abbrev pub called_after : ℕ → Event → Option Called → Option Called
+called_after number (event.Call command) before = Some (record { helper = command.helper; line = number; has_put = false })
+called_after number (event.Put d why.Caller) before = option_map with_put before
+called_after number _ before = before
+
+-- the last call of this caller, and whether it has put a count since
 abbrev pub call_of : History → ℕ → Option Called
-call_of h c = last_said (λ g line. if is_actor (Caller c) line.actor then option_map (λ called. Some called) (called_in (length g + 1) line.event) else None) None h
+call_of [] c = None
+call_of (line ∷ h) c = if is_actor (Caller c) line.actor then called_after (length h + 1) line.event (call_of h c) else call_of h c
 
 -- the last call of this actor: work items and timers call none
 abbrev pub call_by : History → ActorId → Option Called

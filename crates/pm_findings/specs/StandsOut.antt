@@ -1,25 +1,27 @@
 -- What stands out at a line (this project's own). Each kind is told of the lines before it: the open counts of the line's
 -- device, the newest first, its status, and the last call of the line's actor.
-use Rattle.std.specs.Prelude.{ℕ, Bool, true, false, not, ◌&&◌, ◌||◌, List, Option, None, ℤ, pos, ◌-◌, length, nat_eq, nat_le, nat_lt, int_lt, option_map, slice_get}
+use Rattle.std.specs.Prelude.{ℕ, Bool, true, false, not, ◌&&◌, List, Option, None, ℤ, pos, ◌-◌, length, nat_eq, nat_le, nat_lt, option_map, slice_get}
 use Rattle.std.specs.List.{list_any}
 use Rattle.std.specs.Option.{option_and_then, option_map_or}
 use Rattle.std.specs.Ordering.{int_eq}
 use Rattle.pm_base.specs.declared.ActorId.{ActorId}
 use Rattle.pm_base.specs.declared.Status.{Status}
 use Rattle.pm_base.specs.declared.Why.TheVariants as why
-use Rattle.pm_base.specs.declared.codes.TheConstants.{EAGAIN, EBUSY, EINPROGRESS, EINVAL}
+use Rattle.pm_base.specs.declared.codes.TheConstants.{EINVAL}
 use Rattle.pm_model.specs.declared.event.Event.{Event}
 use Rattle.pm_model.specs.declared.event.Event.TheVariants as event
 use Rattle.pm_model.specs.declared.event.Helper.{Helper}
 use Rattle.pm_model.specs.declared.event.Helper.TheVariants as helper
 use Rattle.pm_model.specs.Counted.{only_if}
 use Rattle.pm_model.specs.Derived.{is_active_status}
+use Rattle.pm_bonds.specs.declared.bond.Bond.TheVariants as bond
 use Rattle.pm_findings.specs.declared.Kind.{Kind}
 use Rattle.pm_findings.specs.declared.Kind.TheVariants as kind
 use Rattle.pm_findings.specs.declared.Weight.{Weight}
 use Rattle.pm_findings.specs.declared.Weight.TheVariants as weight
 use Rattle.pm_findings.specs.declared.watched.Called.{Called}
 use Rattle.pm_findings.specs.declared.watched.Count.{Count}
+use Rattle.pm_findings.specs.Codes.{asks_again, is_error}
 use Rattle.pm_findings.specs.OpenCounts.{is_of, taken}
 
 -- leak: a get of a caller whose count is among those that are open at the end of a finished run
@@ -34,20 +36,49 @@ stolen counts actor (event.Put d why.Caller) =
     option_and_then (λ count. only_if (not (is_of actor count)) (kind.Stolen actor d count.actor count.line)) (taken actor counts)
 stolen counts actor _ = None
 
--- codes that ask to try again
-abbrev pub asks_again : ℤ → Bool
-asks_again code = int_eq code EAGAIN || int_eq code EBUSY || int_eq code EINPROGRESS
+-- whether this call has put a count
+abbrev pub has_put : Option Called → Bool
+has_put called = option_map_or (λ call. call.has_put) called false
 
 -- whether a count is open that this actor took since its last call
 abbrev pub keeps_count : List Count → Option Called → ActorId → Bool
 keeps_count counts called actor =
     option_map_or (λ call. list_any (λ count. is_of actor count && nat_lt call.line count.line) counts) called false
 
--- answer: a call answers a negative code, and not to ask to try again
-abbrev pub answer : List Count → Option Called → ActorId → Event → Option Kind
-answer counts called actor (event.Ret h d code) =
-    only_if (int_lt code (pos 0) && not (asks_again code)) (kind.Answer actor h d code (keeps_count counts called actor))
-answer counts called actor _ = None
+-- whether a stored error refuses this call: it asks for a suspend, a resume or an idle. A put asks for one once it has put its count
+abbrev pub is_refusable : Helper → Option Called → Bool
+is_refusable helper.GetSync called = true
+is_refusable helper.Get called = true
+is_refusable helper.Resume called = true
+is_refusable helper.RequestResume called = true
+is_refusable helper.Idle called = true
+is_refusable helper.RequestIdle called = true
+is_refusable helper.Suspend called = true
+is_refusable helper.Autosuspend called = true
+is_refusable helper.RequestAutosuspend called = true
+is_refusable helper.ScheduleSuspend called = true
+is_refusable helper.Put called = has_put called
+is_refusable helper.PutSync called = has_put called
+is_refusable helper.PutAutosuspend called = has_put called
+is_refusable helper.PutSyncSuspend called = has_put called
+is_refusable helper.PutSyncAutosuspend called = has_put called
+is_refusable _ called = false
+
+-- such a call answers EINVAL, where an error of its device is stored
+abbrev pub is_poisoned : ℕ → Option Called → Helper → ℤ → Bool
+is_poisoned error called h code = int_eq code EINVAL && nat_lt 0 error && is_refusable h called
+
+-- poisoned: it names the line that stored the error
+abbrev pub poisoned : ℕ → List Count → Option Called → ActorId → Event → Option Kind
+poisoned error counts called actor (event.Ret h d code) =
+    only_if (is_poisoned error called h code) (kind.Poisoned actor h d error (keeps_count counts called actor))
+poisoned error counts called actor _ = None
+
+-- answer: a call answers another error
+abbrev pub answer : ℕ → List Count → Option Called → ActorId → Event → Option Kind
+answer error counts called actor (event.Ret h d code) =
+    only_if (is_error code && not (is_poisoned error called h code)) (kind.Answer actor h d code (keeps_count counts called actor))
+answer error counts called actor _ = None
 
 -- refused: a call asks to try again
 abbrev pub refused : ActorId → Event → Option Kind
@@ -78,21 +109,17 @@ abbrev pub disabled_on : List Count → Status → Event → Option Kind
 disabled_on counts status (event.Ret h d code) = only_if (is_disable h && is_active_status status) (kind.DisabledOn d (earliest counts))
 disabled_on counts status _ = None
 
--- never on: a put of a caller, where the device isn't Active and was Active after no line since the get of the count
+-- never on: a put of a caller, where the device isn't Active and was Active after no line since the get of the count, and no call of
+-- the count's caller on the device answered an error since
 abbrev pub never_on : List Count → Status → ℕ → ActorId → Event → Option Kind
 never_on counts status left actor (event.Put d why.Caller) =
-    option_and_then (λ count. only_if (not (is_active_status status) && nat_le left count.line) (kind.NeverOn actor d count.line)) (taken actor counts)
+    option_and_then (λ count. only_if (not (is_active_status status) && nat_le left count.line && not count.failed) (kind.NeverOn actor d count.line)) (taken actor counts)
 never_on counts status left actor _ = None
 
 -- failed: a callback ends with another code than 0
 abbrev pub failed : Event → Option Kind
 failed (event.End d cb code) = only_if (not (int_eq code (pos 0))) (kind.Failed d cb code)
 failed _ = None
-
--- poisoned: a call answers EINVAL where an error of its device is stored; it names the line that stored it
-abbrev pub poisoned : ℕ → ActorId → Event → Option Kind
-poisoned error actor (event.Ret h d code) = only_if (int_eq code EINVAL && nat_lt 0 error) (kind.Poisoned actor h d error)
-poisoned error actor _ = None
 
 abbrev pub is_note : Weight → Bool
 is_note weight.Error = false
@@ -109,4 +136,7 @@ weight_of (kind.LeftOn d holder) = weight.Warning
 weight_of (kind.DisabledOn d holder) = weight.Warning
 weight_of (kind.NeverOn actor d line) = weight.Warning
 weight_of (kind.Failed d cb code) = weight.Note
-weight_of (kind.Poisoned actor h d line) = weight.Error
+weight_of (kind.Poisoned actor h d line keeps) = weight.Error
+weight_of (kind.Off (bond.Domain d o)) = weight.Error
+weight_of (kind.Off (bond.Parent d p excuse)) = weight.Warning
+weight_of (kind.Off (bond.Supplier d s excuse)) = weight.Warning

@@ -1,9 +1,9 @@
 -- What is kept of all devices and callers while lines are read, and what is told of it.
-use Rattle.std.specs.Prelude.{ℕ, List, ◌++◌, Option, Some, None, slice_index_or, slice_set}
-use Rattle.std.specs.Option.{option_map_or}
+use Rattle.std.specs.Prelude.{ℕ, List, ◌++◌, Option, None, slice_index_or, slice_set}
 use Rattle.pm_base.specs.declared.ActorId.{ActorId}
 use Rattle.pm_base.specs.declared.ActorId.TheVariants.{Caller, Work, Timer}
 use Rattle.pm_base.specs.declared.DevId.{DevId}
+use Rattle.pm_model.specs.declared.event.Event.{Event}
 use Rattle.pm_model.specs.declared.event.Line.{Line}
 use Rattle.pm_model.specs.Counted.{only_if}
 use Rattle.pm_model.specs.Derived.{is_active_status}
@@ -16,7 +16,7 @@ use Rattle.pm_findings.specs.declared.watched.Count.{Count}
 use Rattle.pm_findings.specs.AllFound.{at_line}
 use Rattle.pm_findings.specs.Kept.{AreCalled, AreKnown, Known, known_after, row_at}
 use Rattle.pm_findings.specs.OpenCounts.{device_of}
-use Rattle.pm_findings.specs.Said.{called_in}
+use Rattle.pm_findings.specs.Said.{called_after}
 use Rattle.pm_findings.specs.StandsOut.{answer, earliest, failed, leak, disabled_on, never_on, no_count, poisoned, refused, stolen}
 
 -- a row for each device, and the last call of each caller
@@ -30,11 +30,11 @@ called_at calls (Caller c) = slice_index_or calls c None
 called_at calls (Work d) = None
 called_at calls (Timer d) = None
 
--- a call is its caller's last one
-abbrev pub calls_after : ActorId → Option Called → List (Option Called) → List (Option Called)
-calls_after (Caller c) called calls = option_map_or (λ call. slice_set calls c (Some call)) called calls
-calls_after (Work d) called calls = calls
-calls_after (Timer d) called calls = calls
+-- what an event of this actor makes of the last calls
+abbrev pub calls_after : ActorId → ℕ → Event → List (Option Called) → List (Option Called)
+calls_after (Caller c) number e calls = slice_set calls c (called_after number e (slice_index_or calls c None))
+calls_after (Work d) number e calls = calls
+calls_after (Timer d) number e calls = calls
 
 abbrev pub rows_after : ℕ → Line → List Known → List Known
 rows_after number line rows =
@@ -44,7 +44,7 @@ rows_after number line rows =
 abbrev pub table_after : ℕ → Line → Table → Table
 table_after number line t = record {
   rows = rows_after number line t.rows;
-  calls = calls_after line.actor (called_in number line.event) t.calls;
+  calls = calls_after line.actor number line.event t.calls;
 }
 
 -- the open counts of a device in a table
@@ -61,10 +61,10 @@ counts_told left x called number line =
 -- of returns
 abbrev pub answers_told : Known → Option Called → ℕ → Line → List Finding
 answers_told x called number line =
-    at_line number (answer x.counts called line.actor line.event)
+    at_line number (answer x.error x.counts called line.actor line.event)
     ++ at_line number (refused line.actor line.event)
     ++ at_line number (no_count line.actor line.event)
-    ++ at_line number (poisoned x.error line.actor line.event)
+    ++ at_line number (poisoned x.error x.counts called line.actor line.event)
     ++ at_line number (disabled_on x.counts x.status line.event)
 
 -- and of callbacks too

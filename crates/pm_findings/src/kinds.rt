@@ -3,20 +3,14 @@
 ghost use Rattle.std.specs.Prelude.{◌≡◌, ◌&&◌, nat_eq, nat_lt, option_map, reverse};
 ghost use Rattle.std.specs.List.{list_any};
 ghost use Rattle.pm_findings.specs.OpenCounts.{is_of};
-ghost use Rattle.pm_findings.specs.StandsOut.{answer, asks_again, earliest, failed, keeps_count, leak, disabled_on, never_on, no_count, poisoned, refused, stolen};
+ghost use Rattle.pm_findings.specs.StandsOut.{answer, disabled_on, earliest, failed, has_put, is_poisoned, is_refusable, keeps_count, leak, never_on, no_count, poisoned, refused, stolen};
 ghost use Rattle.pm_model.specs.Derived.{is_active_status};
 
 use crate::Kind;
+use crate::codes::{asks_again, is_error};
 use crate::watched::{Called, Count, Watched, is_actor};
-use pm_base::{ActorId, EAGAIN, EBUSY, EINPROGRESS, EINVAL, Status, Why};
+use pm_base::{ActorId, EINVAL, Status, Why};
 use pm_model::{Event, Helper, Line};
-
-// Whether a code asks to try again.
-fn asks_again(code: i32) -> bool
-    ensures { result ≡ asks_again code }
-{
-    code == EAGAIN || code == EBUSY || code == EINPROGRESS
-}
 
 // Whether one of these counts was taken in this line.
 fn has_line(counts: &[Count], number: u32) -> bool
@@ -120,20 +114,83 @@ pub fn stolen(row: &Watched, line: &Line) -> Option<Kind>
     })
 }
 
-/// A call that answers an error.
-pub fn answer(row: &Watched, called: Option<Called>, line: &Line) -> Option<Kind>
-    ensures { result ≡ answer row.now.counts called line.now.actor line.now.event }
+// Whether a call has put a count.
+fn has_put(called: Option<Called>) -> bool
+    ensures { result ≡ has_put called }
 {
-    match line.event {
-        Event::Ret { helper, dev, code } if code < 0 && !asks_again(code) => Some(Kind::Answer {
-            actor: line.actor,
-            helper,
-            dev,
-            code,
-            keeps: keeps_count(row, called, line.actor),
-        }),
-        _ => None,
+    match called {
+        Some(call) => call.has_put,
+        None => false,
     }
+}
+
+// Whether a stored error refuses a call of this helper.
+fn is_refusable(helper: Helper, called: Option<Called>) -> bool
+    ensures { result ≡ is_refusable helper called }
+{
+    match helper {
+        Helper::GetSync
+        | Helper::Get
+        | Helper::Resume
+        | Helper::RequestResume
+        | Helper::Idle
+        | Helper::RequestIdle
+        | Helper::Suspend
+        | Helper::Autosuspend
+        | Helper::RequestAutosuspend
+        | Helper::ScheduleSuspend => true,
+        Helper::Put
+        | Helper::PutSync
+        | Helper::PutAutosuspend
+        | Helper::PutSyncSuspend
+        | Helper::PutSyncAutosuspend => has_put(called),
+        _ => false,
+    }
+}
+
+// Whether a call answers `EINVAL` since an error is stored in this line, or in none where that is 0.
+fn is_poisoned(error: u32, called: Option<Called>, helper: Helper, code: i32) -> bool
+    ensures { result ≡ is_poisoned error called helper code }
+{
+    code == EINVAL && error > 0 && is_refusable(helper, called)
+}
+
+/// A call that answers `EINVAL` since the device has an error.
+pub fn poisoned(row: &Watched, called: Option<Called>, line: &Line) -> Option<Kind>
+    ensures { result ≡ poisoned row.now.error row.now.counts called line.now.actor line.now.event }
+{
+    let Event::Ret { helper, dev, code } = line.event else {
+        return None;
+    };
+    if !is_poisoned(row.error(), called, helper, code) {
+        return None;
+    }
+    Some(Kind::Poisoned {
+        actor: line.actor,
+        helper,
+        dev,
+        line: row.error(),
+        keeps: keeps_count(row, called, line.actor),
+    })
+}
+
+/// A call that answers another error.
+pub fn answer(row: &Watched, called: Option<Called>, line: &Line) -> Option<Kind>
+    ensures { result ≡ answer row.now.error row.now.counts called line.now.actor line.now.event }
+{
+    let Event::Ret { helper, dev, code } = line.event else {
+        return None;
+    };
+    if !is_error(code) || is_poisoned(row.error(), called, helper, code) {
+        return None;
+    }
+    Some(Kind::Answer {
+        actor: line.actor,
+        helper,
+        dev,
+        code,
+        keeps: keeps_count(row, called, line.actor),
+    })
 }
 
 /// A call that is to be tried again.
@@ -186,7 +243,7 @@ pub fn disabled_on(row: &Watched, line: &Line) -> Option<Kind>
     }
 }
 
-/// A put of a count during which its device was never Active.
+/// A put of a count during which its device was never Active and its caller was told no error of the device.
 pub fn never_on(row: &Watched, line: &Line) -> Option<Kind>
     ensures { result ≡ never_on row.now.counts row.now.status row.now.left line.now.actor line.now.event }
 {
@@ -198,7 +255,7 @@ pub fn never_on(row: &Watched, line: &Line) -> Option<Kind>
         return None;
     };
     let count = row.taken(line.actor)?;
-    if is_active(row.status()) || row.left() > count.line {
+    if is_active(row.status()) || row.left() > count.line || count.failed {
         return None;
     }
     Some(Kind::NeverOn {
@@ -214,25 +271,6 @@ pub fn failed(line: &Line) -> Option<Kind>
 {
     match line.event {
         Event::End { dev, cb, code } if code != 0 => Some(Kind::Failed { dev, cb, code }),
-        _ => None,
-    }
-}
-
-/// A call that answers an error since the device has one.
-pub fn poisoned(error: u32, line: &Line) -> Option<Kind>
-    ensures { result ≡ poisoned error line.now.actor line.now.event }
-{
-    match line.event {
-        Event::Ret {
-            helper,
-            dev,
-            code: EINVAL,
-        } if error > 0 => Some(Kind::Poisoned {
-            actor: line.actor,
-            helper,
-            dev,
-            line: error,
-        }),
         _ => None,
     }
 }

@@ -6,9 +6,12 @@ ghost use Rattle.std.specs.List.{list_all};
 ghost use Rattle.pm_findings.specs.AllFound.{all_found};
 ghost use Rattle.pm_findings.specs.StandsOut.{weight_of};
 ghost use Rattle.pm_findings.specs.WatchTable.{IsTable};
+ghost use Rattle.pm_model.specs.Lawful.{IsLawful};
 ghost use Rattle.pm_model.specs.LineOf.{is_line_of};
 
+mod breaking;
 mod choosing;
+mod codes;
 mod kinds;
 mod laws;
 mod shown;
@@ -19,6 +22,7 @@ mod watched;
 pub use choosing::{faults, has_faults};
 pub use laws::{never_on_is_said, open_counts_are_share, puts_find_counts};
 use pm_base::{ActorId, Cb, DevId, NoMemory};
+pub use pm_bonds::{Bond, Excuse};
 use pm_model::{Helper, Line, Plan};
 use std::alloc::Global;
 use telling::{after, at_end, at_lines};
@@ -52,7 +56,7 @@ pub enum Kind {
         owner: ActorId,
         line: u32,
     },
-    /// A call that answers an error, and whether a count is open that the call took.
+    /// A call that answers another error, and whether a count is open that the call took.
     Answer {
         actor: ActorId,
         helper: Helper,
@@ -83,7 +87,8 @@ pub enum Kind {
         dev: DevId,
         holder: Option<Count>,
     },
-    /// A put of a count during which the device was never Active, and the line of its get.
+    /// A put of a count during which the device was never Active and its caller was told no error of the device, and
+    /// the line of its get.
     NeverOn {
         actor: ActorId,
         dev: DevId,
@@ -95,13 +100,17 @@ pub enum Kind {
         cb: Cb,
         code: i32,
     },
-    /// A call that answers an error since the device has one, and the line that stored it.
+    /// A call that answers `EINVAL` since the device has an error, the line that stored it, and whether a count is
+    /// open that the call took.
     Poisoned {
         actor: ActorId,
         helper: Helper,
         dev: DevId,
         line: u32,
+        keeps: bool,
     },
+    /// A bond of an Active device that the line broke: its domain is off, or its parent or a supplier isn't Active.
+    Off(Bond),
 }
 
 /// What stands out, and at which line.
@@ -112,14 +121,21 @@ pub struct Finding {
 }
 
 impl Kind {
-    /// How much it weighs: a finding of the caller's own fault is an error, what may be meant a warning.
+    /// How much it weighs: a finding of the caller's own fault, or a domain that is off, is an error, what may be meant
+    /// a warning.
     pub fn weight(&self) -> Weight
         ensures { result ≡ weight_of self.now }
     {
         match self {
-            Kind::Leak { .. } | Kind::Stolen { .. } | Kind::Answer { .. } | Kind::Poisoned { .. } =>
-                Weight::Error,
-            Kind::LeftOn { .. } | Kind::DisabledOn { .. } | Kind::NeverOn { .. } => Weight::Warning,
+            Kind::Leak { .. }
+            | Kind::Stolen { .. }
+            | Kind::Answer { .. }
+            | Kind::Poisoned { .. }
+            | Kind::Off(Bond::Domain { .. }) => Weight::Error,
+            Kind::LeftOn { .. }
+            | Kind::DisabledOn { .. }
+            | Kind::NeverOn { .. }
+            | Kind::Off(Bond::Parent { .. } | Bond::Supplier { .. }) => Weight::Warning,
             Kind::Refused { .. } | Kind::NoCount { .. } | Kind::Failed { .. } => Weight::Note,
         }
     }
@@ -138,9 +154,9 @@ fn ends_of(alloc: Global, plan: &Plan, lines: &[Line], is_finished: bool) -> Res
     }
 }
 
-/// All that stands out at these lines of a plan, in their order, and at the end where the run is finished. It
-/// reads the lines twice, or once where it isn't, and at each line it looks at the counts that are open on the
-/// line's device. Fails where memory runs out.
+/// All that stands out at these lines of a run of a plan, in their order, and at the end where the run is finished.
+/// It reads the lines twice, or once where it isn't, and at each line it looks at the counts that are open on the
+/// line's device, and at that one's children and links. Fails where memory runs out.
 pub fn findings(
     alloc: Global,
     plan: &Plan,
@@ -148,8 +164,9 @@ pub fn findings(
     is_finished: bool,
 ) -> Result<Vec<Finding>, NoMemory>
     requires few { length lines.now < 2 ^ 32 }
+    requires lawful { IsLawful plan.now (reverse lines.now) }
     requires of_plan { list_all (is_line_of plan.now) (reverse lines.now) ≡ true }
-    ensures { IfOk result (λ all. all.items ≡ all_found (length plan.now.devices) is_finished (reverse lines.now)) }
+    ensures { IfOk result (λ all. all.items ≡ all_found plan.now is_finished (reverse lines.now)) }
 {
     let ends = ends_of(alloc, plan, lines, is_finished)?;
     let mut all = at_lines(alloc, plan, &ends, lines)?;

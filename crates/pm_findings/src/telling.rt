@@ -6,8 +6,10 @@ ghost use Rattle.pm_findings.specs.AllFound.{at_line, found_in};
 ghost use Rattle.pm_findings.specs.Kept.{row_at};
 ghost use Rattle.pm_findings.specs.OpenCounts.{device_of};
 ghost use Rattle.pm_findings.specs.WatchTable.{IsTable, answers_told, counts_in, counts_told, on_in, table_after, told, told_at};
+ghost use Rattle.pm_model.specs.Lawful.{IsLawful};
 ghost use Rattle.pm_model.specs.LineOf.{is_line_of};
 
+use crate::breaking::tell_broken;
 use crate::kinds::{
     answer, disabled_on, earliest, failed, is_active, leak, never_on, no_count, poisoned, refused,
     stolen,
@@ -16,6 +18,7 @@ use crate::watch::{Watch, device_of};
 use crate::watched::{Called, Watched};
 use crate::{Finding, Kind};
 use pm_base::{DevId, NoMemory};
+use pm_bonds::Bonds;
 use pm_model::{Line, Plan};
 use std::alloc::Global;
 
@@ -61,7 +64,7 @@ fn tell_answers(
     push(all, number, answer(row, called, line))?;
     push(all, number, refused(line))?;
     push(all, number, no_count(line))?;
-    push(all, number, poisoned(row.error(), line))?;
+    push(all, number, poisoned(row, called, line))?;
     push(all, number, disabled_on(row, line))?;
     Ok(())
 }
@@ -118,8 +121,8 @@ pub fn after(alloc: Global, plan: &Plan, lines: &[Line]) -> Result<Watch, NoMemo
     Ok(watch)
 }
 
-/// What stands out at these lines, in their order, where this is what is left at the end. Fails where memory
-/// runs out.
+/// What stands out at these lines of a run, in their order, where this is what is left at the end. Fails where
+/// memory runs out.
 pub fn at_lines(
     alloc: Global,
     plan: &Plan,
@@ -127,16 +130,19 @@ pub fn at_lines(
     lines: &[Line],
 ) -> Result<Vec<Finding>, NoMemory>
     requires few { length lines.now < 2 ^ 32 }
+    requires lawful { IsLawful plan.now (reverse lines.now) }
     requires of_plan { list_all (is_line_of plan.now) (reverse lines.now) ≡ true }
     requires ends { length ends.now.rows ≡ length plan.now.devices + 1 }
-    ensures { IfOk result (λ all. all.items ≡ found_in (counts_in ends.now) (reverse lines.now)) }
+    ensures { IfOk result (λ all. all.items ≡ found_in plan.now (counts_in ends.now) (reverse lines.now)) }
 {
     let mut watch = Watch::new(alloc, plan.devices.len() + 1, plan.callers.len())?;
+    let mut bonds = Bonds::start(alloc, plan)?;
     let mut all = Vec::new(alloc);
     let mut number = 0;
     for line in lines {
         number += 1;
         step(&mut all, ends, &mut watch, number, line)?;
+        tell_broken(alloc, &mut all, &mut bonds, plan, number, line)?;
     }
     Ok(all)
 }

@@ -1,13 +1,13 @@
 //! What is kept of all devices and callers while lines are read.
 
-ghost use Rattle.std.specs.Prelude.{◌≡◌, ◌<◌, IfOk, None, OnOk, Some, length, replicate, slice_set};
+ghost use Rattle.std.specs.Prelude.{◌≡◌, ◌<◌, IfOk, None, OnOk, length, replicate, slice_index_or, slice_set};
 ghost use Rattle.pm_findings.specs.Kept.{row_at, unknown};
 ghost use Rattle.pm_findings.specs.OpenCounts.{device_of};
-ghost use Rattle.pm_findings.specs.Said.{called_in};
+ghost use Rattle.pm_findings.specs.Said.{called_after, with_put};
 ghost use Rattle.pm_findings.specs.WatchTable.{called_at, calls_after, rows_after, table_after};
 
 use crate::watched::{Called, Watched};
-use pm_base::{ActorId, DevId, NoMemory};
+use pm_base::{ActorId, DevId, NoMemory, Why};
 use pm_model::{Event, Line};
 use std::alloc::Global;
 use std::marker::Model;
@@ -51,16 +51,34 @@ pub fn device_of(event: &Event) -> DevId
     }
 }
 
-// The call that a line begins.
-fn called_in(number: u32, event: &Event) -> Option<Called>
-    ensures { result ≡ called_in number event.now }
+// The same call, which has put a count.
+fn with_put(call: Called) -> Called
+    ensures { result ≡ with_put call }
+{
+    Called {
+        has_put: true,
+        ..call
+    }
+}
+
+// What an event of a caller makes of its last call.
+fn called_after(number: u32, event: &Event, before: Option<Called>) -> Option<Called>
+    ensures { result ≡ called_after number event.now before }
 {
     match *event {
         Event::Call { command } => Some(Called {
             helper: command.helper,
             line: number,
+            has_put: false,
         }),
-        _ => None,
+        Event::Put {
+            why: Why::Caller,
+            ..
+        } => match before {
+            Some(call) => Some(with_put(call)),
+            None => None,
+        },
+        _ => before,
     }
 }
 
@@ -75,13 +93,13 @@ fn fresh_rows(alloc: Global, count: usize) -> Result<Vec<Watched>, NoMemory>
     Ok(rows)
 }
 
-// Takes note of a call.
-fn note_call(calls: &mut [Option<Called>], caller: u32, call: Called)
-    ensures { calls.new ≡ slice_set calls.old caller (Some call) }
+// Takes note of an event of a caller in its last call.
+fn note_call(calls: &mut [Option<Called>], caller: u32, number: u32, event: &Event)
+    ensures { calls.new ≡ slice_set calls.old caller (called_after number event.now (slice_index_or calls.old caller None)) }
 {
     let place = caller as usize;
     if place < calls.len() {
-        calls[place] = Some(call);
+        calls[place] = called_after(number, event, calls[place]);
     }
 }
 
@@ -116,14 +134,12 @@ impl Watch {
         }
     }
 
-    // Takes note of the call of a line.
+    // Takes note of a line in the last call of its actor.
     fn follow_call(&mut self, number: u32, line: &Line)
-        ensures { self.new ≡ record self.old { calls = calls_after line.now.actor (called_in number line.now.event) self.old.calls } }
+        ensures { self.new ≡ record self.old { calls = calls_after line.now.actor number line.now.event self.old.calls } }
     {
         if let ActorId::Caller(caller) = line.actor {
-            if let Some(call) = called_in(number, &line.event) {
-                note_call(&mut self.calls, caller, call);
-            }
+            note_call(&mut self.calls, caller, number, &line.event);
         }
     }
 

@@ -1,29 +1,33 @@
 //! What is kept of a device while lines are read.
 
-ghost use Rattle.std.specs.Prelude.{◌≡◌, ◌&&◌, OnOk, if◌then◌else◌, not, position, remove, reverse, slice_get};
+ghost use Rattle.std.specs.Prelude.{◌≡◌, ◌&&◌, OnOk, if◌then◌else◌, map, not, position, remove, reverse, slice_get};
 ghost use Rattle.pm_findings.specs.Kept.{error_after, error_in, known_after, status_after, status_in, unknown};
-ghost use Rattle.pm_findings.specs.OpenCounts.{counts_after, is_of, taken, taken_place};
+ghost use Rattle.pm_findings.specs.OpenCounts.{counts_after, is_of, taken, taken_place, with_error};
 ghost use Rattle.pm_model.specs.Counted.{word_status};
 ghost use Rattle.pm_model.specs.Derived.{is_active_status};
 ghost use Rattle.pm_model.specs.Promises.{is_actor};
 
+use crate::codes::is_error;
 use pm_base::{ActorId, Cb, EAGAIN, EBUSY, NoMemory, Status, Why};
 use pm_model::{Event, Helper, Line, Word};
 use std::alloc::Global;
 use std::marker::Model;
 
-/// A count that a caller took and that nothing has taken away: who took it, and in which line.
+/// A count that a caller took and that nothing has taken away: who took it, in which line, and whether a call of
+/// this caller on the device has answered an error since.
 #[derive(Clone, Copy, Debug, PartialEq, Eq)]
 pub struct Count {
     pub actor: ActorId,
     pub line: u32,
+    pub failed: bool,
 }
 
-/// A call of a caller, and its line.
+/// A call of a caller, its line, and whether it has put a count.
 #[derive(Clone, Copy, Debug, PartialEq, Eq)]
 pub struct Called {
     pub helper: Helper,
     pub line: u32,
+    pub has_put: bool,
 }
 
 /// What the lines so far tell of a device: its open counts, its status, the line that stored its error, and the
@@ -151,7 +155,27 @@ fn take_away(counts: &mut Vec<Count>, place: usize)
     }
 }
 
+// The same count, where a call of this actor on the device has answered an error.
+fn with_error(actor: ActorId, count: Count) -> Count
+    ensures { result ≡ with_error actor count }
+{
+    Count {
+        failed: count.failed || is_actor(actor, count.actor),
+        ..count
+    }
+}
+
+// Notes in the open counts of a device that a call of this actor has answered an error.
+fn note_error(counts: &mut Vec<Count>, actor: ActorId)
+    ensures { counts.new.items ≡ map (with_error actor) counts.old.items }
+{
+    for count in counts.iter_mut() {
+        *count = with_error(actor, *count);
+    }
+}
+
 // What a line by this actor makes of the open counts of its device.
+#[tactic(auto, using(crate::proofs::CountLemmas::reverse_map))]
 fn follow_counts(
     counts: &mut Vec<Count>,
     actor: ActorId,
@@ -167,6 +191,7 @@ fn follow_counts(
         } => counts.push(Count {
             actor,
             line: number,
+            failed: false,
         })?,
         Event::Put {
             why: Why::Caller,
@@ -175,6 +200,7 @@ fn follow_counts(
             let place = taken_place(counts, actor);
             take_away(counts, place);
         }
+        Event::Ret { code, .. } if is_error(code) => note_error(counts, actor),
         _ => {}
     }
     Ok(())

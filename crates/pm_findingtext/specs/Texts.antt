@@ -1,12 +1,20 @@
 -- The text of findings (this project's own).
-use Rattle.std.specs.Prelude.{ℕ, Bool, List, [], ◌∷◌, ◌++◌, Option, Some, None, ℤ, codes, decimal, nat_eq, if◌then◌else◌}
+use Rattle.std.specs.Prelude.{ℕ, Bool, List, [], ◌∷◌, ◌++◌, Option, Some, None, ℤ, codes, decimal, map, nat_eq, slice_index_or, if◌then◌else◌}
 use Rattle.std.specs.Fmt.{signed_decimal}
 use Rattle.std.specs.List.{flat_map}
 use Rattle.std.specs.Ordering.{int_eq}
+use Rattle.pm_base.specs.declared.ActorId.{ActorId}
 use Rattle.pm_base.specs.declared.DevId.{DevId}
+use Rattle.pm_base.specs.declared.DomId.{DomId}
 use Rattle.pm_base.specs.declared.codes.TheConstants.{EACCES, EAGAIN, EBUSY, EINPROGRESS, EINVAL, EIO, EPERM, ETIMEDOUT}
+use Rattle.pm_bonds.specs.declared.bond.Bond.{Bond}
+use Rattle.pm_bonds.specs.declared.bond.Bond.TheVariants as bond
+use Rattle.pm_bonds.specs.declared.bond.Excuse.{Excuse}
+use Rattle.pm_bonds.specs.declared.bond.Excuse.TheVariants as excuse
 use Rattle.pm_model.specs.declared.event.Helper.{Helper}
+use Rattle.pm_model.specs.declared.plan.Plan.{Plan}
 use Rattle.pm_model.specs.Derived.{first_of}
+use Rattle.pm_model.specs.Text.{names_of}
 use Rattle.pm_model.specs.Spelling.{Names, actor_text, cb_word, device_name, device_part, helper_word, newline}
 use Rattle.pm_findings.specs.declared.Finding.{Finding}
 use Rattle.pm_findings.specs.declared.Kind.{Kind}
@@ -31,7 +39,10 @@ kind_word (kind.LeftOn d holder) = codes "left on"
 kind_word (kind.DisabledOn d holder) = codes "left on"
 kind_word (kind.NeverOn actor d line) = codes "never on"
 kind_word (kind.Failed d cb code) = codes "failed"
-kind_word (kind.Poisoned actor h d line) = codes "poisoned"
+kind_word (kind.Poisoned actor h d line keeps) = codes "poisoned"
+kind_word (kind.Off (bond.Domain d o)) = codes "off domain"
+kind_word (kind.Off (bond.Parent d p excuse)) = codes "off parent"
+kind_word (kind.Off (bond.Supplier d s excuse)) = codes "off supplier"
 
 -- the name of a code, if it has one
 abbrev pub code_name : ℤ → List ℕ
@@ -68,30 +79,71 @@ holder_text names None = codes ", held by no caller"
 abbrev pub keeps_text : Bool → List ℕ
 keeps_text keeps = if keeps then codes " and keeps its count" else []
 
+-- the name of a domain
+abbrev pub domain_name : Plan → DomId → List ℕ
+domain_name plan o = slice_index_or (map (λ row. row.name) plan.domains) o.0 []
+
+-- what excuses d from its parent or a supplier x
+abbrev pub excuse_text : Names → DevId → DevId → Excuse → List ℕ
+excuse_text names d x (excuse.Forced line) = codes "line " ++ decimal line ++ codes " forced the status of " ++ device_name names x.0
+excuse_text names d x excuse.Disabled = device_name names x.0 ++ codes " was disabled when " ++ device_name names d.0 ++ codes " went on"
+excuse_text names d x excuse.Ignored = device_name names x.0 ++ codes " ignored its children"
+
+-- d is Active, and its parent or a supplier isn't
+abbrev pub off_text : Names → DevId → List ℕ → DevId → Excuse → List ℕ
+off_text names d bond x excuse =
+    device_name names d.0 ++ codes " is active and its " ++ bond ++ codes " " ++ device_name names x.0 ++ codes " isn't: " ++ excuse_text names d x excuse
+
+-- what is told of a bond that is off
+abbrev pub bond_text : Plan → Bond → List ℕ
+bond_text plan (bond.Domain d o) = device_name (names_of plan) d.0 ++ codes " is active and its domain " ++ domain_name plan o ++ codes " is off"
+bond_text plan (bond.Parent d p excuse) = off_text (names_of plan) d (codes "parent") p excuse
+bond_text plan (bond.Supplier d s excuse) = off_text (names_of plan) d (codes "supplier") s excuse
+
+-- what a call answers
+abbrev pub answer_text : Names → ActorId → Helper → DevId → ℤ → List ℕ
+answer_text names actor h d code = actor_text names actor ++ codes ": " ++ call_text names h d ++ codes " answers " ++ code_text code
+
+abbrev pub error_text : Names → ActorId → Helper → DevId → ℤ → Bool → List ℕ
+error_text names actor h d code keeps = answer_text names actor h d code ++ keeps_text keeps
+
 -- what is told of a finding of this kind
-abbrev pub kind_text : Names → Kind → List ℕ
-kind_text names (kind.Leak actor d h) = actor_text names actor ++ codes " never gives back the count of " ++ device_name names d.0 ++ taken_text h
-kind_text names (kind.Stolen actor d owner line) =
+abbrev pub kind_text : Plan → Kind → List ℕ
+kind_text plan (kind.Leak actor d h) =
+    let names = names_of plan in
+    actor_text names actor ++ codes " never gives back the count of " ++ device_name names d.0 ++ taken_text h
+kind_text plan (kind.Stolen actor d owner line) =
+    let names = names_of plan in
     actor_text names actor ++ codes " puts a count of " ++ device_name names d.0 ++ codes " that " ++ actor_text names owner ++ codes " took in line " ++ decimal line
-kind_text names (kind.Answer actor h d code keeps) = actor_text names actor ++ codes ": " ++ call_text names h d ++ codes " answers " ++ code_text code ++ keeps_text keeps
-kind_text names (kind.Refused actor h d code) = actor_text names actor ++ codes ": " ++ call_text names h d ++ codes " answers " ++ code_text code
-kind_text names (kind.NoCount actor h d) = actor_text names actor ++ codes ": " ++ call_text names h d ++ codes " answers 0 and takes no count"
-kind_text names (kind.LeftOn d holder) = device_name names d.0 ++ codes " is active at the end" ++ holder_text names holder
-kind_text names (kind.DisabledOn d holder) = device_name names d.0 ++ codes " is disabled while it is active" ++ holder_text names holder
-kind_text names (kind.NeverOn actor d line) =
+kind_text plan (kind.Answer actor h d code keeps) = error_text (names_of plan) actor h d code keeps
+kind_text plan (kind.Refused actor h d code) = answer_text (names_of plan) actor h d code
+kind_text plan (kind.NoCount actor h d) =
+    let names = names_of plan in
+    actor_text names actor ++ codes ": " ++ call_text names h d ++ codes " answers 0 and takes no count"
+kind_text plan (kind.LeftOn d holder) =
+    let names = names_of plan in
+    device_name names d.0 ++ codes " is active at the end" ++ holder_text names holder
+kind_text plan (kind.DisabledOn d holder) =
+    let names = names_of plan in
+    device_name names d.0 ++ codes " is disabled while it is active" ++ holder_text names holder
+kind_text plan (kind.NeverOn actor d line) =
+    let names = names_of plan in
     actor_text names actor ++ codes " puts the count of line " ++ decimal line ++ codes ", and " ++ device_name names d.0 ++ codes " was never active in between"
-kind_text names (kind.Failed d cb code) = device_name names d.0 ++ codes ": the " ++ cb_word cb ++ codes " callback answers " ++ code_text code
-kind_text names (kind.Poisoned actor h d line) =
-    actor_text names actor ++ codes ": " ++ call_text names h d ++ codes " answers -22 (EINVAL) since line " ++ decimal line ++ codes " stored an error"
+kind_text plan (kind.Failed d cb code) =
+    let names = names_of plan in
+    device_name names d.0 ++ codes ": the " ++ cb_word cb ++ codes " callback answers " ++ code_text code
+kind_text plan (kind.Poisoned actor h d line keeps) =
+    error_text (names_of plan) actor h d EINVAL keeps ++ codes ": line " ++ decimal line ++ codes " stored an error"
+kind_text plan (kind.Off bond) = bond_text plan bond
 
 -- the line of a finding in a trace that is called so: its place, its weight, its kind and what is told of it
-abbrev pub finding_text : Names → List ℕ → Finding → List ℕ
-finding_text names file found =
-    file ++ codes ":" ++ decimal found.line ++ codes ": " ++ weight_word (weight_of found.kind) ++ codes ": " ++ kind_word found.kind ++ codes ": " ++ kind_text names found.kind ++ newline
+abbrev pub finding_text : Plan → List ℕ → Finding → List ℕ
+finding_text plan file found =
+    file ++ codes ":" ++ decimal found.line ++ codes ": " ++ weight_word (weight_of found.kind) ++ codes ": " ++ kind_word found.kind ++ codes ": " ++ kind_text plan found.kind ++ newline
 
 -- a line for each finding
-abbrev pub findings_text : Names → List ℕ → List Finding → List ℕ
-findings_text names file all = flat_map (finding_text names file) all
+abbrev pub findings_text : Plan → List ℕ → List Finding → List ℕ
+findings_text plan file all = flat_map (finding_text plan file) all
 
 -- so many of something, in words
 abbrev pub counted_text : ℕ → List ℕ → List ℕ

@@ -6,11 +6,12 @@ ghost use Rattle.pm_findingtext.specs.Texts.{holder_text, keeps_text, kind_text,
 ghost use Rattle.pm_model.specs.Spelling.{cb_word};
 ghost use Rattle.pm_model.specs.Text.{names_of};
 
+use crate::bonds::push_bond;
 use crate::pieces::{
     push, push_actor, push_call, push_code, push_device, push_helper, push_number,
 };
 use crate::words::cb_word;
-use pm_base::{ActorId, Cb, DevId, NoMemory};
+use pm_base::{ActorId, Cb, DevId, EINVAL, NoMemory};
 use pm_findings::{Count, Kind};
 use pm_model::{Helper, Plan};
 
@@ -53,7 +54,7 @@ fn push_leak(
     dev: DevId,
     helper: Option<Helper>,
 ) -> Result<(), NoMemory>
-    ensures { OnOk result (text.new.items ≡ text.old.items ++ kind_text (names_of plan.now) (kind.Leak actor dev helper)) }
+    ensures { OnOk result (text.new.items ≡ text.old.items ++ kind_text plan.now (kind.Leak actor dev helper)) }
 {
     push_actor(text, plan, actor)?;
     push(text, b" never gives back the count of ")?;
@@ -71,7 +72,7 @@ fn push_stolen(
     owner: ActorId,
     line: u32,
 ) -> Result<(), NoMemory>
-    ensures { OnOk result (text.new.items ≡ text.old.items ++ kind_text (names_of plan.now) (kind.Stolen actor dev owner line)) }
+    ensures { OnOk result (text.new.items ≡ text.old.items ++ kind_text plan.now (kind.Stolen actor dev owner line)) }
 {
     push_actor(text, plan, actor)?;
     push(text, b" puts a count of ")?;
@@ -92,7 +93,7 @@ fn push_answer(
     dev: DevId,
     code: i32,
 ) -> Result<(), NoMemory>
-    ensures { OnOk result (text.new.items ≡ text.old.items ++ kind_text (names_of plan.now) (kind.Refused actor helper dev code)) }
+    ensures { OnOk result (text.new.items ≡ text.old.items ++ kind_text plan.now (kind.Refused actor helper dev code)) }
 {
     push_actor(text, plan, actor)?;
     push(text, b": ")?;
@@ -122,7 +123,7 @@ fn push_error(
     code: i32,
     keeps: bool,
 ) -> Result<(), NoMemory>
-    ensures { OnOk result (text.new.items ≡ text.old.items ++ kind_text (names_of plan.now) (kind.Answer actor helper dev code keeps)) }
+    ensures { OnOk result (text.new.items ≡ text.old.items ++ kind_text plan.now (kind.Answer actor helper dev code keeps)) }
 {
     push_answer(text, plan, actor, helper, dev, code)?;
     push_keeps(text, keeps)?;
@@ -137,7 +138,7 @@ fn push_no_count(
     helper: Helper,
     dev: DevId,
 ) -> Result<(), NoMemory>
-    ensures { OnOk result (text.new.items ≡ text.old.items ++ kind_text (names_of plan.now) (kind.NoCount actor helper dev)) }
+    ensures { OnOk result (text.new.items ≡ text.old.items ++ kind_text plan.now (kind.NoCount actor helper dev)) }
 {
     push_actor(text, plan, actor)?;
     push(text, b": ")?;
@@ -153,7 +154,7 @@ fn push_left_on(
     dev: DevId,
     holder: Option<Count>,
 ) -> Result<(), NoMemory>
-    ensures { OnOk result (text.new.items ≡ text.old.items ++ kind_text (names_of plan.now) (kind.LeftOn dev holder)) }
+    ensures { OnOk result (text.new.items ≡ text.old.items ++ kind_text plan.now (kind.LeftOn dev holder)) }
 {
     push_device(text, plan, dev)?;
     push(text, b" is active at the end")?;
@@ -168,7 +169,7 @@ fn push_disabled_on(
     dev: DevId,
     holder: Option<Count>,
 ) -> Result<(), NoMemory>
-    ensures { OnOk result (text.new.items ≡ text.old.items ++ kind_text (names_of plan.now) (kind.DisabledOn dev holder)) }
+    ensures { OnOk result (text.new.items ≡ text.old.items ++ kind_text plan.now (kind.DisabledOn dev holder)) }
 {
     push_device(text, plan, dev)?;
     push(text, b" is disabled while it is active")?;
@@ -184,7 +185,7 @@ fn push_never_on(
     dev: DevId,
     line: u32,
 ) -> Result<(), NoMemory>
-    ensures { OnOk result (text.new.items ≡ text.old.items ++ kind_text (names_of plan.now) (kind.NeverOn actor dev line)) }
+    ensures { OnOk result (text.new.items ≡ text.old.items ++ kind_text plan.now (kind.NeverOn actor dev line)) }
 {
     push_actor(text, plan, actor)?;
     push(text, b" puts the count of line ")?;
@@ -210,7 +211,7 @@ fn push_failed(
     cb: Cb,
     code: i32,
 ) -> Result<(), NoMemory>
-    ensures { OnOk result (text.new.items ≡ text.old.items ++ kind_text (names_of plan.now) (kind.Failed dev cb code)) }
+    ensures { OnOk result (text.new.items ≡ text.old.items ++ kind_text plan.now (kind.Failed dev cb code)) }
 {
     push_device(text, plan, dev)?;
     push(text, b": the ")?;
@@ -228,13 +229,12 @@ fn push_poisoned(
     helper: Helper,
     dev: DevId,
     line: u32,
+    keeps: bool,
 ) -> Result<(), NoMemory>
-    ensures { OnOk result (text.new.items ≡ text.old.items ++ kind_text (names_of plan.now) (kind.Poisoned actor helper dev line)) }
+    ensures { OnOk result (text.new.items ≡ text.old.items ++ kind_text plan.now (kind.Poisoned actor helper dev line keeps)) }
 {
-    push_actor(text, plan, actor)?;
-    push(text, b": ")?;
-    push_call(text, plan, helper, dev)?;
-    push(text, b" answers -22 (EINVAL) since line ")?;
+    push_error(text, plan, actor, helper, dev, EINVAL, keeps)?;
+    push(text, b": line ")?;
     push_number(text, line)?;
     push(text, b" stored an error")?;
     Ok(())
@@ -242,7 +242,7 @@ fn push_poisoned(
 
 /// Appends what is told of a finding of this kind.
 pub(crate) fn push_kind(text: &mut Vec<u8>, plan: &Plan, kind: &Kind) -> Result<(), NoMemory>
-    ensures { OnOk result (text.new.items ≡ text.old.items ++ kind_text (names_of plan.now) kind.now) }
+    ensures { OnOk result (text.new.items ≡ text.old.items ++ kind_text plan.now kind.now) }
 {
     match *kind {
         Kind::Leak { actor, dev, helper } => push_leak(text, plan, actor, dev, helper),
@@ -275,6 +275,8 @@ pub(crate) fn push_kind(text: &mut Vec<u8>, plan: &Plan, kind: &Kind) -> Result<
             helper,
             dev,
             line,
-        } => push_poisoned(text, plan, actor, helper, dev, line),
+            keeps,
+        } => push_poisoned(text, plan, actor, helper, dev, line, keeps),
+        Kind::Off(bond) => push_bond(text, plan, bond),
     }
 }

@@ -3,8 +3,8 @@
 
 ghost use Rattle.std.specs.Prelude.{◌≡◌, ◌++◌, OnOk};
 ghost use Rattle.pm_findingtext.specs.Texts.{count_text, counted_text, finding_text, findings_text};
-ghost use Rattle.pm_model.specs.Text.{names_of};
 
+mod bonds;
 mod kinds;
 mod pieces;
 mod words;
@@ -26,7 +26,7 @@ pub fn push_finding(
     file: &[u8],
     found: &Finding,
 ) -> Result<(), NoMemory>
-    ensures { OnOk result (text.new.items ≡ text.old.items ++ finding_text (names_of plan.now) file.now found.now) }
+    ensures { OnOk result (text.new.items ≡ text.old.items ++ finding_text plan.now file.now found.now) }
 {
     push(text, file)?;
     push(text, b":")?;
@@ -48,7 +48,7 @@ pub fn push_findings(
     file: &[u8],
     all: &[Finding],
 ) -> Result<(), NoMemory>
-    ensures { OnOk result (text.new.items ≡ text.old.items ++ findings_text (names_of plan.now) file.now all.now) }
+    ensures { OnOk result (text.new.items ≡ text.old.items ++ findings_text plan.now file.now all.now) }
 {
     for found in all {
         push_finding(text, plan, file, found)?;

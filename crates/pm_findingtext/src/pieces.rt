@@ -2,13 +2,14 @@
 
 ghost use Rattle.std.specs.Prelude.{◌≡◌, ◌++◌, OnOk, codes, decimal, map, slice_index_or};
 ghost use Rattle.std.specs.Fmt.{signed_decimal};
-ghost use Rattle.pm_findingtext.specs.Texts.{call_text, code_name, code_text};
+ghost use Rattle.pm_findingtext.specs.Texts.{call_text, code_name, code_text, domain_name};
 ghost use Rattle.pm_model.specs.Spelling.{actor_text, caller_name, cb_word, device_name, helper_word};
 ghost use Rattle.pm_model.specs.Text.{names_of};
 
 use itoa::Buffer;
 use pm_base::{
-    ActorId, Cb, DevId, EACCES, EAGAIN, EBUSY, EINPROGRESS, EINVAL, EIO, EPERM, ETIMEDOUT, NoMemory,
+    ActorId, Cb, DevId, DomId, EACCES, EAGAIN, EBUSY, EINPROGRESS, EINVAL, EIO, EPERM, ETIMEDOUT,
+    NoMemory,
 };
 use pm_linetext::{helper_place, takes_device};
 use pm_model::{Helper, Named, Plan};
@@ -63,6 +64,24 @@ pub fn push_device(text: &mut Vec<u8>, plan: &Plan, dev: DevId) -> Result<(), No
     ensures { OnOk result (text.new.items ≡ text.old.items ++ device_name (names_of plan.now) dev.0) }
 {
     push(text, device_name(plan, dev.0))
+}
+
+/// The name of a domain of the plan, and no bytes for another.
+#[tactic(auto, using(crate::proofs::TextLemmas::name_here))]
+fn domain_name(plan: &Plan, place: u32) -> &[u8]
+    ensures { result.now ≡ domain_name plan.now (record { 0 = place }) }
+{
+    match plan.domains.get(place as usize) {
+        Some(row) => row.name().as_slice(),
+        None => &[],
+    }
+}
+
+/// Appends the name of a domain of the plan, and no bytes for another.
+pub(crate) fn push_domain(text: &mut Vec<u8>, plan: &Plan, domain: DomId) -> Result<(), NoMemory>
+    ensures { OnOk result (text.new.items ≡ text.old.items ++ domain_name plan.now domain) }
+{
+    push(text, domain_name(plan, domain.0))
 }
 
 /// Appends the name of an actor. Fails where memory runs out.

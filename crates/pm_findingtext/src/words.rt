@@ -5,7 +5,7 @@ ghost use Rattle.pm_findingtext.specs.Texts.{kind_word, weight_word};
 ghost use Rattle.pm_model.specs.Spelling.{cb_word};
 
 use pm_base::Cb;
-use pm_findings::{Kind, Weight};
+use pm_findings::{Bond, Kind, Weight};
 
 /// The word of a weight.
 pub(crate) fn weight_word(weight: Weight) -> &'static [u8]
@@ -32,6 +32,9 @@ pub(crate) fn kind_word(kind: &Kind) -> &'static [u8]
         Kind::NeverOn { .. } => b"never on",
         Kind::Failed { .. } => b"failed",
         Kind::Poisoned { .. } => b"poisoned",
+        Kind::Off(Bond::Domain { .. }) => b"off domain",
+        Kind::Off(Bond::Parent { .. }) => b"off parent",
+        Kind::Off(Bond::Supplier { .. }) => b"off supplier",
     }
 }
 

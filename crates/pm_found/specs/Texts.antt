@@ -9,14 +9,13 @@ use Rattle.pm_findingtext.specs.Texts.{count_text, findings_text}
 use Rattle.pm_model.specs.History.{History}
 use Rattle.pm_model.specs.Lawful.{is_finished}
 use Rattle.pm_model.specs.NoWhy.{NoWhy}
-use Rattle.pm_model.specs.Spelling.{Names, newline}
-use Rattle.pm_model.specs.Text.{names_of}
+use Rattle.pm_model.specs.Spelling.{newline}
 use Rattle.pm_model.specs.World.{world}
 use Rattle.pm_model.specs.declared.plan.Plan.{Plan}
 
 -- all that stands out in a run of a plan
 abbrev pub run_found : Plan → History → List Finding
-run_found plan h = all_found (length plan.devices) (is_finished plan (world plan h)) h
+run_found plan h = all_found plan (is_finished plan (world plan h)) h
 
 -- an error or a warning is among them
 abbrev pub has_fault : List Finding → Bool
@@ -27,12 +26,12 @@ abbrev pub shown : Bool → List Finding → List Finding
 shown notes all = if notes then all else filter (λ found. not (is_note (weight_of found.kind))) all
 
 -- a line for each of the first 200, and how many there are in how many lines
-abbrev pub shown_text : Names → List ℕ → ℕ → List Finding → List ℕ
-shown_text names file lines all = findings_text names file (take 200 all) ++ count_text (length all) lines
+abbrev pub shown_text : Plan → List ℕ → ℕ → List Finding → List ℕ
+shown_text plan file lines all = findings_text plan file (take 200 all) ++ count_text (length all) lines
 
 -- what is told of a run of a plan, whose trace is called so
 abbrev pub run_text : Plan → History → List ℕ → Bool → List ℕ
-run_text plan h file notes = shown_text (names_of plan) file (length h) (shown notes (run_found plan h))
+run_text plan h file notes = shown_text plan file (length h) (shown notes (run_found plan h))
 
 -- what is told of a trace whose n-th line is the first bad one, for this reason
 abbrev pub unlawful_text : List ℕ → ℕ → NoWhy → List ℕ

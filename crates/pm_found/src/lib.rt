@@ -5,5 +5,5 @@ mod telling;
 mod texts;
 mod trace;
 
-pub use telling::Found;
+pub use telling::{Found, tell, tell_unlawful};
 pub use trace::find;

@@ -29,8 +29,9 @@ fn shown(alloc: Global, notes: bool, all: Vec<Finding>) -> Result<Vec<Finding>, 
     if notes { Ok(all) } else { faults(alloc, &all) }
 }
 
-/// What is told of the run of a book.
-fn found_in(alloc: Global, book: &Book, file: &[u8], notes: bool) -> Result<Found, NoMemory>
+/// What is told of the run of a book, whose trace is called so, with notes or without them: a line for each of the
+/// first 200 findings in the order of the lines, and how many there are. Fails where memory runs out.
+pub fn tell(alloc: Global, book: &Book, file: &[u8], notes: bool) -> Result<Found, NoMemory>
     ensures { IfOk result (λ found. IsFound book.now.plan book.now.lines file.now notes found) }
 {
     lines_are_bounded();
@@ -43,8 +44,9 @@ fn found_in(alloc: Global, book: &Book, file: &[u8], notes: bool) -> Result<Foun
     Ok(Found { text, stands_out })
 }
 
-/// What is told of a trace whose first bad line this is.
-fn unlawful(alloc: Global, file: &[u8], line: u64, why: NoWhy) -> Result<Found, NoMemory>
+/// What is told of a trace that is called so, whose first bad line this is, counted from 1. Fails where memory runs
+/// out.
+pub fn tell_unlawful(alloc: Global, file: &[u8], line: u64, why: NoWhy) -> Result<Found, NoMemory>
     ensures { IfOk result (λ found. IsUnlawful file.now line (reason_of why) found) }
 {
     let mut text = Vec::new(alloc);
@@ -66,8 +68,8 @@ pub(crate) fn told_of(
     ensures { IfOk result (λ found. IsToldOf plan file.now bytes.now notes found) }
 {
     match load_trace(alloc, plan, bytes) {
-        Ok(book) => found_in(alloc, &book, file, notes),
-        Err(LoadFault::No { line, why }) => unlawful(alloc, file, line, why),
+        Ok(book) => tell(alloc, &book, file, notes),
+        Err(LoadFault::No { line, why }) => tell_unlawful(alloc, file, line, why),
         Err(LoadFault::NoMemory) => Err(NoMemory),
     }
 }

@@ -4,7 +4,6 @@ ghost use Rattle.std.specs.Prelude.{◌≡◌, ◌++◌, OnOk, decimal, take};
 ghost use Rattle.pm_audit.specs.Auditing.{reason_of};
 ghost use Rattle.pm_cmd_ends.specs.Said.{why_word};
 ghost use Rattle.pm_found.specs.Texts.{shown_text, unlawful_text};
-ghost use Rattle.pm_model.specs.Text.{names_of};
 
 use itoa::Buffer;
 use pm_audit::NoWhy;
@@ -35,7 +34,7 @@ pub(crate) fn push_shown(
     lines: usize,
     all: &[Finding],
 ) -> Result<(), NoMemory>
-    ensures { OnOk result (text.new.items ≡ text.old.items ++ shown_text (names_of plan.now) file.now lines all.now) }
+    ensures { OnOk result (text.new.items ≡ text.old.items ++ shown_text plan.now file.now lines all.now) }
 {
     push_findings(text, plan, file, first(all))?;
     push_count(text, all.len(), lines)?;

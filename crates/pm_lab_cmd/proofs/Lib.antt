@@ -1,2 +1,1 @@
-pub mod FindLemmas
 pub mod SayLemmas

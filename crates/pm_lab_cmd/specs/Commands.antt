@@ -1,11 +1,7 @@
 -- What each command of pm_lab may come to: its own endings (this project's own).
-use Rattle.std.specs.Prelude.{◌≡◌, ℕ, Bool, Option, Some, None, List, [], IsSome, if◌then◌else◌}
-use Rattle.pm_cmd_ends.specs.Coming.{trace_too_long}
-use Rattle.pm_cmd_ends.specs.Reading.{IsRead, IsTooLong}
-use Rattle.pm_found.specs.Telling.{IsTold}
-use Rattle.pm_found.specs.declared.telling.Found.{Found}
+use Rattle.std.specs.Prelude.{◌≡◌, ℕ, Bool, Option, Some, None, List, []}
 use Rattle.pm_lab_ends.specs.Coming.{Writes, ending_of}
-use Rattle.pm_lab_ends.specs.Ending.{Done, Ending, OfThis, Refused, SaidRefused}
+use Rattle.pm_lab_ends.specs.Ending.{Done, Ending, OfThis, SaidRefused}
 use Rattle.pm_lab_ends.specs.Reading.{OfFile, OfPlan}
 use Rattle.pm_lab_ends.specs.declared.ending.Outcome.{Outcome}
 use Rattle.pm_lab_ends.specs.declared.ending.Outcome.TheVariants as outcome
@@ -15,12 +11,16 @@ use Rattle.pm_say.specs.Says.{Says}
 use Rattle.pm_say.specs.declared.told.Kind.{Kind}
 use Rattle.pm_say.specs.declared.told.Kind.TheVariants as kind
 use Rattle.pm_say.specs.declared.told.Said.{Said}
+use Rattle.pm_lab_find.specs.Check.{CheckEnds, CheckUnread}
+use Rattle.pm_lab_find.specs.Find.{FindUnread, OfFind}
+use Rattle.pm_lab_order.specs.Order.{OrderEnds}
 use Rattle.pm_lab_orders.specs.Orders.{OrdersEnds}
-use Rattle.pm_lab_words.specs.Request.{Asked, Help, HelpOn, Say, Find, Orders, Kernel}
+use Rattle.pm_lab_picture.specs.Picture.{OfPicture, PictureUnread}
+use Rattle.pm_lab_words.specs.Request.{Asked, Help, HelpOn, Say, Find, Check, Picture, Orders, Order, Kernel}
 use Rattle.pm_lab_orders.specs.Seen.{OfSeen, SeenUnread}
 use Rattle.pm_lab_words.specs.declared.names.Command.{Command}
 use Rattle.pm_lab_words.specs.declared.names.Command.TheVariants as command
-use Rattle.pm_lab_cmd.specs.declared.help.TheConstants.{HELP, SAY_PAGE, FIND_PAGE, ORDERS_PAGE, KERNEL_PAGE}
+use Rattle.pm_lab_cmd.specs.declared.help.TheConstants.{HELP, SAY_PAGE, FIND_PAGE, PICTURE_PAGE, ORDERS_PAGE, ORDER_PAGE, KERNEL_PAGE}
 
 -- what the command told, by what the plan came to
 abbrev pub outcome_of : Kind → Outcome
@@ -42,30 +42,13 @@ SayEnds all known file = OfFile all known file (λ told. SaidRefused told) (SayE
 abbrev pub KernelEnds : Plan → Ending → Type 0
 KernelEnds plan ending = ending ≡ Done (module_text plan)
 
--- what `find` told, by whether an error or a warning is in it
-abbrev pub outcome_of_find : Bool → Outcome
-outcome_of_find stands_out = if stands_out then outcome.Found else outcome.Done
-
--- `find PLAN TRACE`: the text is what is told of the trace
-abbrev pub FindEnds : Found → Ending → Type 0
-FindEnds found ending = ending ≡ ending_of (outcome_of_find found.stands_out) found.text.items
-
--- over a plan: a trace that is too long is told so; or the trace is read, and this is what is told of it
-pub data OfFind (all : Bool) (known : Option (List ℕ)) (file : List ℕ) (notes : Bool) (plan : Plan) : Ending → Type 0 where
-  too_many : IsTooLong all known 67108864 → OfFind all known file notes plan (Refused trace_too_long)
-  told : (found : Found) → IsTold all known plan file notes found → (ending : Ending) → FindEnds found ending → OfFind all known file notes plan ending
-
--- which file's read failed, of a plan and a trace: the plan's, and no other file was asked for where all is told of it; or the
--- trace's, and the plan was read
-pub data FindUnread (all : Bool) (known : Option (List ℕ)) (plan trace : List ℕ) (Alone Failed : Type 0) : List ℕ → Type 0 where
-  of_plan : (IsSome known → Alone) → Failed → FindUnread all known plan trace Alone Failed plan
-  of_trace : (read : Plan) → IsRead all known read → Failed → FindUnread all known plan trace Alone Failed trace
-
 -- the page of a command
 abbrev pub page_of : Command → List ℕ
 page_of command.Say = SAY_PAGE.now
 page_of command.Find = FIND_PAGE.now
+page_of command.Picture = PICTURE_PAGE.now
 page_of command.Orders = ORDERS_PAGE.now
+page_of command.Order = ORDER_PAGE.now
 page_of command.Kernel = KERNEL_PAGE.now
 
 -- the endings of the command that is asked for, over files of which so much is told
@@ -74,15 +57,21 @@ AskedEnds all known Help = Writes outcome.Done HELP.now
 AskedEnds all known (HelpOn c) = Writes outcome.Done (page_of c)
 AskedEnds all known (Say plan) = SayEnds all (known plan) plan
 AskedEnds all known (Find plan trace notes) = OfPlan all (known plan) plan (OfFind all (known trace) trace notes)
+AskedEnds all known (Check plan trace expect ktap notes) = OfPlan all (known plan) plan (CheckEnds all known expect trace ktap notes)
+AskedEnds all known (Picture plan trace json) = OfPlan all (known plan) plan (OfPicture all (known trace) trace json)
 AskedEnds all known (Orders plan bounds differ None) = OfPlan all (known plan) plan (OrdersEnds bounds differ)
 AskedEnds all known (Orders plan bounds differ (Some log)) = OfPlan all (known plan) plan (OfSeen all (known log) bounds differ)
+AskedEnds all known (Order plan bounds sought) = OfPlan all (known plan) plan (OrderEnds bounds sought)
 AskedEnds all known (Kernel plan) = OfPlan all (known plan) plan KernelEnds
 
 -- which file's read failed, of those that it reads
 abbrev pub AskedUnread : Bool → (List ℕ → Option (List ℕ)) → Asked → (List ℕ → Type 0) → Type 0 → List ℕ → Type 0
 AskedUnread all known (Say plan) Alone Failed = OfThis plan Failed
 AskedUnread all known (Find plan trace notes) Alone Failed = FindUnread all (known plan) plan trace (Alone plan) Failed
+AskedUnread all known (Check plan trace expect ktap notes) Alone Failed = CheckUnread all known plan expect trace (Alone plan) Failed
+AskedUnread all known (Picture plan trace json) Alone Failed = PictureUnread all (known plan) plan trace (Alone plan) Failed
 AskedUnread all known (Orders plan bounds differ None) Alone Failed = OfThis plan Failed
 AskedUnread all known (Orders plan bounds differ (Some log)) Alone Failed = SeenUnread all (known plan) plan log (Alone plan) Failed
+AskedUnread all known (Order plan bounds sought) Alone Failed = OfThis plan Failed
 AskedUnread all known (Kernel plan) Alone Failed = OfThis plan Failed
 AskedUnread all known _ Alone Failed = OfThis [] ⊥

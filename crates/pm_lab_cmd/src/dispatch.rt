@@ -8,13 +8,15 @@ ghost use Rattle.pm_lab_cmd.specs.Commands.{AskedEnds, AskedUnread};
 ghost use Rattle.pm_lab_ends.specs.Ending.{Answered, usage};
 ghost use Rattle.pm_lab_words.specs.Request.{asked, asked_by};
 
-use crate::find::find_top;
 use crate::help::{help_top, page_top};
 use crate::kernel::kernel_top;
 use crate::say::say_top;
 use pm_io::{Files, Sink};
 use pm_lab_ends::refuse_words;
+use pm_lab_find::{check_top, find_top};
+use pm_lab_order::order_top;
 use pm_lab_orders::{orders_top, seen_top};
+use pm_lab_picture::picture_top;
 use pm_lab_words::{Request, read_words};
 use std::alloc::Global;
 
@@ -39,6 +41,16 @@ fn answer<F: Files, O: Sink, E: Sink>(
         Request::Find { plan, trace, notes } => {
             find_top(alloc, plan, trace, notes, files, out, err)
         }
+        Request::Check {
+            plan,
+            trace,
+            expect,
+            ktap,
+            notes,
+        } => check_top(alloc, plan, trace, expect, ktap, notes, files, out, err),
+        Request::Picture { plan, trace, json } => {
+            picture_top(alloc, plan, trace, json, files, out, err)
+        }
         Request::Orders {
             plan,
             bounds,
@@ -51,6 +63,11 @@ fn answer<F: Files, O: Sink, E: Sink>(
             differ,
             seen: None,
         } => orders_top(alloc, plan, bounds, differ, files, out, err),
+        Request::Order {
+            plan,
+            bounds,
+            sought,
+        } => order_top(alloc, plan, bounds, sought, files, out, err),
         Request::Kernel { plan } => kernel_top(alloc, plan, files, out, err),
     }
 }

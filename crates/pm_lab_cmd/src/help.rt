@@ -12,12 +12,15 @@ use pm_lab_words::Command;
 
 /// The answer of `help`.
 pub const HELP: &[u8] =
-    b"usage: pm_lab say PLAN | find PLAN TRACE [--notes] | orders PLAN [--late] [--most K] [--spots N] [--differ] [--seen LOG] | kernel PLAN
+    b"usage: pm_lab say PLAN | find PLAN TRACE [--expect FILE] [--ktap] [--notes] | picture PLAN TRACE [--json] | orders PLAN [--late] [--most K] [--spots N] [--differ] [--seen LOG] | order PLAN [--late] [--most K] [--spots N] CALLER N CODE|end DEVICE STATUS USAGE ERROR | kernel PLAN
 
-say PLAN          what is wrong with a plan, and where
-find PLAN TRACE   what stands out in a run, each with its line
-orders PLAN       what each call may return, and how each device may end
-kernel PLAN       the plan as a C file: a module that runs it on a Linux kernel
+say PLAN            what is wrong with a plan, and where
+find PLAN TRACE     what stands out in a run, and whether what is expected holds
+picture PLAN TRACE  a run as a picture, or as a timeline for a viewer
+orders PLAN         what each call may return, and how each device may end
+order PLAN ..       the trace of a run in which a call returns a code, or that
+                    leaves a device so
+kernel PLAN         the plan as a C file: a module that runs it on a kernel
 ";
 
 /// The answer of `help say`.
@@ -54,7 +57,7 @@ bytes. 4: it couldn't be read. 5: writing failed. 7: no memory.
 ";
 
 /// The answer of `help find`.
-pub const FIND_PAGE: &[u8] = b"pm_lab find PLAN TRACE [--notes]
+pub const FIND_PAGE: &[u8] = b"pm_lab find PLAN TRACE [--expect FILE] [--ktap] [--notes]
 
 Tells what stands out in a run, in the order of its lines, and how much that is:
 
@@ -66,25 +69,69 @@ FILE:LINE comes first, so that an editor or a CI job jumps there. At most 200
 findings are told; the last line counts them all. The trace is read in either
 format.
 
-    error    leak      a get whose count is never put, in a finished run
-             stolen    a put that takes away another caller's count
-             answer    a call that answers an error
-             poisoned  a call that answers -22 since the device has an error
-    warning  left on   a device that is active at the end of a finished run,
-                       or when it is disabled
-             never on  a count under which its device was never active
-    note     refused   a call that answers -11, -16 or -115
-             no count  a get_if_active or get_if_in_use that answers 0
-             failed    a callback that answers an error
+    error    leak          a get whose count is never put, in a finished run
+             stolen        a put that takes away another caller's count
+             answer        a call that answers an error
+             poisoned      a call that answers -22 since the device has an error
+             off domain    a device is active and a domain of it is off
+    warning  left on       a device that is active at the end of a finished
+                           run, or when it is disabled
+             never on      a count under which its device was never active
+             off parent    a device is active and its parent isn't, and why
+                           that may be
+             off supplier  the same of the supplier of a link
+    note     refused       a call that answers -11, -16 or -115
+             no count      a get_if_active or get_if_in_use that answers 0
+             failed        a callback that answers an error
 
 Notes are told, and counted, with --notes alone. Of a trace that isn't the text
 of a lawful run the first bad line is told, and why:
 
     cam.trace:26: not lawful: step
 
-Status 0: no error or warning stands out. 1: one does, or the trace isn't
-lawful. 2: wrong words. 3: the plan is refused, or a file is too long. 4: one
-couldn't be read; its name is on standard error. 5: writing failed.
+With --expect FILE it tells too which of the expectations in the file fail,
+each at its line there, and how many there are:
+
+    cam.expect.toml:14: failed: end imx suspended: cam.trace:130: imx is active at the end, usage 1
+    expectations 3 failed 1 open 0
+
+An expectation is a table: [[answer]], a call answers a code; [[end]], a device
+ends so; [[use]], during a call a device is active, with all that it needs. One
+that a run decides only later is open. With --ktap they alone are told, in the
+format of the kernel's own tests. A refused file is told of as `say` does it.
+
+Status 0: no error or warning stands out, and no expectation fails. 1: one does,
+or the trace isn't lawful; with --ktap the expectations alone decide. 2: wrong
+words. 3: the plan or the expectations are refused, or a file is too long. 4:
+one couldn't be read; its name is on standard error. 5: writing failed.
+7: no memory.
+";
+
+/// The answer of `help picture`.
+pub const PICTURE_PAGE: &[u8] = b"pm_lab picture PLAN TRACE [--json]
+
+Draws a run as an SVG file, without script, for a browser:
+
+    pm_lab picture cam.toml cam.trace >cam.svg
+
+On top stands what stands out, as `find` tells it. Below come the callers, each
+call a bar with its words and its code; the domains; the devices, children under
+their parents: suspended, resuming, active or suspending, the usage where it
+changes, callbacks as dark bars, work items and timers underneath; and the links
+that are held. At the right stands how each device ends. Point at a shape to see
+its line. From left to right go the lines of the trace, and where time passes a
+step is wider. A run of more than 400 such steps is drawn as an overview, with
+no words.
+
+With --json it writes the run as trace events, for Perfetto and
+chrome://tracing. Times are in microseconds: the milliseconds of a line, and one
+more for each line before it in the same millisecond. Each event has its line.
+
+Of a trace that isn't the text of a lawful run the first bad line is told, as
+`find` tells it.
+
+Status 0: written. 1: the trace isn't lawful. 2: wrong words. 3: the plan is
+refused, or a file is too long. 4: one couldn't be read. 5: writing failed.
 7: no memory.
 ";
 
@@ -126,6 +173,27 @@ words. 3: the plan is refused, or the log is too long or tells of no whole run.
 4: one couldn't be read. 5: writing failed. 6: a limit came first. 7: no memory.
 ";
 
+/// The answer of `help order`.
+pub const ORDER_PAGE: &[u8] = b"pm_lab order PLAN [--late] [--most K] [--spots N] CALLER N CODE
+pm_lab order PLAN [--late] [--most K] [--spots N] end DEVICE STATUS USAGE ERROR
+
+Writes the trace of a run in which the N-th command of CALLER, counted from 1,
+returns CODE; or that leaves DEVICE so, with that error:
+
+    pm_lab order race.toml irq 5 -22 >race.trace
+    pm_lab order race.toml end hid suspended 0 0 >race.trace
+
+What `orders` lists has a run here, with the same options: one of the orders, of
+as few disturbances as `orders` says, which from there on goes by one thread to
+its end. It is the text of a lawful run, in the plan's format.
+
+Status 0: written. 1: no order has it, of those that were gone through; a
+message says how far that is. 2: wrong words. 3: the plan is refused, or it has
+no such caller, command or device. 4: it couldn't be read. 5: writing failed.
+6: a limit of spots or of lines came first, or the run has as many lines as the
+plan allows and isn't finished. 7: no memory.
+";
+
 /// The answer of `help kernel`.
 pub const KERNEL_PAGE: &[u8] = b"pm_lab kernel PLAN
 
@@ -161,7 +229,9 @@ fn page_of(command: Command) -> &'static [u8]
     match command {
         Command::Say => SAY_PAGE,
         Command::Find => FIND_PAGE,
+        Command::Picture => PICTURE_PAGE,
         Command::Orders => ORDERS_PAGE,
+        Command::Order => ORDER_PAGE,
         Command::Kernel => KERNEL_PAGE,
     }
 }

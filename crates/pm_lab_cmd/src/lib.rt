@@ -2,13 +2,11 @@
 #![tactic(auto)]
 
 mod dispatch;
-mod find;
 mod help;
 mod kernel;
 mod say;
 
 pub use dispatch::top;
-pub use find::find_top;
-pub use help::{FIND_PAGE, HELP, KERNEL_PAGE, ORDERS_PAGE, SAY_PAGE};
+pub use help::{FIND_PAGE, HELP, KERNEL_PAGE, ORDER_PAGE, ORDERS_PAGE, PICTURE_PAGE, SAY_PAGE};
 pub use kernel::kernel_top;
 pub use say::say_top;

@@ -3,7 +3,7 @@ use Rattle.std.proofs.Common.{◌≡◌, ◌≢◌, ◌∙◌, ℕ, List, Ok, Er
 use Rattle.pm_cmd_ends.specs.Ending.{Failed, Taking, Told, Took, TookPart}
 use Rattle.pm_cmd_ends.specs.declared.ending.TheConstants.{WRONG_WORDS}
 use Rattle.pm_lab_ends.specs.Coming.{Came, Work, ending_of, work_message, work_status}
-use Rattle.pm_lab_ends.specs.Ending.{Answered, AtLimit, Done, Ending, Found, OfThis, Refused, SaidRefused, ended, no_memory, status_of, unread, unwritten}
+use Rattle.pm_lab_ends.specs.Ending.{Absent, Answered, AtLimit, Done, Ending, Found, OfThis, Refused, SaidRefused, Unseen, ended, no_memory, status_of, unread, unwritten}
 use Rattle.pm_lab_ends.specs.declared.ending.Fault.{Fault}
 use Rattle.pm_lab_ends.specs.declared.ending.Fault.TheVariants as fault
 use Rattle.pm_lab_ends.specs.declared.ending.Outcome.{Outcome}
@@ -53,6 +53,8 @@ own_status (Found text) = λ is. cc
 own_status (SaidRefused text) = λ is. cc
 own_status (AtLimit text) = λ is. cc
 own_status (Refused message) = λ is. cc
+own_status (Absent message) = λ is. cc
+own_status (Unseen message) = λ is. cc
 
 pub not_wrong_words : (Ends : Ending → Type 0) (Unread : List ℕ → Type 0) (status : ℕ) (out err : Taking) → Answered Ends status Unread out err → status ≢ WRONG_WORDS
 not_wrong_words Ends Unread status out err (ended ending ends is took told) = λ wrong. own_status ending (sym is ∙ wrong)

@@ -4,17 +4,18 @@ use Rattle.pm_cmd_ends.specs.Ending.{Failed, Taking, Told, TookNothing, TookText
 use Rattle.pm_model.specs.Spelling.{newline}
 
 abbrev pub usage : List ℕ
-usage = codes "usage: pm_lab say PLAN | find PLAN TRACE [--notes] | orders PLAN [--late] [--most K] [--spots N] [--differ] [--seen LOG] | kernel PLAN\n"
+usage = codes "usage: pm_lab say PLAN | find PLAN TRACE [--expect FILE] [--ktap] [--notes] | picture PLAN TRACE [--json] | orders PLAN [--late] [--most K] [--spots N] [--differ] [--seen LOG] | order PLAN [--late] [--most K] [--spots N] CALLER N CODE|end DEVICE STATUS USAGE ERROR | kernel PLAN\n"
 
 -- a read of this file failed
 abbrev pub read_message : List ℕ → List ℕ
 read_message file = codes "read: " ++ (file ++ newline)
 
 -- What a command may come to where neither reading nor writing nor memory fails: it is done, it found something, it tells why
--- the plan is refused, or a limit came first, and this is its text; or the plan is refused, and this message tells of it.
+-- the plan is refused, or a limit came first, and this is its text; or the plan is refused, and this message tells of it; or what is
+-- asked for isn't there, or it wasn't seen before a limit came, and this message says so.
 pub data Ending : Type 0 where
   Done Found SaidRefused AtLimit : (text : List ℕ) → Ending
-  Refused : (message : List ℕ) → Ending
+  Refused Absent Unseen : (message : List ℕ) → Ending
 
 abbrev pub status_of : Ending → ℕ
 status_of (Done text) = 0
@@ -22,6 +23,8 @@ status_of (Found text) = 1
 status_of (SaidRefused text) = 3
 status_of (AtLimit text) = 6
 status_of (Refused message) = 3
+status_of (Absent message) = 1
+status_of (Unseen message) = 6
 
 -- the text, where one is written
 abbrev pub text_of : Ending → Option (List ℕ)
@@ -30,6 +33,8 @@ text_of (Found text) = Some text
 text_of (SaidRefused text) = Some text
 text_of (AtLimit text) = Some text
 text_of (Refused message) = None
+text_of (Absent message) = None
+text_of (Unseen message) = None
 
 abbrev pub message_of : Ending → List ℕ
 message_of (Done text) = []
@@ -37,6 +42,8 @@ message_of (Found text) = []
 message_of (SaidRefused text) = []
 message_of (AtLimit text) = []
 message_of (Refused message) = message
+message_of (Absent message) = message
+message_of (Unseen message) = message
 
 -- a read failed, and it was a read of this file
 abbrev pub OfThis : List ℕ → Type 0 → List ℕ → Type 0

@@ -5,5 +5,5 @@
 mod orders;
 mod seen;
 
-pub use orders::orders_top;
+pub use orders::{orders_top, outcomes_of, pace_of};
 pub use seen::seen_top;

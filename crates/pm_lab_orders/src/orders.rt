@@ -3,7 +3,7 @@
 ghost use Rattle.std.specs.Prelude.{◌≡◌, IfOk, false};
 ghost use Rattle.pm_cmd_ends.specs.Ending.{taking};
 ghost use Rattle.pm_io.specs.Faults.{Rose};
-ghost use Rattle.pm_lab_orders.specs.Found.{IsFound};
+ghost use Rattle.pm_lab_orders.specs.Found.{IsFound, IsLedThrough};
 ghost use Rattle.pm_lab_orders.specs.Orders.{OrdersEnds, pace_of};
 ghost use Rattle.pm_lab_orders.specs.OrdersOutcome.{outcome_of_orders};
 ghost use Rattle.pm_lab_ends.specs.Coming.{Came};
@@ -64,7 +64,7 @@ fn run_orders<F: Files, O: Sink>(
 }
 
 /// The pace of the orders.
-fn pace_of(bounds: Bounds) -> Pace
+pub fn pace_of(bounds: Bounds) -> Pace
     ensures { result ≡ pace_of bounds }
 {
     if bounds.late {
@@ -82,8 +82,9 @@ fn wants_memory(ended: Ended) -> bool
 }
 
 /// What the orders show within bounds; `NoMemory` also where the search wanted memory.
-pub(crate) fn outcomes_of(alloc: Global, plan: &Plan, bounds: Bounds) -> Result<Outcomes, NoMemory>
-    ensures { IfOk result (IsFound bounds plan.now) }
+pub fn outcomes_of(alloc: Global, plan: &Plan, bounds: Bounds) -> Result<Outcomes, NoMemory>
+    ensures found { IfOk result (IsFound bounds plan.now) }
+    ensures led { IfOk result (IsLedThrough bounds plan.now) }
 {
     let all = all_outcomes(
         alloc,

@@ -1,8 +1,9 @@
 -- What the words behind a command's word give: those that are positional, in order, and the options (this project's own).
-use Rattle.std.specs.Prelude.{ℕ, Bool, true, false, List, [], ◌∷◌, ◌++◌, Option, Some, None, length, nat_lt, option_and_then, if◌then◌else◌}
+use Rattle.std.specs.Prelude.{ℕ, Bool, true, false, List, [], ◌∷◌, ◌++◌, Option, Some, None, ◌&&◌, is_none, length, nat_lt, option_and_then, if◌then◌else◌}
 use Rattle.pm_cmd_ends.specs.Words.{is_option, is_separator}
 use Rattle.pm_lab_words.specs.declared.names.Command.{Command}
 use Rattle.pm_lab_words.specs.declared.names.Name.{Name}
+use Rattle.pm_lab_words.specs.Numbers.{code_in}
 use Rattle.pm_lab_words.specs.Options.{Options, Valued, has_value, joined, may_be_given, name_of, none_given, with_one}
 
 -- what was given so far; the option whose value comes next, if one does; whether -- was given, behind which each word is positional
@@ -40,12 +41,12 @@ abbrev pub with_option : Command → Given → List ℕ → Option Name → Opti
 with_option c given word (Some name) = if_free c given name (with_name given name)
 with_option c given word None = with_joined c given (joined word)
 
--- a word more, where no option waits for its value
+-- a word more, where no option waits for its value: a negative number is no option
 abbrev pub with_free_word : Command → Given → List ℕ → Option Given
 with_free_word c given word =
     if given.behind then with_plain given word
     else if is_separator word then Some (record given { behind = true })
-    else if is_option word then with_option c given word (name_of word)
+    else if is_option word && is_none (code_in word) then with_option c given word (name_of word)
     else with_plain given word
 
 abbrev pub with_word_for : Command → Given → List ℕ → Option Name → Option Given

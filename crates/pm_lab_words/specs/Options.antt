@@ -12,7 +12,9 @@ abbrev pub command_of : List ℕ → Option Command
 command_of word =
     if bytes_eq word (codes "say") then Some command.Say
     else if bytes_eq word (codes "find") then Some command.Find
+    else if bytes_eq word (codes "picture") then Some command.Picture
     else if bytes_eq word (codes "orders") then Some command.Orders
+    else if bytes_eq word (codes "order") then Some command.Order
     else if bytes_eq word (codes "kernel") then Some command.Kernel
     else None
 
@@ -40,12 +42,18 @@ has_value _ = false
 
 -- the options that a command takes
 abbrev pub takes : Command → Name → Bool
+takes command.Find name.Expect = true
+takes command.Find name.Ktap = true
 takes command.Find name.Notes = true
+takes command.Picture name.Json = true
 takes command.Orders name.Late = true
 takes command.Orders name.Most = true
 takes command.Orders name.Spots = true
 takes command.Orders name.Differ = true
 takes command.Orders name.Seen = true
+takes command.Order name.Late = true
+takes command.Order name.Most = true
+takes command.Order name.Spots = true
 takes _ _ = false
 
 -- an option and its value

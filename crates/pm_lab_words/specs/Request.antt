@@ -1,14 +1,22 @@
 -- Which words of the command line are a command of pm_lab, and which (this project's own).
-use Rattle.std.specs.Prelude.{ℕ, Bool, List, [], ◌∷◌, Option, Some, None, codes, option_and_then, option_map, if◌then◌else◌}
+use Rattle.std.specs.Prelude.{ℕ, ℤ, ◌-◌, ◌^◌, Bool, true, false, List, [], ◌∷◌, Option, Some, None, codes, option_and_then, option_map, if◌then◌else◌}
 use Rattle.std.specs.Str.{bytes_eq}
+use Rattle.pm_base.specs.declared.Status.{Status}
 use Rattle.pm_lab_words.specs.declared.names.Command.{Command}
 use Rattle.pm_lab_words.specs.declared.names.Command.TheVariants as command
 use Rattle.pm_lab_words.specs.declared.request.Bounds.{Bounds}
 use Rattle.pm_lab_words.specs.declared.request.Request.{Request}
 use Rattle.pm_lab_words.specs.declared.request.Request.TheVariants as request
+use Rattle.pm_lab_words.specs.declared.request.Sought.{Sought as ReadSought}
+use Rattle.pm_lab_words.specs.declared.request.Sought.TheVariants as sought
 use Rattle.pm_lab_words.specs.Given.{given_by}
-use Rattle.pm_lab_words.specs.Numbers.{number_or}
+use Rattle.pm_lab_words.specs.Numbers.{code_in, number_between, number_or, status_in}
 use Rattle.pm_lab_words.specs.Options.{Options, command_of}
+
+-- what an order is to show: the n-th command of a caller returns a code; a device ends so
+pub data Sought : Type 0 where
+  Return : (caller : List ℕ) (number : ℕ) (code : ℤ) → Sought
+  End : (device : List ℕ) (status : Status) (usage : ℕ) (error : ℤ) → Sought
 
 -- a command with what its words name
 pub data Asked : Type 0 where
@@ -16,7 +24,10 @@ pub data Asked : Type 0 where
   HelpOn : Command → Asked
   Say Kernel : (plan : List ℕ) → Asked
   Find : (plan trace : List ℕ) (notes : Bool) → Asked
+  Check : (plan trace expect : List ℕ) (ktap notes : Bool) → Asked
+  Picture : (plan trace : List ℕ) (json : Bool) → Asked
   Orders : (plan : List ℕ) (bounds : Bounds) (differ : Bool) (seen : Option (List ℕ)) → Asked
+  Order : (plan : List ℕ) (bounds : Bounds) (sought : Sought) → Asked
 
 -- how far the orders are looked through: at most so many disturbances, 0 to 99, and spots, 1 to 10,000,000
 abbrev pub bounds_with : Bool → ℕ → ℕ → Bounds
@@ -26,11 +37,43 @@ abbrev pub bounds_of : Options → Option Bounds
 bounds_of o =
     option_and_then (λ most. option_map (λ spots. bounds_with o.late most spots) (number_or 1 10000000 1000000 o.spots)) (number_or 0 99 2 o.most)
 
+-- of find: --ktap stands beside --expect alone
+abbrev pub find_with : List ℕ → List ℕ → Bool → Option (List ℕ) → Bool → Option Asked
+find_with plan trace notes (Some expect) ktap = Some (Check plan trace expect ktap notes)
+find_with plan trace notes None false = Some (Find plan trace notes)
+find_with plan trace notes None true = None
+
+abbrev pub find_of : List ℕ → List ℕ → Options → Option Asked
+find_of plan trace o = find_with plan trace o.notes o.expect o.ktap
+
+-- of order: CALLER N CODE, or end DEVICE STATUS USAGE ERROR
+abbrev pub return_of : List ℕ → List ℕ → List ℕ → Option Sought
+return_of caller number code =
+    option_and_then (λ n. option_map (λ c. Return caller n c) (code_in code)) (number_between 1 (2 ^ 32 - 1) number)
+
+abbrev pub end_of : List ℕ → List ℕ → List ℕ → List ℕ → Option Sought
+end_of device status usage error =
+    option_and_then (λ s. option_and_then (λ u. option_map (λ e. End device s u e) (code_in error)) (number_between 0 (2 ^ 32 - 1) usage)) (status_in status)
+
+abbrev pub end_behind : List ℕ → List ℕ → List ℕ → List ℕ → List ℕ → Option Sought
+end_behind end device status usage error = if bytes_eq end (codes "end") then end_of device status usage error else None
+
+abbrev pub sought_of : List (List ℕ) → Option Sought
+sought_of (caller ∷ number ∷ code ∷ []) = return_of caller number code
+sought_of (end ∷ device ∷ status ∷ usage ∷ error ∷ []) = end_behind end device status usage error
+sought_of _ = None
+
+abbrev pub order_of : List (List ℕ) → Options → Option Asked
+order_of [] o = None
+order_of (plan ∷ words) o = option_and_then (λ bounds. option_map (λ sought. Order plan bounds sought) (sought_of words)) (bounds_of o)
+
 -- the words of each command
 abbrev pub asked_of : Command → List (List ℕ) → Options → Option Asked
 asked_of command.Say (plan ∷ []) o = Some (Say plan)
-asked_of command.Find (plan ∷ trace ∷ []) o = Some (Find plan trace o.notes)
+asked_of command.Find (plan ∷ trace ∷ []) o = find_of plan trace o
+asked_of command.Picture (plan ∷ trace ∷ []) o = Some (Picture plan trace o.json)
 asked_of command.Orders (plan ∷ []) o = option_map (λ bounds. Orders plan bounds o.differ o.seen) (bounds_of o)
+asked_of command.Order words o = order_of words o
 asked_of command.Kernel (plan ∷ []) o = Some (Kernel plan)
 asked_of _ _ _ = None
 
@@ -48,11 +91,19 @@ unfoldable pub asked_by : List (List ℕ) → Option Asked
 asked_by [] = None
 asked_by (word ∷ words) = if bytes_eq word (codes "help") then help_on words else option_and_then (asked_with words) (command_of word)
 
+-- what is sought, in bytes
+abbrev pub sought_in : ReadSought → Sought
+sought_in (sought.Return caller number code) = Return caller.now number code
+sought_in (sought.End device status usage error) = End device.now status usage error
+
 -- what is read from the words, in bytes
 abbrev pub asked : Request → Asked
 asked request.Help = Help
 asked (request.HelpOn c) = HelpOn c
 asked (request.Say plan) = Say plan.now
 asked (request.Find plan trace notes) = Find plan.now trace.now notes
+asked (request.Check plan trace expect ktap notes) = Check plan.now trace.now expect.now ktap notes
+asked (request.Picture plan trace json) = Picture plan.now trace.now json
 asked (request.Orders plan bounds differ seen) = Orders plan.now bounds differ (option_map (λ word. word.now) seen)
+asked (request.Order plan bounds sought) = Order plan.now bounds (sought_in sought)
 asked (request.Kernel plan) = Kernel plan.now

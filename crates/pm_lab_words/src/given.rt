@@ -5,6 +5,7 @@ ghost use Rattle.pm_lab_words.specs.Given.{ended, given_by, goes_on, if_free, no
 ghost use Rattle.pm_lab_words.specs.Read.{given_of, valued_of};
 
 use crate::names::{Command, Name, has_value, name_of};
+use crate::numbers::code_in;
 use crate::options::{Options, Valued, joined};
 use arrayvec::ArrayVec;
 use pm_cmd_ends::{is_option, is_separator};
@@ -91,7 +92,7 @@ impl<'a> Given<'a> {
         self.with_name(name)
     }
 
-    /// With a word more, where no option waits for its value.
+    /// With a word more, where no option waits for its value. A negative number is no option.
     fn with_free_word(mut self, command: Command, word: &'a str) -> Option<Given<'a>>
         ensures { option_map given_of result ≡ with_free_word command (given_of self.entry) word.now }
     {
@@ -100,7 +101,7 @@ impl<'a> Given<'a> {
         } else if is_separator(word) {
             self.behind = true;
             Some(self)
-        } else if is_option(word) {
+        } else if is_option(word) && code_in(word.as_bytes()).is_none() {
             self.with_option(command, word, name_of(word))
         } else {
             self.with_plain(word)

@@ -8,7 +8,9 @@ ghost use Rattle.pm_lab_words.specs.Options.{command_of, has_value, name_of, tak
 pub enum Command {
     Say,
     Find,
+    Picture,
     Orders,
+    Order,
     Kernel,
 }
 
@@ -33,7 +35,9 @@ pub fn command_of(word: &str) -> Option<Command>
     match word {
         "say" => Some(Command::Say),
         "find" => Some(Command::Find),
+        "picture" => Some(Command::Picture),
         "orders" => Some(Command::Orders),
+        "order" => Some(Command::Order),
         "kernel" => Some(Command::Kernel),
         _ => None,
     }
@@ -69,11 +73,13 @@ pub fn takes(command: Command, name: Name) -> bool
     ensures { result ≡ takes command name }
 {
     match command {
-        Command::Find => matches!(name, Name::Notes),
+        Command::Find => matches!(name, Name::Expect | Name::Ktap | Name::Notes),
+        Command::Picture => matches!(name, Name::Json),
         Command::Orders => matches!(
             name,
             Name::Late | Name::Most | Name::Spots | Name::Differ | Name::Seen
         ),
+        Command::Order => matches!(name, Name::Late | Name::Most | Name::Spots),
         Command::Say | Command::Kernel => false,
     }
 }

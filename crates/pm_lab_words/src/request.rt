@@ -2,12 +2,13 @@
 
 ghost use Rattle.std.specs.Prelude.{◌≡◌, map, option_map, string_bytes};
 ghost use Rattle.pm_lab_words.specs.Read.{given_of, options_of};
-ghost use Rattle.pm_lab_words.specs.Request.{asked, asked_by, asked_of, asked_with, bounds_of, help_on};
+ghost use Rattle.pm_lab_words.specs.Request.{asked, asked_by, asked_of, asked_with, bounds_of, end_behind, end_of, find_of, help_on, order_of, return_of, sought_in, sought_of};
 
 use crate::given::given_by;
 use crate::names::{Command, command_of};
-use crate::numbers::number_or;
+use crate::numbers::{code_in, number_between, number_or, status_in};
 use crate::options::Options;
+use pm_base::Status;
 
 /// How far the orders of a plan are looked through.
 #[derive(Clone, Copy, Debug, PartialEq, Eq)]
@@ -18,6 +19,24 @@ pub struct Bounds {
     pub most: u32,
     /// How many spots are looked at, at most: 1 to 10,000,000.
     pub spots: u32,
+}
+
+/// What an order is to show.
+#[derive(Clone, Copy, Debug, PartialEq, Eq)]
+pub enum Sought<'a> {
+    /// The `number`-th command of a caller's script, counted from 1, returns this code.
+    Return {
+        caller: &'a str,
+        number: u32,
+        code: i32,
+    },
+    /// At the end a device stands so, with this error stored.
+    End {
+        device: &'a str,
+        status: Status,
+        usage: u32,
+        error: i32,
+    },
 }
 
 /// A command, with what its words name. Files are named by their paths.
@@ -37,6 +56,20 @@ pub enum Request<'a> {
         trace: &'a str,
         notes: bool,
     },
+    /// `find PLAN TRACE --expect FILE`, with `--ktap` or without: tells too whether what the file expects holds.
+    Check {
+        plan: &'a str,
+        trace: &'a str,
+        expect: &'a str,
+        ktap: bool,
+        notes: bool,
+    },
+    /// `picture PLAN TRACE`: draws the run, or writes it for a viewer of traces, with `--json`.
+    Picture {
+        plan: &'a str,
+        trace: &'a str,
+        json: bool,
+    },
     /// `orders PLAN`: tells what the orders of the plan show.
     Orders {
         plan: &'a str,
@@ -44,6 +77,12 @@ pub enum Request<'a> {
         differ: bool,
         /// The log of a kernel's run.
         seen: Option<&'a str>,
+    },
+    /// `order PLAN SOUGHT`: writes the trace of an order that shows what is sought.
+    Order {
+        plan: &'a str,
+        bounds: Bounds,
+        sought: Sought<'a>,
     },
     /// `kernel PLAN`: writes the plan as a module for a kernel.
     Kernel {
@@ -64,16 +103,110 @@ fn bounds_of(options: &Options<'_>) -> Option<Bounds>
     })
 }
 
+/// The command `find` of a plan and a trace. `--ktap` is of no use without a file of expectations, and refused.
+fn find_of<'a>(plan: &'a str, trace: &'a str, options: &Options<'a>) -> Option<Request<'a>>
+    ensures { option_map asked result ≡ find_of plan.now trace.now (options_of options.now) }
+{
+    match (options.expect, options.ktap) {
+        (Some(expect), ktap) => Some(Request::Check {
+            plan,
+            trace,
+            expect,
+            ktap,
+            notes: options.notes,
+        }),
+        (None, false) => Some(Request::Find {
+            plan,
+            trace,
+            notes: options.notes,
+        }),
+        (None, true) => None,
+    }
+}
+
+/// The code that a command of a caller is to return.
+fn return_of<'a>(caller: &'a str, number: &str, code: &str) -> Option<Sought<'a>>
+    ensures { option_map sought_in result ≡ return_of caller.now number.now code.now }
+{
+    let number = number_between(1, u32::MAX, number.as_bytes())?;
+    let code = code_in(code.as_bytes())?;
+    Some(Sought::Return {
+        caller,
+        number,
+        code,
+    })
+}
+
+/// How a device is to end.
+fn end_of<'a>(device: &'a str, status: &str, usage: &str, error: &str) -> Option<Sought<'a>>
+    ensures { option_map sought_in result ≡ end_of device.now status.now usage.now error.now }
+{
+    let status = status_in(status.as_bytes())?;
+    let usage = number_between(0, u32::MAX, usage.as_bytes())?;
+    let error = code_in(error.as_bytes())?;
+    Some(Sought::End {
+        device,
+        status,
+        usage,
+        error,
+    })
+}
+
+/// How a device is to end, where the first word is `end`.
+fn end_behind<'a>(
+    end: &str,
+    device: &'a str,
+    status: &str,
+    usage: &str,
+    error: &str,
+) -> Option<Sought<'a>>
+    ensures { option_map sought_in result ≡ end_behind end.now device.now status.now usage.now error.now }
+{
+    if end == "end" {
+        end_of(device, status, usage, error)
+    } else {
+        None
+    }
+}
+
+/// What the words behind that of the plan seek.
+fn sought_of<'a>(words: &[&'a str]) -> Option<Sought<'a>>
+    ensures { option_map sought_in result ≡ sought_of (map (λ w. w.now) words.now) }
+{
+    match words {
+        [caller, number, code] => return_of(caller, number, code),
+        [end, device, status, usage, error] => end_behind(end, device, status, usage, error),
+        _ => None,
+    }
+}
+
+/// The command `order` of a plan.
+fn order_of<'a>(words: &[&'a str], options: &Options<'a>) -> Option<Request<'a>>
+    ensures { option_map asked result ≡ order_of (map (λ w. w.now) words.now) (options_of options.now) }
+{
+    let [plan, words @ ..] = words else {
+        return None;
+    };
+    let bounds = bounds_of(options)?;
+    let sought = sought_of(words)?;
+    Some(Request::Order {
+        plan,
+        bounds,
+        sought,
+    })
+}
+
 /// The command of these positional words and options.
 fn asked_of<'a>(command: Command, words: &[&'a str], options: &Options<'a>) -> Option<Request<'a>>
     ensures { option_map asked result ≡ asked_of command (map (λ w. w.now) words.now) (options_of options.now) }
 {
     match (command, words) {
         (Command::Say, [plan]) => Some(Request::Say { plan }),
-        (Command::Find, [plan, trace]) => Some(Request::Find {
+        (Command::Find, [plan, trace]) => find_of(plan, trace, options),
+        (Command::Picture, [plan, trace]) => Some(Request::Picture {
             plan,
             trace,
-            notes: options.notes,
+            json: options.json,
         }),
         (Command::Orders, [plan]) => {
             let bounds = bounds_of(options)?;
@@ -84,6 +217,7 @@ fn asked_of<'a>(command: Command, words: &[&'a str], options: &Options<'a>) -> O
                 seen: options.seen,
             })
         }
+        (Command::Order, words) => order_of(words, options),
         (Command::Kernel, [plan]) => Some(Request::Kernel { plan }),
         _ => None,
     }

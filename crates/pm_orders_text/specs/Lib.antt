@@ -1,3 +1,4 @@
 pub mod Texts
 pub mod Reached
 pub mod Seen
+pub mod Absent

@@ -1,6 +1,7 @@
 //! The text of what the orders of a plan show (this project's own).
 #![tactic(auto)]
 
+mod absent;
 mod differing;
 mod lines;
 mod pieces;
@@ -8,6 +9,7 @@ mod reach;
 mod seen;
 mod texts;
 
+pub use absent::absent_text;
 pub use differing::differs;
 pub use reach::{Reach, reach_of};
 pub use seen::push_seen;

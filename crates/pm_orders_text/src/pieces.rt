@@ -68,8 +68,8 @@ fn push_left(text: &mut Vec<u8>, left: &Left) -> Result<(), NoMemory>
     push_code(text, i64::from(left.error))
 }
 
-// Appends what a mark tells.
-fn push_value(text: &mut Vec<u8>, mark: &Mark) -> Result<(), NoMemory>
+/// Appends what a mark tells.
+pub fn push_value(text: &mut Vec<u8>, mark: &Mark) -> Result<(), NoMemory>
     ensures { OnOk result (text.new.items ≡ text.old.items ++ value_text mark.now) }
 {
     match mark {

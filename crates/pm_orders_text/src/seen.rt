@@ -20,8 +20,8 @@ fn push_none_within(text: &mut Vec<u8>, round: usize) -> Result<(), NoMemory>
     push(text, b" disturbances")
 }
 
-// Appends of which orders none shows it.
-fn push_none(text: &mut Vec<u8>, reach: Reach) -> Result<(), NoMemory>
+/// Appends of which orders none shows it.
+pub fn push_none(text: &mut Vec<u8>, reach: Reach) -> Result<(), NoMemory>
     ensures { OnOk result (text.new.items ≡ text.old.items ++ none_words reach) }
 {
     match reach {
@@ -63,8 +63,13 @@ fn push_called(
     push_command_at(text, plan, row, (number as usize).saturating_sub(1))
 }
 
-// Appends the caller's command, if there is one.
-fn push_caller(text: &mut Vec<u8>, plan: &Plan, number: u32, caller: u32) -> Result<(), NoMemory>
+/// Appends the caller's command, if there is one.
+pub fn push_caller(
+    text: &mut Vec<u8>,
+    plan: &Plan,
+    number: u32,
+    caller: u32,
+) -> Result<(), NoMemory>
     ensures { OnOk result (text.new.items ≡ text.old.items ++ option_map_or (called_text plan.now number) (slice_get plan.now.callers caller) []) }
 {
     match plan.callers.get(caller as usize) {

@@ -11,6 +11,7 @@ use Rattle.pm_orders.specs.Marks.{HasMark}
 use Rattle.pm_orders.specs.Orders.{spot}
 use Rattle.pm_orders.specs.Spots.{Follows, Spot}
 use Rattle.pm_search.specs.Trees.{AreLed}
+use Rattle.pm_ways.specs.Found.{IsTooFar}
 use Rattle.pm_ways.specs.Runs.{IsAsLed, IsOrderTo}
 use Rattle.pm_outcomes.specs.Had.{AreShown, IsWitness}
 use Rattle.pm_outcomes.proofs.Among.{some_is}
@@ -34,6 +35,11 @@ pub by_both : {V E : Type 0} (P Q R : V → Type 0) (r : Result (Option V) E) �
 by_both P Q R (Ok (Some v)) p q both = both v p q
 by_both P Q R (Ok None) p q both = tt
 by_both P Q R (Err e) p q both = tt
+
+-- a way that is too far leads somewhere
+pub far_somewhere : {V E : Type 0} (plan : Plan) (parents : List ℕ) (at : ℕ) (r : Result (Option V) E) → IfOk r (λ f. f ≡ None → IsTooFar plan parents at) → IfOk r (λ f. f ≡ None → (n : ℕ) × IsTooFar plan parents n)
+far_somewhere plan parents at (Ok f) far = λ none. (at, far none)
+far_somewhere plan parents at (Err e) far = tt
 
 pub is_within : (plan : Plan) (spots : List Spot) (rounds : List ℕ) (outcomes : List Outcome) (index : ℕ) (o : Outcome) → AreShown plan spots rounds outcomes → slice_get outcomes index ≡ Some o → o.place < length spots
 is_within plan spots rounds outcomes index o shown there = slice_get_within spots o.place (shown.shown index o there).where_it_stands (shown.shown index o there).there

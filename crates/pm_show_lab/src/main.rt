@@ -124,8 +124,11 @@ fn run_command<F: Files>(
     err_fails: &[u64],
 ) -> Result<String> {
     let Ended { status, out, err } = run_over(alloc, files, words, out_fails, err_fails)?;
-    let message = str::from_utf8(err.taken())?;
     let told = verdict(alloc, files, out.taken(), kept)?;
+    if err.taken() == stored(alloc, files, "usage.txt")?.as_slice() {
+        return Ok(format!(in alloc; "status {status}, err as in usage.txt, out {told}")?);
+    }
+    let message = str::from_utf8(err.taken())?;
     Ok(format!(in alloc; "status {status}, err {message:?}, out {told}")?)
 }
 

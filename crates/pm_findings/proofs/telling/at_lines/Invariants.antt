@@ -1,4 +1,5 @@
 use Rattle.std.proofs.Common.{◌≡◌, ◌+◌, length, reverse, take}
+use Rattle.pm_bonds.specs.Kept.{IsKept}
 use Rattle.pm_findings.specs.AllFound.{found_in}
 use Rattle.pm_findings.specs.WatchTable.{IsTable, counts_in}
 use Rattle.pm_findings.proofs.telling.at_lines.Given as goal
@@ -8,5 +9,6 @@ abbrev pub invariant-loop-line : goal.invariant-loop-line
 invariant-loop-line l = record {
   kept : IsTable (length l.plan.devices + 1) (length l.plan.callers) (reverse (take l.line-index l.lines)) l.watch;
   number : l.number ≡ l.line-index;
-  found : l.all.items ≡ found_in (counts_in l.ends) (reverse (take l.line-index l.lines));
+  bonds : IsKept l.plan l.bonds (reverse (take l.line-index l.lines));
+  found : l.all.items ≡ found_in l.plan (counts_in l.ends) (reverse (take l.line-index l.lines));
 }

@@ -2,7 +2,6 @@ use Rattle.std.proofs.Common.{◌∙◌, ◌++◌, ap, w32}
 use Rattle.std.proofs.lemmas.Int.{to_z-of_z}
 use Rattle.pm_findings.specs.declared.Kind.TheVariants as kind
 use Rattle.pm_findingtext.specs.Texts.{kind_text}
-use Rattle.pm_model.specs.Text.{names_of}
 use Rattle.pm_findingtext.proofs.TextLemmas.{more}
 use Rattle.pm_findingtext.proofs.kinds.push_error.Goals as goal
 
@@ -10,5 +9,5 @@ pub returns : goal.returns
 returns c =
     more _ _ _ _ _
     (c.in_ok-push_answer.ensures
-    ∙ ap (λ z. c.args.text.now.items ++ kind_text (names_of c.args.plan.now) (kind.Refused c.args.actor c.args.helper c.args.dev z)) (to_z-of_z w32 c.args.code c.ranges.code))
+    ∙ ap (λ z. c.args.text.now.items ++ kind_text c.args.plan.now (kind.Refused c.args.actor c.args.helper c.args.dev z)) (to_z-of_z w32 c.args.code c.ranges.code))
     c.in_ok-push_keeps.ensures

@@ -1,12 +1,14 @@
 use Rattle.std.proofs.Common.{◌≤◌, map, refl, subst, sym}
 use Rattle.std.proofs.lemmas.List.{length-map}
+use Rattle.pm_orders.specs.Spots.{Follows, start_spot}
 use Rattle.pm_outcomes.specs.Had.{AreExact, AreExactWithin}
+use Rattle.pm_search.specs.Trees.{AreLed, IsTree}
 use Rattle.pm_spot.specs.SpotOf.{spot_of}
 use Rattle.pm_ways.specs.Found.{AreOfAllOrders, AreOfOrders}
 use Rattle.pm_lab_orders.proofs.orders.outcomes_of.Goals as goal
 
-pub returns : goal.returns
-returns c =
+pub returns-clause-found : goal.returns-clause-found
+returns-clause-found c =
     let all = c.in_ok-all.all in
     let plan = c.args.plan.now in
     let keys = all.found.tree.nodes.keys in
@@ -32,5 +34,19 @@ returns c =
       marks = refl;
       rounds = refl;
       spots = refl;
+      parents = refl;
       ended = refl;
+    }
+
+pub returns-clause-led : goal.returns-clause-led
+returns-clause-led c =
+    let all = c.in_ok-all.all in
+    let plan = c.args.plan.now in
+    let keys = all.found.tree.nodes.keys in
+    let parents = all.found.tree.parents.items in
+    let pace = c.pace_of.ensures in
+    record {
+      tree = subst (λ p. IsTree (Follows p plan) (start_spot plan) (map spot_of keys) parents) pace c.in_ok-all.ensures.tree;
+      led = subst (λ p. AreLed (Follows p plan) (map spot_of keys) parents all.found.rounds.items) pace c.in_ok-all.ensures.led;
+      shown = c.in_ok-all.ensures.shown;
     }

@@ -1,0 +1,170 @@
+//! The x axis of a picture.
+
+ghost use Rattle.std.specs.Prelude.{◌≡◌, ◌+◌, ◌≤◌, IfOk, OnOk, length, true};
+ghost use Rattle.pm_columns.specs.Axis.{fitted, rises, x_of};
+
+use crate::steps::step;
+use pm_base::NoMemory;
+use pm_model::Line;
+use std::alloc::Global;
+
+/// So many columns at most are drawn in whole.
+pub const WHOLE: usize = 400;
+
+/// How wide the lanes of an overview are, in pixels.
+pub const FIT: u32 = 1_200;
+
+/// Room behind the last line, in pixels.
+const REST: u32 = 24;
+
+/// Where the lines of a run stand, in pixels from the left end of the lanes.
+#[derive(Drop)]
+pub struct Columns {
+    // That of each line, in order.
+    xs: Vec<u32>,
+    // Where the run ends.
+    width: u32,
+    // Whether all is drawn, and not an overview.
+    is_whole: bool,
+    ghost in_order: { rises 0 xs.items width ≡ true },
+}
+
+/// A part of the axis, in pixels from the left end of the lanes.
+#[derive(Clone, Copy, Debug, PartialEq, Eq)]
+pub struct Span {
+    pub x: u32,
+    pub width: u32,
+}
+
+// The axis while it grows: the places of the lines so far, that of the last of them, and how many have columns.
+#[derive(Drop)]
+struct Axis {
+    xs: Vec<u32>,
+    x: u32,
+    columns: usize,
+    time: u64,
+    ghost in_order: { rises 0 xs.items x ≡ true },
+}
+
+impl Axis {
+    // Appends the next line.
+    #[tactic(auto, using(crate::proofs::AxisLemmas::rises_more))]
+    fn push(&mut self, line: &Line, marked: bool) -> Result<(), NoMemory> {
+        let step = step(marked, line.time.saturating_sub(self.time));
+        let x = self.x.saturating_add(step);
+        self.xs.push(x)?;
+        self.x = x;
+        self.time = line.time;
+        if step > 0 {
+            self.columns = self.columns.saturating_add(1);
+        }
+        Ok(())
+    }
+
+    // The axis of all lines of a run.
+    fn of(alloc: Global, lines: &[Line], marks: &[bool]) -> Result<Axis, NoMemory> {
+        let mut axis = Axis {
+            xs: Vec::new(alloc),
+            x: 0,
+            columns: 0,
+            time: 0,
+        };
+        for (line, marked) in lines.iter().zip(marks) {
+            axis.push(line, *marked)?;
+        }
+        Ok(axis)
+    }
+
+    // With the room behind the last line.
+    #[tactic(auto, using(crate::proofs::AxisLemmas::rises_wider))]
+    fn whole(self) -> Columns {
+        let width = self.x.saturating_add(REST);
+        Columns {
+            xs: self.xs,
+            width,
+            is_whole: true,
+        }
+    }
+}
+
+// A place on an axis that is made to fit.
+fn fitted(x: u32, width: u32) -> u32
+    ensures { result ≡ fitted width x }
+{
+    if width == 0 {
+        return 0;
+    }
+    let fitted = u64::from(x) * u64::from(FIT) / u64::from(width);
+    fitted.min(u64::from(FIT)) as u32
+}
+
+impl Columns {
+    /// The axis of the lines of a run, by whether the picture changes at each of them. Fails where memory runs
+    /// out.
+    pub fn new(alloc: Global, lines: &[Line], marks: &[bool]) -> Result<Columns, NoMemory> {
+        let axis = Axis::of(alloc, lines, marks)?;
+        let is_whole = axis.columns <= WHOLE;
+        let columns = axis.whole();
+        if is_whole {
+            Ok(columns)
+        } else {
+            columns.fit(alloc)
+        }
+    }
+
+    // The same as an overview.
+    #[tactic(auto, using(crate::proofs::AxisLemmas::fits))]
+    fn fit(self, alloc: Global) -> Result<Columns, NoMemory> {
+        let mut xs = Vec::new(alloc);
+        for x in &self.xs {
+            xs.push(fitted(*x, self.width))?;
+        }
+        Ok(Columns {
+            xs,
+            width: FIT,
+            is_whole: false,
+        })
+    }
+
+    /// How wide the lanes are, in pixels.
+    pub fn width(&self) -> u32
+        ensures { result ≡ self.now.width }
+    {
+        self.width
+    }
+
+    /// Whether all is drawn, and not an overview.
+    pub fn is_whole(&self) -> bool
+        ensures { result ≡ self.now.is_whole }
+    {
+        self.is_whole
+    }
+
+    /// Where a line stands, counted from 1; line 0 stands at the left end, and one past the last where the run ends.
+    pub fn x(&self, line: u32) -> u32
+        ensures { result ≡ x_of self.now.xs.items self.now.width line }
+    {
+        let Some(place) = line.checked_sub(1) else {
+            return 0;
+        };
+        match self.xs.get(place as usize) {
+            Some(x) => *x,
+            None => self.width,
+        }
+    }
+
+    #[tactic(auto, using(crate::proofs::AxisLemmas::x_later, crate::proofs::AxisLemmas::x_within))]
+    /// What lies between two lines, where the second isn't before the first. It lies within the lanes.
+    pub fn span(&self, from: u32, until: u32) -> Span
+        ensures begins { result.x ≡ x_of self.now.xs.items self.now.width from }
+        ensures ends { from ≤ until → result.x + result.width ≡ x_of self.now.xs.items self.now.width until }
+        ensures within { result.x + result.width ≤ self.now.width }
+    {
+        let x = self.x(from);
+        let end = self.x(until);
+        Span {
+            x,
+            width: end.saturating_sub(x),
+        }
+    }
+}

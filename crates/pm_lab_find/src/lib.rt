@@ -1,0 +1,9 @@
+//! The command of `pm_lab` that looks at a run: what stands out in it, and whether what its author expects holds. Files and sinks
+//! are handed in.
+#![tactic(auto)]
+
+mod check;
+mod find;
+
+pub use check::check_top;
+pub use find::find_top;

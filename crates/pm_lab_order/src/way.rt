@@ -1,0 +1,84 @@
+//! The lines of an order that shows a mark.
+
+ghost use Rattle.std.specs.Prelude.{◌≡◌, IfErr, IfOk, length};
+ghost use Rattle.pm_sought.specs.Listed.{HasItNot, IsMarkAt};
+ghost use Rattle.pm_lab_order.specs.Order.{too_far_text};
+ghost use Rattle.pm_lab_order.specs.Work.{IsNotShown, IsWayTo};
+ghost use Rattle.pm_lab_orders.specs.Found.{IsFound, IsLedThrough};
+
+use crate::stop::Stop;
+use pm_base::NoMemory;
+use pm_lab_orders::{outcomes_of, pace_of};
+use pm_lab_words::Bounds;
+use pm_listed::Mark;
+use pm_model::{Line, Plan};
+use pm_orders_text::{Reach, absent_text, reach_of};
+use pm_outcomes::{Outcomes, witness_of};
+use pm_sought::place_of;
+use std::alloc::Global;
+
+// Says that none of the orders has a mark, so far as they were gone through.
+fn none_shows(
+    alloc: Global,
+    plan: &Plan,
+    _bounds: Bounds,
+    all: &Outcomes,
+    mark: Mark,
+) -> Result<Stop, NoMemory>
+    requires found { IsFound _bounds plan.now all.now }
+    requires none { HasItNot all.now.marks.items mark (length all.now.marks.items) }
+    ensures { IfOk result (IsNotShown _bounds plan.now mark) }
+{
+    let reach = reach_of(all.found.ended, all.found.rounds.len());
+    let text = absent_text(alloc, plan, reach, &mark)?;
+    match reach {
+        Reach::All => Ok(Stop::Absent(text)),
+        Reach::Within(_) => Ok(Stop::Absent(text)),
+        Reach::Limit(_) => Ok(Stop::Unseen(text)),
+    }
+}
+
+// The line that says that a way is too long.
+fn too_far(alloc: Global) -> Result<Vec<u8>, NoMemory>
+    ensures { IfOk result (λ text. text.items ≡ too_far_text) }
+{
+    let text = Vec::from_slice(
+        alloc,
+        b"order: the way there has more lines than the plan allows\n",
+    )?;
+    Ok(text)
+}
+
+// The lines of an order that has the mark at a place of the list.
+fn way_to(
+    alloc: Global,
+    plan: &Plan,
+    bounds: Bounds,
+    all: &Outcomes,
+    place: usize,
+    _mark: Mark,
+) -> Result<Vec<Line>, Stop>
+    requires found { IsFound bounds plan.now all.now }
+    requires led { IsLedThrough bounds plan.now all.now }
+    requires at { IsMarkAt all.now.marks.items _mark place }
+    ensures ok { IfOk result (λ lines. IsWayTo bounds plan.now _mark lines.items) }
+    ensures err { IfErr result (IsNotShown bounds plan.now _mark) }
+{
+    match witness_of(alloc, plan, pace_of(bounds), all, place)? {
+        Some(lines) => Ok(lines),
+        None => Err(Stop::Unseen(too_far(alloc)?)),
+    }
+}
+
+/// The lines of a lawful order that has a mark, of those within the bounds; or why there is none. Fails where memory
+/// runs out.
+pub fn way_of(alloc: Global, plan: &Plan, bounds: Bounds, mark: Mark) -> Result<Vec<Line>, Stop>
+    ensures ok { IfOk result (λ lines. IsWayTo bounds plan.now mark lines.items) }
+    ensures err { IfErr result (IsNotShown bounds plan.now mark) }
+{
+    let all = outcomes_of(alloc, plan, bounds)?;
+    match place_of(all.marks.as_slice(), mark) {
+        Some(place) => way_to(alloc, plan, bounds, &all, place, mark),
+        None => Err(none_shows(alloc, plan, bounds, &all, mark)?),
+    }
+}

@@ -1,0 +1,11 @@
+//! The sheet on which a picture of a run is drawn, with what stands around its lanes: the head, the names of the rows, moments,
+//! numbers of lines, and how each device ends.
+#![tactic(auto)]
+
+mod canvas;
+mod frame;
+mod head;
+
+pub use canvas::{Canvas, Frame, text_width};
+pub use frame::{draw_moments, draw_rows, ends_width, frame_of, write_numbers, write_quiet};
+pub use head::{Head, draw_head};

@@ -1,0 +1,2 @@
+mod LackLemmas
+mod WatchLemmas

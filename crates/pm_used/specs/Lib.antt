@@ -1,0 +1,3 @@
+pub mod Lacks
+pub mod Uses
+pub mod Watching
