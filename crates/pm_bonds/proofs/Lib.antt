@@ -2,6 +2,7 @@ mod Ignoring
 mod IgnoringFrames
 mod StatusFrames
 mod DomainFrames
+mod DomainLemmas
 mod PickLemmas
 mod PresentFrames
 mod Breaking

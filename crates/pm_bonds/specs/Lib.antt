@@ -1,4 +1,5 @@
 pub mod Bonds
+pub mod Domains
 pub mod Excuses
 pub mod Past
 pub mod Told

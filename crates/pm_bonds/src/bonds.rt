@@ -10,6 +10,7 @@ ghost use Rattle.pm_model.specs.Derived.{is_suspended};
 ghost use Rattle.pm_model.specs.History.{History};
 ghost use Rattle.pm_model.specs.Lawful.{IsLawful};
 ghost use Rattle.pm_model.specs.LineOf.{is_line_of};
+ghost use Rattle.pm_state.specs.Standing.{counters};
 
 use crate::Bond;
 use crate::groups::grouped;
@@ -136,6 +137,13 @@ impl Bonds {
             from,
             to,
         })
+    }
+
+    /// The counters after the lines so far.
+    pub fn parts(&self) -> &Parts
+        ensures { result.now ≡ counters self.now.replay.standing }
+    {
+        self.replay.parts()
     }
 
     /// Goes on by a line of this number that may come next, and tells which bonds it breaks. It looks at the

@@ -3,6 +3,7 @@
 
 mod bond;
 mod bonds;
+mod domains;
 mod groups;
 mod laws;
 mod past;
@@ -12,6 +13,7 @@ mod told;
 
 pub use bond::{Bond, Excuse};
 pub use bonds::Bonds;
+pub use domains::{DomainOn, domains_left};
 pub use laws::{domains_stay_on, lines_break_near_bonds, lines_turn_their_device};
 pub use replay::Replay;
 pub use standing::{off_domain, off_link, off_parent};

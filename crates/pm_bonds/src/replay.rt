@@ -1,16 +1,18 @@
 //! A run that goes again through its lines.
 
-ghost use Rattle.std.specs.Prelude.{◌≡◌, ◌∷◌, [], IfOk, true};
+ghost use Rattle.std.specs.Prelude.{◌≡◌, ◌<◌, ◌^◌, ◌∷◌, [], IfOk, true};
 ghost use Rattle.pm_bonds.specs.Replayed.{IsAfter};
+ghost use Rattle.pm_book.specs.Offering.{IsWrite};
+ghost use Rattle.pm_book.specs.Sometime.{MayCome, Writes};
 ghost use Rattle.pm_model.specs.History.{History};
 ghost use Rattle.pm_model.specs.Lawful.{IsLawful};
 ghost use Rattle.pm_model.specs.LineOf.{is_line_of};
-ghost use Rattle.pm_state.specs.Standing.{counters};
+ghost use Rattle.pm_state.specs.Standing.{IsActor, IsOf, StandsWell, counters};
 
 use pm_base::NoMemory;
-use pm_book::{all_stand_well, decide, each_line_fits, each_line_is_taken};
+use pm_book::{all_stand_well, each_line_fits, each_line_is_taken, offered};
 use pm_device::Parts;
-use pm_model::{Line, Plan};
+use pm_model::{Line, Move, Plan};
 use pm_state::State;
 use std::alloc::Global;
 use std::marker::Model;
@@ -34,6 +36,21 @@ impl Model for Replay {
     ghost Value = { Replayed };
 
     ghost view = { λ r. record { standing = r.state; last = r.last } };
+}
+
+// Puts in `out` the move by which a line is written that may come next: its actor has no other at this time.
+#[tactic(auto, using(crate::proofs::ReplayLemmas::offer_is))]
+fn put_move(plan: &Plan, state: &State, last: u64, line: &Line, out: &mut Move)
+    requires is_of { IsOf plan.now state.now }
+    requires stands { StandsWell plan.now state.now.world line.now.actor }
+    requires in_range { IsActor plan.now line.now.actor }
+    requires in_time { line.now.time < 2 ^ 63 }
+    requires may { MayCome plan.now state.now.world last line.now }
+    ensures { IsWrite out.new (λ event change next. (event ≡ line.now.event) × Writes plan.now state.now.world last line.now change next) }
+{
+    if !offered(plan, state, last, line.actor, line.time, out) {
+        unreachable!();
+    }
 }
 
 impl Replay {
@@ -61,17 +78,13 @@ impl Replay {
         all_stand_well();
         each_line_is_taken();
         each_line_fits();
-        let Ok(coming) = decide(plan, &self.state, self.last, line) else {
+        let mut coming = Move::Late(line.time);
+        put_move(plan, &self.state, self.last, line, &mut coming);
+        let Move::Write(_, change, next) = &coming else {
             unreachable!();
         };
-        self.state.go(
-            plan,
-            line.time,
-            line.actor,
-            &line.event,
-            &coming.change,
-            &coming.next,
-        );
+        self.state
+            .go(plan, line.time, line.actor, &line.event, change, next);
         self.last = line.time;
     }
 }

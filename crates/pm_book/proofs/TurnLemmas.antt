@@ -103,7 +103,7 @@ pub record IsNext (plan : Plan) (h : History) (turn : ActorId × ℕ) : Type 0 w
 awake : (plan : Plan) (h : History) (turn : ActorId × ℕ) → next_turn plan h ≡ Some turn → is_within turn.1 (wakes plan (world plan h) turn.0) ≡ true
 awake plan h turn is = turn_awake (wakes plan (world plan h)) (round plan h) (last_time h) turn (sym (next_is plan h) ∙ is)
 
-turn_writes : (plan : Plan) (h : History) (turn : ActorId × ℕ) → next_turn plan h ≡ Some turn → IsNext plan h turn
+pub turn_writes : (plan : Plan) (h : History) (turn : ActorId × ℕ) → next_turn plan h ≡ Some turn → IsNext plan h turn
 turn_writes plan h turn is = go (move_at plan (world plan h) turn.1 turn.0) refl ((actor_timed plan (world plan h) turn.1 turn.0).0 ∙ awake plan h turn is)
   where
     go : (o : Option Move) → move_at plan (world plan h) turn.1 turn.0 ≡ o → option_map_or writes_line o false ≡ true → IsNext plan h turn
@@ -112,13 +112,13 @@ turn_writes plan h turn is = go (move_at plan (world plan h) turn.1 turn.0) refl
     go (Some (Wait d)) e may = absurd (false≢true may)
     go (Some (Write event change next)) e may = record { event = event; change = change; next = next; gives = e }
 
-line_next : (plan : Plan) (h : History) (turn : ActorId × ℕ) → next_turn plan h ≡ Some turn → (n : IsNext plan h turn)
+pub line_next : (plan : Plan) (h : History) (turn : ActorId × ℕ) → next_turn plan h ≡ Some turn → (n : IsNext plan h turn)
     → next_line plan h ≡ Some (record { time = turn.1; actor = turn.0; event = n.event })
 line_next plan h turn is n =
     ap (option_and_then (λ (x : ActorId × ℕ). option_and_then (written x.0 x.1) (move_at plan (world plan h) x.1 x.0))) is ∙ ap (option_and_then (written turn.0 turn.1)) n.gives
 
 -- it comes soon after the last line, so while there is time for it no clock counts as less
-turn_soon : (plan : Plan) (h : History) (turn : ActorId × ℕ) → AreDue plan h → next_turn plan h ≡ Some turn → turn.1 ≤ last_time h + 1000000
+pub turn_soon : (plan : Plan) (h : History) (turn : ActorId × ℕ) → AreDue plan h → next_turn plan h ≡ Some turn → turn.1 ≤ last_time h + 1000000
 turn_soon plan h turn are is =
     turn_below (wakes plan (world plan h)) (last_time h + 1000000) (wake_early plan h are) (round plan h) (last_time h) turn (omega arith) (sym (next_is plan h) ∙ is)
 

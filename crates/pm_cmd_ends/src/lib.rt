@@ -18,7 +18,7 @@ pub use ending::{
 pub use loading::load;
 pub use numbers::number_in;
 pub use ordering::{is_option, is_separator};
-pub use output::{Format, write_text};
+pub use output::{Format, spell, write_header, write_text};
 pub use promises::promises_are_kept;
 pub use request::{DEFAULT_HANDS, MAX_HANDS, Request, read_words};
 pub use said::{no_line, verdict_line};

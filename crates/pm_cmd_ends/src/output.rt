@@ -60,8 +60,8 @@ pub fn write_text<O: Sink>(
     Ok(())
 }
 
-/// Writes the line with which a trace of format 2 begins.
-fn write_header<O: Sink>(out: &mut O, format: Format) -> Result<(), Failed>
+/// Writes the line with which a trace of format 2 begins. At `Failed` the sink took a prefix of it.
+pub fn write_header<O: Sink>(out: &mut O, format: Format) -> Result<(), Failed>
     ensures text { OnOk result
         (O.taken out.new ≡ append_known (O.taken out.old) (header_piece format)) }
     ensures prefix { OnErr result
@@ -102,7 +102,7 @@ fn write_lines<O: Sink>(
 }
 
 /// Puts the line's text behind a line of time `base`, with its newline, in place of what `text` held.
-fn spell(speller: &LineSpeller, format: Format, base: u64, line: &Line, text: &mut TimedText)
+pub fn spell(speller: &LineSpeller, format: Format, base: u64, line: &Line, text: &mut TimedText)
     requires of_plan { is_line_of speller.now line.now ≡ true }
     requires in_time { base ≤ line.now.time }
     ensures { text.new ≡ line_piece format speller.now base line.now }

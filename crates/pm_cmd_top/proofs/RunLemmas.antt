@@ -80,12 +80,3 @@ own_format plan lines =
 pub spelled_text : (plan spelled : Plan) (lines : List Line) (format : Format) → spelled ≡ plan → format ≡ format_of plan → text_in format spelled lines ≡ text plan lines
 spelled_text plan spelled lines format spelled_is format_is =
     ap (λ (q : Plan). text_in format q lines) spelled_is ∙ ap (λ (f : Format). text_in f plan lines) format_is ∙ own_format plan lines
-
--- the text of a book's lines is that of the lines as they are shown
-pub shown_text : (plan shown : Plan) (lines h : List Line) → shown ≡ plan → reverse lines ≡ h → text shown lines ≡ text plan (reverse h)
-shown_text plan shown lines h shown_is lines_are =
-    ap (λ (q : Plan). text q lines) shown_is ∙ ap (text plan) (sym (reverse-reverse lines) ∙ ap (λ (l : List Line). reverse l) lines_are)
-
--- the text of the run
-pub run_text : (plan ran : Plan) (h : List Line) → ran ≡ plan → reverse h ≡ serial plan → text ran (reverse h) ≡ text plan (serial plan)
-run_text plan ran h ran_is lines_are = ap (λ (q : Plan). text q (reverse h)) ran_is ∙ ap (text plan) lines_are

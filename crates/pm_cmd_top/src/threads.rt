@@ -124,5 +124,5 @@ pub(crate) fn write_finished<O: Sink>(
 pub(crate) fn write_alone<O: Sink>(alloc: Global, plan: Plan, out: &mut O) -> Result<(), Fault>
     ensures { Came (RunEnds plan) result ⊥ (taking O.taken O.faults out.old out.new) }
 {
-    write_serial(alloc, plan, out)
+    write_serial(alloc, &plan, out)
 }

@@ -8,7 +8,6 @@ ghost use Rattle.pm_model.specs.Text.{text};
 ghost use Rattle.pm_cmd_ends.specs.Coming.{Wrote};
 ghost use Rattle.pm_cmd_ends.specs.Ending.{taking};
 
-use pm_book::Book;
 use pm_cmd_ends::{Fault, Format, write_text};
 use pm_io::Sink;
 use pm_linetext::LineSpeller;
@@ -30,14 +29,4 @@ pub(crate) fn write_lines<O: Sink>(
     let speller = LineSpeller::new(alloc, plan)?;
     write_text(out, &speller, Format::of(plan), lines)?;
     Ok(())
-}
-
-/// Writes the lines of a book.
-pub(crate) fn write_book<O: Sink>(alloc: Global, book: &Book, out: &mut O) -> Result<(), Fault>
-    ensures { Wrote (text book.now.plan (reverse book.now.lines)) result
-        (taking O.taken O.faults out.old out.new) }
-{
-    let plan = book.plan();
-    let lines = book.lines();
-    write_lines(alloc, plan, lines, out)
 }

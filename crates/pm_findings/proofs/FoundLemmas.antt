@@ -1,5 +1,5 @@
 -- What is told of the counts in a table is what stands out.
-use Rattle.std.proofs.Common.{ℕ, suc, zero, ◌≡◌, ◌+◌, ◌<◌, Bool, true, false, ◌++◌, List, [], ◌∷◌, length, reverse, if◌then◌else◌, ap, refl, subst, sym, ◌∙◌, arith}
+use Rattle.std.proofs.Common.{ℕ, suc, zero, ◌≡◌, ◌+◌, ◌<◌, Bool, true, false, ◌++◌, List, [], ◌∷◌, length, reverse, if◌then◌else◌, ap, append_assoc, refl, subst, sym, ◌∙◌, arith}
 use Rattle.std.specs.List.{flat_map, list_all, range_with_len}
 use Rattle.std.proofs.lemmas.List.{append-nil, length-reverse}
 use Rattle.pm_base.specs.declared.DevId.{DevId}
@@ -9,7 +9,7 @@ use Rattle.pm_model.specs.History.{History}
 use Rattle.pm_model.specs.LineOf.{is_line_of}
 use Rattle.pm_findings.specs.declared.Finding.{Finding}
 use Rattle.pm_findings.specs.declared.watched.Count.{Count}
-use Rattle.pm_findings.specs.AllFound.{all_found, at_line, bonds_at, found_after, found_at, found_in, left_counts}
+use Rattle.pm_findings.specs.AllFound.{all_found, at_line, domains_after, found_after, found_at, found_in, left_counts, placed_at}
 use Rattle.pm_findings.specs.Kept.{Known, known, row_at}
 use Rattle.pm_findings.specs.OpenCounts.{device_of}
 use Rattle.pm_findings.specs.WatchTable.{IsTable, Table, counts_in, on_in}
@@ -19,8 +19,8 @@ use Rattle.pm_findings.proofs.StepLemmas.{front, line_inside, rear}
 found_same : (plan : Plan) (f g : DevId → List Count) (h : History) → ((d : DevId) → d.0 < length plan.devices + 1 → f d ≡ g d) → list_all (is_line_of plan) h ≡ true → found_in plan f h ≡ found_in plan g h
 found_same plan f g [] same of_plan = refl
 found_same plan f g (line ∷ h) same of_plan =
-    ap (λ l. l ++ (found_at f h line ++ bonds_at plan h line)) (found_same plan f g h same (rear (is_line_of plan line) (list_all (is_line_of plan) h) of_plan))
-    ∙ ap (λ l. found_in plan g h ++ (l ++ bonds_at plan h line)) (ap (λ left. found_at (λ d. left) h line) (same (device_of line.event) (line_inside plan line (front (is_line_of plan line) (list_all (is_line_of plan) h) of_plan))))
+    ap (λ l. l ++ (found_at f h line ++ placed_at plan h line)) (found_same plan f g h same (rear (is_line_of plan line) (list_all (is_line_of plan) h) of_plan))
+    ∙ ap (λ l. found_in plan g h ++ (l ++ placed_at plan h line)) (ap (λ left. found_at (λ d. left) h line) (same (device_of line.event) (line_inside plan line (front (is_line_of plan line) (list_all (is_line_of plan) h) of_plan))))
 
 left_is : (b : Bool) (devices callers : ℕ) (run : History) (ends : Table) → IsTable devices callers (if b then run else []) ends → (d : DevId) → d.0 < devices
     → counts_in ends d ≡ left_counts b run d
@@ -45,19 +45,25 @@ pub unfinished_is : (plan : Plan) (b : Bool) (run : History) (ends : Table) (all
 unfinished_is plan b run ends all off of_plan kept is =
     is ∙ found_same plan (counts_in ends) (left_counts b run) run (left_is b (length plan.devices + 1) (length plan.callers) run ends kept) of_plan
     ∙ sym (append-nil (found_in plan (left_counts b run) run))
-    ∙ ap (λ c. found_in plan (left_counts b run) run ++ (if c then found_after (length plan.devices) run else [])) (sym off)
+    ∙ ap (λ c. found_in plan (left_counts b run) run ++ (if c then found_after (length plan.devices) run ++ domains_after plan run else [])) (sym off)
 
 -- of a finished run
-pub finished_is : (plan : Plan) (b : Bool) (lines : List Line) (ends : Table) (number devices : ℕ) (all after : List Finding) → b ≡ true → list_all (is_line_of plan) (reverse lines) ≡ true
+pub finished_is : (plan : Plan) (b : Bool) (lines : List Line) (ends : Table) (number devices : ℕ) (all after told : List Finding) → b ≡ true → list_all (is_line_of plan) (reverse lines) ≡ true
     → IsTable (length plan.devices + 1) (length plan.callers) (if b then reverse lines else []) ends → number ≡ length lines → devices ≡ length plan.devices
     → all ≡ found_in plan (counts_in ends) (reverse lines)
     → after ≡ all ++ flat_map (λ d. at_line number (on_in (row_at ends.rows (record { 0 = d })) (record { 0 = d }))) (range_with_len 0 devices)
-    → after ≡ all_found plan b (reverse lines)
-finished_is plan b lines ends number devices all after on of_plan kept counted same is more =
+    → (number ≡ length (reverse lines) → told ≡ after ++ domains_after plan (reverse lines))
+    → told ≡ all_found plan b (reverse lines)
+finished_is plan b lines ends number devices all after told on of_plan kept counted same is more last =
     let whole = subst (λ c. IsTable (length plan.devices + 1) (length plan.callers) (if c then reverse lines else []) ends) on kept in
-    more
+    let devices_on = found_after (length plan.devices) (reverse lines) in
+    let domains_on = domains_after plan (reverse lines) in
+    let numbered = counted ∙ sym (length-reverse lines) in
+    last numbered
+    ∙ ap (λ l. l ++ domains_on) (more
     ∙ ap (λ n. all ++ flat_map (λ d. at_line number (on_in (row_at ends.rows (record { 0 = d })) (record { 0 = d }))) (range_with_len 0 n)) same
-    ∙ ap (λ l. all ++ l) (on_is (length plan.devices) (length plan.callers) (reverse lines) ends number (counted ∙ sym (length-reverse lines)) whole)
-    ∙ ap (λ l. l ++ found_after (length plan.devices) (reverse lines))
-    (is ∙ found_same plan (counts_in ends) (left_counts b (reverse lines)) (reverse lines) (left_is b (length plan.devices + 1) (length plan.callers) (reverse lines) ends kept) of_plan)
-    ∙ ap (λ c. found_in plan (left_counts b (reverse lines)) (reverse lines) ++ (if c then found_after (length plan.devices) (reverse lines) else [])) (sym on)
+    ∙ ap (λ l. all ++ l) (on_is (length plan.devices) (length plan.callers) (reverse lines) ends number numbered whole)
+    ∙ ap (λ l. l ++ devices_on)
+    (is ∙ found_same plan (counts_in ends) (left_counts b (reverse lines)) (reverse lines) (left_is b (length plan.devices + 1) (length plan.callers) (reverse lines) ends kept) of_plan))
+    ∙ append_assoc (found_in plan (left_counts b (reverse lines)) (reverse lines)) devices_on domains_on
+    ∙ ap (λ c. found_in plan (left_counts b (reverse lines)) (reverse lines) ++ (if c then devices_on ++ domains_on else [])) (sym on)

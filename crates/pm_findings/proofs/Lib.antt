@@ -5,3 +5,4 @@ pub mod StepLemmas
 pub mod FoundLemmas
 pub mod ShareLemmas
 pub mod OnLemmas
+pub mod PlacedLemmas

@@ -19,7 +19,7 @@ use Rattle.pm_model.specs.LineOf.{is_actor_of, is_device_of, is_event_of, is_lin
 use Rattle.pm_model.specs.Spelling.{operand_of, takes_device}
 use Rattle.pm_findings.specs.declared.Finding.{Finding}
 use Rattle.pm_findings.specs.declared.watched.Called.{Called}
-use Rattle.pm_findings.specs.AllFound.{bonds_at, found_at, found_in}
+use Rattle.pm_findings.specs.AllFound.{found_at, found_in, placed_at}
 use Rattle.pm_findings.specs.Kept.{AreCalled, known}
 use Rattle.pm_findings.specs.OpenCounts.{device_of}
 use Rattle.pm_findings.specs.Said.{call_by}
@@ -140,23 +140,25 @@ bonds_more plan lines i number e before after within lawful same kept more =
     subst (λ h. IsKept plan after h) (sym (reverse_more lines i e within))
     (more (reverse (take i lines)) (lawful_at plan lines i e within lawful) kept (ap (λ m. m + 1) (same ∙ sym (numbered lines i within))))
 
-pub found_more : (plan : Plan) (lines : List Line) (i number : ℕ) (e : Line) (ends t : Table) (k : Kept) (before told after : List Finding) → i < length lines
+pub found_more : (plan : Plan) (lines : List Line) (i number : ℕ) (e : Line) (ends t : Table) (k : Kept) (called : Option Called) (before told after : List Finding) → i < length lines
     → IsLawful plan (reverse lines) → list_all (is_line_of plan) (reverse lines) ≡ true → number ≡ i
     → IsTable (length plan.devices + 1) (length plan.callers) (reverse (take i lines)) t → IsKept plan k (reverse (take i lines))
     → before ≡ found_in plan (counts_in ends) (reverse (take i lines))
     → told ≡ before ++ told_at ends t (number + 1) (get_or lines i e)
-    → ((h : History) → IsLawful plan (get_or lines i e ∷ h) → IsKept plan k h → number + 1 ≡ length h + 1 → after ≡ told ++ bonds_at plan h (get_or lines i e))
+    → (let line : Line = get_or lines i e in called ≡ called_at t.calls line.actor)
+    → ((h : History) → IsLawful plan (get_or lines i e ∷ h) → IsKept plan k h → number + 1 ≡ length h + 1 → (let line : Line = get_or lines i e in called ≡ call_by h line.actor) → after ≡ told ++ placed_at plan h (get_or lines i e))
     → after ≡ found_in plan (counts_in ends) (reverse (take (i + 1) lines))
-found_more plan lines i number e ends t k before told after within lawful all same kept bonds was is more =
+found_more plan lines i number e ends t k called before told after within lawful all same kept bonds was is was_called more =
     let line = get_or lines i e in
     let h = reverse (take i lines) in
-    let broken = bonds_at plan h line in
+    let placed = placed_at plan h line in
     more h (lawful_at plan lines i e within lawful) bonds (ap (λ m. m + 1) (same ∙ sym (numbered lines i within)))
-    ∙ ap (λ l. l ++ broken) (is ∙ ap (λ l. l ++ told_at ends t (number + 1) line) was
+    (was_called ∙ called_is plan h t.calls line.actor kept.called (actor_of_plan plan line (line_at plan lines i e within all)))
+    ∙ ap (λ l. l ++ placed) (is ∙ ap (λ l. l ++ told_at ends t (number + 1) line) was
     ∙ ap (λ m. found_in plan (counts_in ends) h ++ told_at ends t (m + 1) line) (same ∙ sym (numbered lines i within))
     ∙ ap (λ l. found_in plan (counts_in ends) h ++ l)
     (told_is plan line h ends t (line_at plan lines i e within all) (inside_at plan lines i (length plan.devices + 1) e within refl all) kept))
-    ∙ append_assoc (found_in plan (counts_in ends) h) (found_at (counts_in ends) h line) broken
+    ∙ append_assoc (found_in plan (counts_in ends) h) (found_at (counts_in ends) h line) placed
     ∙ ap (found_in plan (counts_in ends)) (sym (reverse_more lines i e within))
 
 -- one device more is looked at

@@ -1,6 +1,6 @@
 -- What stands out at a line (this project's own). Each kind is told of the lines before it: the open counts of the line's
 -- device, the newest first, its status, and the last call of the line's actor.
-use Rattle.std.specs.Prelude.{ℕ, Bool, true, false, not, ◌&&◌, List, Option, None, ℤ, pos, ◌-◌, length, nat_eq, nat_le, nat_lt, option_map, slice_get}
+use Rattle.std.specs.Prelude.{ℕ, Bool, true, false, not, ◌&&◌, List, Option, None, ℤ, pos, ◌-◌, int_lt, length, nat_abs, nat_eq, nat_le, nat_lt, option_map, slice_get}
 use Rattle.std.specs.List.{list_any}
 use Rattle.std.specs.Option.{option_and_then, option_map_or}
 use Rattle.std.specs.Ordering.{int_eq}
@@ -14,6 +14,7 @@ use Rattle.pm_model.specs.declared.event.Helper.{Helper}
 use Rattle.pm_model.specs.declared.event.Helper.TheVariants as helper
 use Rattle.pm_model.specs.Counted.{only_if}
 use Rattle.pm_model.specs.Derived.{is_active_status}
+use Rattle.pm_model.specs.declared.views.Device.{Device}
 use Rattle.pm_bonds.specs.declared.bond.Bond.TheVariants as bond
 use Rattle.pm_findings.specs.declared.Kind.{Kind}
 use Rattle.pm_findings.specs.declared.Kind.TheVariants as kind
@@ -116,6 +117,23 @@ never_on counts status left actor (event.Put d why.Caller) =
     option_and_then (λ count. only_if (not (is_active_status status) && nat_le left count.line && not count.failed) (kind.NeverOn actor d count.line)) (taken actor counts)
 never_on counts status left actor _ = None
 
+-- the helpers that put a count and ask for an autosuspend
+abbrev pub puts_for_autosuspend : Helper → Bool
+puts_for_autosuspend helper.PutAutosuspend = true
+puts_for_autosuspend helper.PutSyncAutosuspend = true
+puts_for_autosuspend _ = false
+
+-- a put of its last count lets the device, which is Active and enabled, suspend once its delay has passed, and the delay counts from
+-- an earlier moment: from when the device was last marked as busy (runtime_pm.rst, section 9)
+abbrev pub is_unmarked : Device → ℕ → Bool
+is_unmarked x time = is_active_status x.status && nat_eq x.depth 0 && nat_eq x.usage 1 && x.use_auto && int_lt (pos 0) x.delay && nat_lt x.last_busy time
+
+-- unmarked: such a put, by a helper that asks for an autosuspend; it says how long before the put the device was marked, and its delay
+abbrev pub unmarked : Device → Option Called → ℕ → ActorId → Event → Option Kind
+unmarked x called time actor (event.Put d why.Caller) =
+    option_and_then (λ call. only_if (puts_for_autosuspend call.helper && is_unmarked x time) (kind.Unmarked actor call.helper d (time - x.last_busy) (nat_abs x.delay))) called
+unmarked x called time actor _ = None
+
 -- failed: a callback ends with another code than 0
 abbrev pub failed : Event → Option Kind
 failed (event.End d cb code) = only_if (not (int_eq code (pos 0))) (kind.Failed d cb code)
@@ -137,6 +155,8 @@ weight_of (kind.DisabledOn d holder) = weight.Warning
 weight_of (kind.NeverOn actor d line) = weight.Warning
 weight_of (kind.Failed d cb code) = weight.Note
 weight_of (kind.Poisoned actor h d line keeps) = weight.Error
+weight_of (kind.Unmarked actor h d ms delay) = weight.Warning
+weight_of (kind.DomainOn left) = weight.Warning
 weight_of (kind.Off (bond.Domain d o)) = weight.Error
 weight_of (kind.Off (bond.Parent d p excuse)) = weight.Warning
 weight_of (kind.Off (bond.Supplier d s excuse)) = weight.Warning

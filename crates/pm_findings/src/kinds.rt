@@ -3,14 +3,14 @@
 ghost use Rattle.std.specs.Prelude.{◌≡◌, ◌&&◌, nat_eq, nat_lt, option_map, reverse};
 ghost use Rattle.std.specs.List.{list_any};
 ghost use Rattle.pm_findings.specs.OpenCounts.{is_of};
-ghost use Rattle.pm_findings.specs.StandsOut.{answer, disabled_on, earliest, failed, has_put, is_poisoned, is_refusable, keeps_count, leak, never_on, no_count, poisoned, refused, stolen};
+ghost use Rattle.pm_findings.specs.StandsOut.{answer, disabled_on, earliest, failed, has_put, is_poisoned, is_refusable, is_unmarked, keeps_count, leak, never_on, no_count, poisoned, puts_for_autosuspend, refused, stolen, unmarked};
 ghost use Rattle.pm_model.specs.Derived.{is_active_status};
 
 use crate::Kind;
 use crate::codes::{asks_again, is_error};
 use crate::watched::{Called, Count, Watched, is_actor};
 use pm_base::{ActorId, EINVAL, Status, Why};
-use pm_model::{Event, Helper, Line};
+use pm_model::{Device, Event, Helper, Line};
 
 // Whether one of these counts was taken in this line.
 fn has_line(counts: &[Count], number: u32) -> bool
@@ -262,6 +262,50 @@ pub fn never_on(row: &Watched, line: &Line) -> Option<Kind>
         actor: line.actor,
         dev,
         line: count.line,
+    })
+}
+
+// Whether a helper puts a count and asks for an autosuspend.
+fn puts_for_autosuspend(helper: Helper) -> bool
+    ensures { result ≡ puts_for_autosuspend helper }
+{
+    matches!(helper, Helper::PutAutosuspend | Helper::PutSyncAutosuspend)
+}
+
+// Whether a put of its last count at this time lets a device suspend once a delay has passed that counts from an
+// earlier moment.
+fn is_unmarked(device: &Device, time: u64) -> bool
+    ensures { result ≡ is_unmarked device.now time }
+{
+    is_active(device.status)
+        && device.depth == 0
+        && device.usage == 1
+        && device.use_auto
+        && device.delay > 0
+        && device.last_busy < time
+}
+
+/// A put that asks for an autosuspend of a device that stands so, where the delay counts from an earlier moment.
+pub fn unmarked(device: &Device, called: Option<Called>, line: &Line) -> Option<Kind>
+    ensures { result ≡ unmarked device.now called line.now.time line.now.actor line.now.event }
+{
+    let Event::Put {
+        dev,
+        why: Why::Caller,
+    } = line.event
+    else {
+        return None;
+    };
+    let call = called?;
+    if !puts_for_autosuspend(call.helper) || !is_unmarked(device, line.time) {
+        return None;
+    }
+    Some(Kind::Unmarked {
+        actor: line.actor,
+        helper: call.helper,
+        dev,
+        ms: line.time.saturating_sub(device.last_busy),
+        delay: device.delay.unsigned_abs(),
     })
 }
 

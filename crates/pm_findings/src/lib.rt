@@ -19,10 +19,12 @@ mod telling;
 mod watch;
 mod watched;
 
+use breaking::tell_domains;
 pub use choosing::{faults, has_faults};
 pub use laws::{never_on_is_said, open_counts_are_share, puts_find_counts};
 use pm_base::{ActorId, Cb, DevId, NoMemory};
-pub use pm_bonds::{Bond, Excuse};
+use pm_bonds::Bonds;
+pub use pm_bonds::{Bond, DomainOn, Excuse};
 use pm_model::{Helper, Line, Plan};
 use std::alloc::Global;
 use telling::{after, at_end, at_lines};
@@ -94,6 +96,15 @@ pub enum Kind {
         dev: DevId,
         line: u32,
     },
+    /// A put that lets a device suspend once its autosuspend delay has passed, though the delay counts from an earlier
+    /// moment: for so many milliseconds before the put the device wasn't marked as busy; and the delay.
+    Unmarked {
+        actor: ActorId,
+        helper: Helper,
+        dev: DevId,
+        ms: u64,
+        delay: u64,
+    },
     /// A callback that failed.
     Failed {
         dev: DevId,
@@ -111,6 +122,8 @@ pub enum Kind {
     },
     /// A bond of an Active device that the line broke: its domain is off, or its parent or a supplier isn't Active.
     Off(Bond),
+    /// A power domain that is on at the end though no device of it is Active.
+    DomainOn(DomainOn),
 }
 
 /// What stands out, and at which line.
@@ -135,6 +148,8 @@ impl Kind {
             Kind::LeftOn { .. }
             | Kind::DisabledOn { .. }
             | Kind::NeverOn { .. }
+            | Kind::Unmarked { .. }
+            | Kind::DomainOn(_)
             | Kind::Off(Bond::Parent { .. } | Bond::Supplier { .. }) => Weight::Warning,
             Kind::Refused { .. } | Kind::NoCount { .. } | Kind::Failed { .. } => Weight::Note,
         }
@@ -156,7 +171,8 @@ fn ends_of(alloc: Global, plan: &Plan, lines: &[Line], is_finished: bool) -> Res
 
 /// All that stands out at these lines of a run of a plan, in their order, and at the end where the run is finished.
 /// It reads the lines twice, or once where it isn't, and at each line it looks at the counts that are open on the
-/// line's device, and at that one's children and links. Fails where memory runs out.
+/// line's device, and at that one's children and links; at the end, for each domain that is on, at all devices. Fails
+/// where memory runs out.
 pub fn findings(
     alloc: Global,
     plan: &Plan,
@@ -169,9 +185,12 @@ pub fn findings(
     ensures { IfOk result (λ all. all.items ≡ all_found plan.now is_finished (reverse lines.now)) }
 {
     let ends = ends_of(alloc, plan, lines, is_finished)?;
-    let mut all = at_lines(alloc, plan, &ends, lines)?;
+    let mut bonds = Bonds::start(alloc, plan)?;
+    let mut all = at_lines(alloc, plan, &ends, &mut bonds, lines)?;
     if is_finished {
-        at_end(&mut all, &ends, plan.devices.len(), lines.len() as u32)?;
+        let number = lines.len() as u32;
+        at_end(&mut all, &ends, plan.devices.len(), number)?;
+        tell_domains(alloc, &mut all, &bonds, plan, number)?;
     }
     Ok(all)
 }

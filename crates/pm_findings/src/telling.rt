@@ -1,6 +1,7 @@
 //! What is told at a line, and at the end.
 
-ghost use Rattle.std.specs.Prelude.{◌≡◌, ◌+◌, ◌<◌, ◌≤◌, ◌^◌, ◌++◌, IfOk, OnOk, if◌then◌else◌, length, reverse, true};
+ghost use Rattle.std.specs.Prelude.{◌≡◌, ◌+◌, ◌<◌, ◌≤◌, ◌^◌, ◌++◌, IfOk, OnOk, [], if◌then◌else◌, length, reverse, true};
+ghost use Rattle.pm_bonds.specs.Kept.{IsKept};
 ghost use Rattle.std.specs.List.{flat_map, list_all, range_with_len};
 ghost use Rattle.pm_findings.specs.AllFound.{at_line, found_in};
 ghost use Rattle.pm_findings.specs.Kept.{row_at};
@@ -9,7 +10,7 @@ ghost use Rattle.pm_findings.specs.WatchTable.{IsTable, answers_told, counts_in,
 ghost use Rattle.pm_model.specs.Lawful.{IsLawful};
 ghost use Rattle.pm_model.specs.LineOf.{is_line_of};
 
-use crate::breaking::tell_broken;
+use crate::breaking::{push, tell_placed};
 use crate::kinds::{
     answer, disabled_on, earliest, failed, is_active, leak, never_on, no_count, poisoned, refused,
     stolen,
@@ -21,16 +22,6 @@ use pm_base::{DevId, NoMemory};
 use pm_bonds::Bonds;
 use pm_model::{Line, Plan};
 use std::alloc::Global;
-
-// Appends a finding of this kind, if there is one.
-fn push(all: &mut Vec<Finding>, number: u32, found: Option<Kind>) -> Result<(), NoMemory>
-    ensures { OnOk result (all.new.items ≡ all.old.items ++ at_line number found) }
-{
-    if let Some(kind) = found {
-        all.push(Finding { line: number, kind })?;
-    }
-    Ok(())
-}
 
 // Appends what a line tells of gets and puts.
 #[tactic(auto, using(std::proofs::lemmas::List::append_assoc))]
@@ -121,28 +112,31 @@ pub fn after(alloc: Global, plan: &Plan, lines: &[Line]) -> Result<Watch, NoMemo
     Ok(watch)
 }
 
-/// What stands out at these lines of a run, in their order, where this is what is left at the end. Fails where
-/// memory runs out.
+/// What stands out at these lines of a run, in their order, where this is what is left at the end. Goes through them
+/// with what is kept before any. Fails where memory runs out.
 pub fn at_lines(
     alloc: Global,
     plan: &Plan,
     ends: &Watch,
+    bonds: &mut Bonds,
     lines: &[Line],
 ) -> Result<Vec<Finding>, NoMemory>
     requires few { length lines.now < 2 ^ 32 }
     requires lawful { IsLawful plan.now (reverse lines.now) }
     requires of_plan { list_all (is_line_of plan.now) (reverse lines.now) ≡ true }
     requires ends { length ends.now.rows ≡ length plan.now.devices + 1 }
-    ensures { IfOk result (λ all. all.items ≡ found_in plan.now (counts_in ends.now) (reverse lines.now)) }
+    requires start { IsKept plan.now bonds.old [] }
+    ensures found { IfOk result (λ all. all.items ≡ found_in plan.now (counts_in ends.now) (reverse lines.now)) }
+    ensures kept { OnOk result (IsKept plan.now bonds.new (reverse lines.now)) }
 {
     let mut watch = Watch::new(alloc, plan.devices.len() + 1, plan.callers.len())?;
-    let mut bonds = Bonds::start(alloc, plan)?;
     let mut all = Vec::new(alloc);
     let mut number = 0;
     for line in lines {
         number += 1;
+        let called = watch.called(line.actor);
         step(&mut all, ends, &mut watch, number, line)?;
-        tell_broken(alloc, &mut all, &mut bonds, plan, number, line)?;
+        tell_placed(alloc, &mut all, bonds, plan, called, number, line)?;
     }
     Ok(all)
 }

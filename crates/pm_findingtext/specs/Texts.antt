@@ -38,6 +38,8 @@ kind_word (kind.NoCount actor h d) = codes "no count"
 kind_word (kind.LeftOn d holder) = codes "left on"
 kind_word (kind.DisabledOn d holder) = codes "left on"
 kind_word (kind.NeverOn actor d line) = codes "never on"
+kind_word (kind.Unmarked actor h d ms delay) = codes "unmarked"
+kind_word (kind.DomainOn left) = codes "left on"
 kind_word (kind.Failed d cb code) = codes "failed"
 kind_word (kind.Poisoned actor h d line keeps) = codes "poisoned"
 kind_word (kind.Off (bond.Domain d o)) = codes "off domain"
@@ -89,6 +91,11 @@ excuse_text names d x (excuse.Forced line) = codes "line " ++ decimal line ++ co
 excuse_text names d x excuse.Disabled = device_name names x.0 ++ codes " was disabled when " ++ device_name names d.0 ++ codes " went on"
 excuse_text names d x excuse.Ignored = device_name names x.0 ++ codes " ignored its children"
 
+-- the device that keeps a domain on, if one does
+abbrev pub keeper_text : Names → Option DevId → List ℕ
+keeper_text names (Some d) = codes "; " ++ device_name names d.0 ++ codes " is disabled"
+keeper_text names None = []
+
 -- d is Active, and its parent or a supplier isn't
 abbrev pub off_text : Names → DevId → List ℕ → DevId → Excuse → List ℕ
 off_text names d bond x excuse =
@@ -129,6 +136,11 @@ kind_text plan (kind.DisabledOn d holder) =
 kind_text plan (kind.NeverOn actor d line) =
     let names = names_of plan in
     actor_text names actor ++ codes " puts the count of line " ++ decimal line ++ codes ", and " ++ device_name names d.0 ++ codes " was never active in between"
+kind_text plan (kind.Unmarked actor h d ms delay) =
+    let names = names_of plan in
+    actor_text names actor ++ codes ": " ++ call_text names h d ++ codes " comes " ++ decimal ms ++ codes " ms after it was last marked as busy, and its delay of " ++ decimal delay ++ codes " ms counts from there"
+kind_text plan (kind.DomainOn left) =
+    codes "domain " ++ domain_name plan left.domain ++ codes " is on at the end, and no device of it is active" ++ keeper_text (names_of plan) left.keeper
 kind_text plan (kind.Failed d cb code) =
     let names = names_of plan in
     device_name names d.0 ++ codes ": the " ++ cb_word cb ++ codes " callback answers " ++ code_text code

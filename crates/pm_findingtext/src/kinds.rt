@@ -2,17 +2,18 @@
 
 ghost use Rattle.std.specs.Prelude.{◌≡◌, ◌++◌, OnOk};
 ghost use Rattle.pm_findings.specs.declared.Kind.TheVariants as kind;
-ghost use Rattle.pm_findingtext.specs.Texts.{holder_text, keeps_text, kind_text, taken_text};
+ghost use Rattle.pm_findingtext.specs.Texts.{holder_text, keeper_text, keeps_text, kind_text, taken_text};
 ghost use Rattle.pm_model.specs.Spelling.{cb_word};
 ghost use Rattle.pm_model.specs.Text.{names_of};
 
 use crate::bonds::push_bond;
 use crate::pieces::{
-    push, push_actor, push_call, push_code, push_device, push_helper, push_number,
+    push, push_actor, push_call, push_code, push_device, push_domain, push_helper, push_long,
+    push_number,
 };
 use crate::words::cb_word;
 use pm_base::{ActorId, Cb, DevId, EINVAL, NoMemory};
-use pm_findings::{Count, Kind};
+use pm_findings::{Count, DomainOn, Kind};
 use pm_model::{Helper, Plan};
 
 /// Appends which call took a count.
@@ -196,6 +197,55 @@ fn push_never_on(
     Ok(())
 }
 
+/// Appends what is told of a device that isn't marked as busy.
+fn push_unmarked(
+    text: &mut Vec<u8>,
+    plan: &Plan,
+    actor: ActorId,
+    helper: Helper,
+    dev: DevId,
+    ms: u64,
+    delay: u64,
+) -> Result<(), NoMemory>
+    ensures { OnOk result (text.new.items ≡ text.old.items ++ kind_text plan.now (kind.Unmarked actor helper dev ms delay)) }
+{
+    push_actor(text, plan, actor)?;
+    push(text, b": ")?;
+    push_call(text, plan, helper, dev)?;
+    push(text, b" comes ")?;
+    push_long(text, ms)?;
+    push(
+        text,
+        b" ms after it was last marked as busy, and its delay of ",
+    )?;
+    push_long(text, delay)?;
+    push(text, b" ms counts from there")?;
+    Ok(())
+}
+
+/// Appends which device keeps a domain on, if one does.
+fn push_keeper(text: &mut Vec<u8>, plan: &Plan, keeper: Option<DevId>) -> Result<(), NoMemory>
+    ensures { OnOk result (text.new.items ≡ text.old.items ++ keeper_text (names_of plan.now) keeper) }
+{
+    if let Some(dev) = keeper {
+        push(text, b"; ")?;
+        push_device(text, plan, dev)?;
+        push(text, b" is disabled")?;
+    }
+    Ok(())
+}
+
+/// Appends what is told of a domain that is left on.
+fn push_domain_on(text: &mut Vec<u8>, plan: &Plan, left: DomainOn) -> Result<(), NoMemory>
+    ensures { OnOk result (text.new.items ≡ text.old.items ++ kind_text plan.now (kind.DomainOn left)) }
+{
+    push(text, b"domain ")?;
+    push_domain(text, plan, left.domain)?;
+    push(text, b" is on at the end, and no device of it is active")?;
+    push_keeper(text, plan, left.keeper)?;
+    Ok(())
+}
+
 /// Appends the word of a callback.
 fn push_cb(text: &mut Vec<u8>, cb: Cb) -> Result<(), NoMemory>
     ensures { OnOk result (text.new.items ≡ text.old.items ++ cb_word cb) }
@@ -269,6 +319,13 @@ pub(crate) fn push_kind(text: &mut Vec<u8>, plan: &Plan, kind: &Kind) -> Result<
         Kind::LeftOn { dev, holder } => push_left_on(text, plan, dev, holder),
         Kind::DisabledOn { dev, holder } => push_disabled_on(text, plan, dev, holder),
         Kind::NeverOn { actor, dev, line } => push_never_on(text, plan, actor, dev, line),
+        Kind::Unmarked {
+            actor,
+            helper,
+            dev,
+            ms,
+            delay,
+        } => push_unmarked(text, plan, actor, helper, dev, ms, delay),
         Kind::Failed { dev, cb, code } => push_failed(text, plan, dev, cb, code),
         Kind::Poisoned {
             actor,
@@ -278,5 +335,6 @@ pub(crate) fn push_kind(text: &mut Vec<u8>, plan: &Plan, kind: &Kind) -> Result<
             keeps,
         } => push_poisoned(text, plan, actor, helper, dev, line, keeps),
         Kind::Off(bond) => push_bond(text, plan, bond),
+        Kind::DomainOn(left) => push_domain_on(text, plan, left),
     }
 }

@@ -30,6 +30,13 @@ pub fn push_number(text: &mut Vec<u8>, number: u32) -> Result<(), NoMemory>
     push(text, Buffer::new().format(number).as_bytes())
 }
 
+/// Appends a number of milliseconds in decimal.
+pub(crate) fn push_long(text: &mut Vec<u8>, number: u64) -> Result<(), NoMemory>
+    ensures { OnOk result (text.new.items ≡ text.old.items ++ decimal number) }
+{
+    push(text, Buffer::new().format(number).as_bytes())
+}
+
 /// Appends the word of a helper.
 pub(crate) fn push_helper(text: &mut Vec<u8>, helper: Helper) -> Result<(), NoMemory>
     ensures { OnOk result (text.new.items ≡ text.old.items ++ helper_word helper) }

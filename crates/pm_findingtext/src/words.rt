@@ -30,6 +30,8 @@ pub(crate) fn kind_word(kind: &Kind) -> &'static [u8]
         Kind::NoCount { .. } => b"no count",
         Kind::LeftOn { .. } | Kind::DisabledOn { .. } => b"left on",
         Kind::NeverOn { .. } => b"never on",
+        Kind::Unmarked { .. } => b"unmarked",
+        Kind::DomainOn(_) => b"left on",
         Kind::Failed { .. } => b"failed",
         Kind::Poisoned { .. } => b"poisoned",
         Kind::Off(Bond::Domain { .. }) => b"off domain",

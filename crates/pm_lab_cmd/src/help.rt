@@ -75,7 +75,10 @@ format.
              poisoned      a call that answers -22 since the device has an error
              off domain    a device is active and a domain of it is off
     warning  left on       a device that is active at the end of a finished
-                           run, or when it is disabled
+                           run, or when it is disabled; a domain that is on
+                           at the end though no device of it is active
+             unmarked      a put_autosuspend or put_sync_autosuspend whose
+                           device was marked as busy before, and not then
              never on      a count under which its device was never active
              off parent    a device is active and its parent isn't, and why
                            that may be

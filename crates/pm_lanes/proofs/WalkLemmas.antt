@@ -1,5 +1,5 @@
 -- A walk, one line on.
-use Rattle.std.proofs.Common.{ℕ, ◌≡◌, ◌+◌, ◌<◌, ◌^◌, ◌&&◌, Bool, true, false, Option, Result, Ok, Err, IfErr, OnOk, ◌++◌, List, [], ◌∷◌, drop, get_or, length, nat_lt, reverse, take, pos, ap, refl, sym, subst, ◌∙◌, arith}
+use Rattle.std.proofs.Common.{ℕ, ◌≡◌, ◌+◌, ◌<◌, ◌^◌, ◌&&◌, Bool, true, false, Option, Some, Result, Ok, Err, IfErr, OnOk, ◌++◌, List, [], ◌∷◌, drop, get_or, length, nat_lt, reverse, take, pos, ap, refl, sym, subst, ◌∙◌, arith}
 use Rattle.std.specs.List.{list_all}
 use Rattle.std.proofs.lemmas.Bool.{ltb-true}
 use Rattle.std.proofs.lemmas.List.{length-reverse, length-take-le, reverse-append, take-append-drop, take_more}
@@ -10,18 +10,20 @@ use Rattle.pm_model.specs.declared.event.Event.TheVariants as event
 use Rattle.pm_model.specs.declared.event.Helper.TheVariants as helper
 use Rattle.pm_model.specs.declared.event.Line.{Line}
 use Rattle.pm_model.specs.declared.plan.Plan.{Plan}
+use Rattle.pm_model.specs.declared.event.Event.{Event}
 use Rattle.pm_model.specs.declared.stage.Change.{Change}
+use Rattle.pm_model.specs.declared.stage.Move.{Move}
+use Rattle.pm_model.specs.declared.stage.Move.TheVariants.{Late, Wait, Write}
+use Rattle.pm_model.specs.declared.stage.Stage.{Stage}
 use Rattle.pm_model.specs.declared.stage.Then.{Then}
 use Rattle.pm_model.specs.History.{History}
 use Rattle.pm_model.specs.Lawful.{IsLawful, last_time}
 use Rattle.pm_model.specs.LineOf.{is_actor_of, is_event_of, is_line_of}
-use Rattle.pm_model.specs.World.{World, place, world}
-use Rattle.pm_book.specs.Sometime.{Writes}
+use Rattle.pm_model.specs.World.{World, move, place, world}
+use Rattle.pm_book.specs.Offering.{IsOffer, IsWrite}
+use Rattle.pm_book.specs.Sometime.{MayCome, Writes}
 use Rattle.pm_book.proofs.Moves.{stays_of, world_after}
 use Rattle.pm_state.specs.Standing.{IsActor, Standing, after_write}
-use Rattle.pm_book.specs.declared.judge.Bad.{Bad}
-use Rattle.pm_book.specs.declared.judge.Bad.TheVariants as bad
-use Rattle.pm_book.specs.Judging.{IsAnswer}
 use Rattle.pm_lanes.specs.declared.seen.Seen.{Seen}
 use Rattle.pm_lanes.specs.declared.shown.Piece.{Piece}
 use Rattle.pm_lanes.specs.declared.walk.Walk.{Walk}
@@ -93,17 +95,6 @@ time_at plan line is =
     (both_front (nat_lt line.time (2 ^ 63)) (is_actor_of (length plan.devices) (length plan.callers) line.actor)
     (both_front (nat_lt line.time (2 ^ 63) && is_actor_of (length plan.devices) (length plan.callers) line.actor) (is_event_of (length plan.devices) line.event) is))
 
--- a line that may come next is no bad one
-pub never_bad : (plan : Plan) (h : History) (line : Line) (why : Bad) → IsLawful plan (line ∷ h) → IsAnswer plan h line (Err why) → ⊥
-never_bad plan h line bad.Limit lawful full = omega (arith, full, lawful.1)
-never_bad plan h line bad.Step lawful never = never.1 line.time lawful.0
-never_bad plan h line bad.Time lawful another = another.2 lawful.0
-
-pub never_refused : {T : Type 0} (plan : Plan) (h : History) (line : Line) (w : World) (last : ℕ) (r : Result T Bad) → ((x : T) → r ≡ Ok x → ⊥)
-    → IfErr r (λ why. (g : List Line) → w ≡ world plan g → last ≡ last_time g → length g < plan.lines → IsAnswer plan g line (Err why)) → w ≡ world plan h → last ≡ last_time h → IsLawful plan (line ∷ h) → ⊥
-never_refused plan h line w last (Ok x) not_ok wrong same at lawful = not_ok x refl
-never_refused plan h line w last (Err why) not_ok wrong same at lawful = never_bad plan h line why lawful (wrong h same at lawful.1)
-
 -- the walk behind a line
 pub stands_more : (plan : Plan) (h : History) (s : Standing) (last : ℕ) (after : Standing) (line : Line) (c : Change) (next : Then) → StandsAfter plan h (record { state = s; last = last })
     → Writes plan s.world last line c next → after ≡ record s { world = after_write plan s.world c line next } → line.time < 2 ^ 63 → StandsAfter plan (line ∷ h) (record { state = after; last = line.time })
@@ -146,3 +137,32 @@ shown_parts plan lines i d before after seen was_open old now new seen_is open_i
 pub on_ok : {T E P Q : Type 0} (r : Result T E) → (P → Q) → OnOk r P → OnOk r Q
 on_ok (Ok x) f is = f is
 on_ok (Err e) f is = tt
+
+-- what is offered where a line may come next is that line
+pub offer_is : (plan : Plan) (w : World) (last : ℕ) (line : Line) (m : Move) → MayCome plan w last line → IsOffer plan w last line.actor line.time m
+    → IsWrite m (λ e c next. (e ≡ line.event) × Writes plan w last line c next)
+offer_is plan w last line (Write e c next) may offer =
+    let same : offer.stage ≡ may.2.stage = cc (offer.stands, may.2.stands) in
+    let here : move plan w.views may.2.stage line.time ≡ Some (Write e c next) = ap (λ (s : Stage). move plan w.views s line.time) (sym same) ∙ offer.gives in
+    let event_is : e ≡ line.event = cc (here, may.2.gives) in (
+      event_is,
+      record {
+        stage = may.2.stage;
+        stands = may.2.stands;
+        gives = here ∙ ap (λ (x : Event). Some (Write x c next)) event_is;
+        in_time = may.2.in_time;
+      },
+    )
+offer_is plan w last line (Late at) may offer = absurd offer
+offer_is plan w last line (Wait d) may offer = absurd offer
+
+-- so a move of it is that line's, and there is no other kind of move
+pub write_is : (plan : Plan) (w : World) (last : ℕ) (line : Line) (m : Move) (e : Event) (c : Change) (next : Then) → m ≡ Write e c next
+    → IsWrite m (λ x d n. (x ≡ line.event) × Writes plan w last line d n) → Writes plan w last line c next
+write_is plan w last line m e c next same is = (subst (λ (x : Move). IsWrite x (λ y d n. (y ≡ line.event) × Writes plan w last line d n)) same is).1
+
+pub never_else : (plan : Plan) (w : World) (last : ℕ) (line : Line) (m : Move) → IsWrite m (λ x d n. (x ≡ line.event) × Writes plan w last line d n)
+    → ((e : Event) (c : Change) (next : Then) → m ≡ Write e c next → ⊥) → ⊥
+never_else plan w last line (Write e c next) is none = none e c next refl
+never_else plan w last line (Late at) is none = is
+never_else plan w last line (Wait d) is none = is

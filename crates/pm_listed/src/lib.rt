@@ -8,5 +8,5 @@ mod marks;
 mod ranks;
 
 pub use firsts::{Firsts, new_firsts, note};
-pub use listing::listed;
+pub use listing::{listed, round_of};
 pub use marks::{Left, Mark, Outcome, Returned};

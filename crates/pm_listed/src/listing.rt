@@ -9,8 +9,8 @@ use crate::marks::{Mark, Outcome};
 use crate::ranks::rank_of;
 use std::alloc::{AllocError, Global};
 
-// The first round that reaches beyond a place, or how many there are.
-fn round_of(rounds: &[usize], place: usize) -> usize
+/// The first round that reaches beyond a place, or how many there are.
+pub fn round_of(rounds: &[usize], place: usize) -> usize
     ensures { result ≡ round_of rounds.now place }
 {
     for round in 0..rounds.len() {

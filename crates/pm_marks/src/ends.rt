@@ -33,8 +33,8 @@ fn fresh_device() -> Device
     }
 }
 
-// What a spot has of a device.
-fn device_at(spot: &Spot, at: DevId) -> Device
+/// What a spot has of a device.
+pub fn device_at(spot: &Spot, at: DevId) -> Device
     ensures { result ≡ device (views_of spot.now) at }
 {
     spot.devices

@@ -141,6 +141,7 @@ fn push_note(text: &mut Vec<u8>, run: &Run<'_>, kind: &Kind) -> Result<(), NoMem
         Kind::Stolen { owner, .. } => push_stolen(text, run, owner),
         Kind::NeverOn { .. } => push(text, b", never was active"),
         Kind::DisabledOn { .. } => push(text, b", still active"),
+        Kind::Unmarked { .. } => push(text, b", not marked as busy"),
         Kind::Poisoned { line, .. } => push_since(text, line),
         _ => Ok(()),
     }

@@ -12,7 +12,8 @@ pub type Notes = IndexMap<usize, Kind>;
 
 // Whether a finding is told beside the call in which it stands out: what is left at the end stands at the right of a lane.
 fn is_of_call(kind: &Kind) -> bool {
-    !matches!(kind, Kind::LeftOn { .. }) && !matches!(kind.weight(), Weight::Note)
+    !matches!(kind, Kind::LeftOn { .. } | Kind::DomainOn(_))
+        && !matches!(kind.weight(), Weight::Note)
 }
 
 // The caller of a piece that is a call.

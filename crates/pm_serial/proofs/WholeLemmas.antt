@@ -26,10 +26,10 @@ less_by_one a b lt = omega (arith, lt)
 one_more : (plan : Plan) (n : ℕ) (h : History) (line : Line) → next_line plan h ≡ Some line → goes_on plan (suc n) h ≡ goes_on plan n (line ∷ h)
 one_more plan n h line is = ap (λ o. option_map_or (λ line. goes_on plan n (line ∷ h)) o h) is
 
-whole_one : (plan : Plan) (h : History) (line : Line) → length h < plan.lines → next_line plan h ≡ Some line → whole plan (line ∷ h) ≡ whole plan h
+pub whole_one : (plan : Plan) (h : History) (line : Line) → length h < plan.lines → next_line plan h ≡ Some line → whole plan (line ∷ h) ≡ whole plan h
 whole_one plan h line room is = sym (ap (λ n. goes_on plan n h) (less_by_one plan.lines (length h) room) ∙ one_more plan (plan.lines - suc (length h)) h line is)
 
-time_less : (last t len most : ℕ) → t ≤ last + 1000000 → len < most → last + 1000000 * (most - len) ≤ 2 ^ 62 → t + 1000000 * (most - suc len) ≤ 2 ^ 62
+pub time_less : (last t len most : ℕ) → t ≤ last + 1000000 → len < most → last + 1000000 * (most - len) ≤ 2 ^ 62 → t + 1000000 * (most - suc len) ≤ 2 ^ 62
 time_less last t len most soon room in_time = omega (arith, soon, room, in_time)
 
 -- a plan allows few enough lines
@@ -103,7 +103,7 @@ keeps_memory old new memory wrote =
     omega (arith, memory, most, more, spare)
 
 -- where it goes no further
-nowhere : (plan : Plan) (n : ℕ) (h : History) → next_line plan h ≡ None → goes_on plan n h ≡ h
+pub nowhere : (plan : Plan) (n : ℕ) (h : History) → next_line plan h ≡ None → goes_on plan n h ≡ h
 nowhere plan zero h none = refl
 nowhere plan (suc n) h none = ap (λ o. option_map_or (λ line. goes_on plan n (line ∷ h)) o h) none
 
@@ -117,7 +117,7 @@ pub full_whole : (old new : Pages) → GoesOn old new → is_full new ≡ true �
 full_whole old new goes full = sym (ap (λ n. goes_on new.plan n new.lines) (none_left new full)) ∙ goes.whole_is
 
 -- from no lines the whole run is what serial writes
-serial_is : (plan : Plan) (h : History) → h ≡ [] → whole plan h ≡ reverse (serial plan)
+pub serial_is : (plan : Plan) (h : History) → h ≡ [] → whole plan h ≡ reverse (serial plan)
 serial_is plan h is =
     let all : plan.lines - 0 ≡ plan.lines = omega arith in
     ap (whole plan) is ∙ ap (λ n. goes_on plan n []) all ∙ sym (reverse-reverse (goes_on plan plan.lines []))
@@ -129,7 +129,7 @@ serial_lines old new fresh same = ap (λ (l : List Line). reverse l) (same ∙ s
 ends_as : (old new : Pages) → GoesOn old new → old.lines ≡ [] → new.lines ≡ whole old.plan old.lines → is_finished old.plan (world old.plan (reverse (serial old.plan))) ≡ is_finished new.plan (world new.plan new.lines)
 ends_as old new goes fresh same = on_pages (λ q l. is_finished old.plan (world old.plan (reverse (serial old.plan))) ≡ is_finished q (world q l)) new old.plan (reverse (serial old.plan)) goes.plan_is (same ∙ serial_is old.plan old.lines fresh) refl
 
-has_all : (plan : Plan) → IsFinished plan (goes_on plan plan.lines []) ⊎ (length (serial plan) ≡ plan.lines) → is_finished plan (world plan (reverse (serial plan))) ≡ false → length (serial plan) ≡ plan.lines
+pub has_all : (plan : Plan) → IsFinished plan (goes_on plan plan.lines []) ⊎ (length (serial plan) ≡ plan.lines) → is_finished plan (world plan (reverse (serial plan))) ≡ false → length (serial plan) ≡ plan.lines
 has_all plan (inl done) unfinished = absurd (both_ways _ unfinished (ap (λ (l : History). is_finished plan (world plan l)) (reverse-reverse (goes_on plan plan.lines [])) ∙ done))
 has_all plan (inr full) unfinished = full
 

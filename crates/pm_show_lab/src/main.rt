@@ -1,5 +1,5 @@
 //! Runs the cases of the folder `data` through the commands of `pm_lab`, and tells of each whether it wrote what is
-//! stored for it; then each of some commands over sinks that fail, and over a file that is too long.
+//! stored for it; then each of some commands over sinks that fail, and over files that are too long.
 #![tactic(auto)]
 
 use anyhow::Result;
@@ -12,12 +12,21 @@ use std::io::Print;
 /// The bytes that a sink takes at a call, at most.
 const MOST: usize = 1_000;
 
+/// The bytes that a file of expectations may have, and the tables of a kind.
+const EXPECT_BYTES: usize = 262_144;
+
+const EXPECT_TABLES: usize = 1_000;
+
+/// A table of such a file.
+const TABLE: &[u8] = b"[[end]]\ndevice = \"cam\"\nstatus = \"active\"\n";
+
 fn main(rt: HostRuntime) -> Result<()> {
     let alloc = rt.alloc();
     let mut files = DiskFiles::new(&rt);
     show_stored(&rt, alloc, &mut files)?;
     show_failing(&rt, alloc, &mut files)?;
-    show_long(&rt, alloc, &mut files)
+    show_long(&rt, alloc, &mut files)?;
+    show_expecting(&rt, alloc, &mut files)
 }
 
 /// Tells of each stored case, and of no words.
@@ -69,6 +78,59 @@ fn show_long<R: Print, F: Files>(rt: &R, alloc: Global, files: &mut F) -> Result
         println!(rt; "{words:?}: {told}")?;
     }
     Ok(())
+}
+
+/// Tells of commands over files of expectations that are as long as they may be, and longer: in bytes, and in tables.
+fn show_expecting<R: Print, F: Files>(rt: &R, alloc: Global, files: &mut F) -> Result<()> {
+    for (length, kept) in [
+        (EXPECT_BYTES, "expect_nothing.txt"),
+        (EXPECT_BYTES + 1, "refused_long.txt"),
+    ] {
+        let blanks = vec![in alloc; b' '; length]?;
+        let told = run_expecting(alloc, files, blanks, kept)?;
+        println!(rt; "a file of expectations of {length} bytes: {told}")?;
+    }
+    for (count, kept) in [
+        (EXPECT_TABLES, "expect_tables.txt"),
+        (EXPECT_TABLES + 1, "refused_many.txt"),
+    ] {
+        let tables = repeated(alloc, TABLE, count)?;
+        let told = run_expecting(alloc, files, tables, kept)?;
+        println!(rt; "a file of expectations of {count} tables: {told}")?;
+    }
+    Ok(())
+}
+
+/// Bytes, so many times.
+fn repeated(alloc: Global, bytes: &[u8], count: usize) -> Result<Vec<u8>, AllocError> {
+    let mut all = Vec::new(alloc);
+    for _turn in 0..count {
+        all.extend_from_slice(bytes)?;
+    }
+    Ok(all)
+}
+
+/// Tells what is told of a run with these expectations, which the file `made.toml` has.
+fn run_expecting<F: Files>(
+    alloc: Global,
+    files: &mut F,
+    expectations: Vec<u8>,
+    kept: &str,
+) -> Result<String> {
+    let plan = stored(alloc, files, "kept_count.toml")?;
+    let trace = stored(alloc, files, "kept_count.trace")?;
+    let mut made = MemFiles::new(
+        vec![in alloc;
+            (String::from_str(alloc, "plan.toml")?, plan),
+            (String::from_str(alloc, "run.trace")?, trace),
+            (String::from_str(alloc, "made.toml")?, expectations),
+        ]?,
+        Vec::new(alloc),
+    );
+    let words = words_of(alloc, "find plan.toml run.trace --expect made.toml")?;
+    let ended = run_over(alloc, &mut made, &words, &[], &[])?;
+    let kept = stored(alloc, files, kept)?;
+    Ok(told_as(alloc, &ended, kept.as_slice())?)
 }
 
 /// A file with one byte more than a plan may have.

@@ -10,11 +10,11 @@ pub step-requires-clause-before : goal.step-requires-clause-before
 step-requires-clause-before c =
     inside_at c.args.plan.now c.args.lines.now c.loop-line.line-index _ _ c.loop-line-test.true c.loop-line.invariant.kept.known.entries c.requires.of_plan
 
-pub tell_broken-requires-clause-of_plan : goal.tell_broken-requires-clause-of_plan
-tell_broken-requires-clause-of_plan c = line_at c.args.plan.now c.args.lines.now c.loop-line.line-index _ c.loop-line-test.true c.requires.of_plan
+pub tell_placed-requires-clause-of_plan : goal.tell_placed-requires-clause-of_plan
+tell_placed-requires-clause-of_plan c = line_at c.args.plan.now c.args.lines.now c.loop-line.line-index _ c.loop-line-test.true c.requires.of_plan
 
-pub tell_broken-requires-clause-some : goal.tell_broken-requires-clause-some
-tell_broken-requires-clause-some c =
+pub tell_placed-requires-clause-some : goal.tell_placed-requires-clause-some
+tell_placed-requires-clause-some c =
     stands_at c.args.plan.now c.args.lines.now c.loop-line.line-index c.loop-line.number _ c.loop-line.bonds c.loop-line-test.true c.requires.lawful c.loop-line.invariant.number c.loop-line.invariant.bonds
 
 pub loop-line-preserved : goal.loop-line-preserved
@@ -24,10 +24,10 @@ loop-line-preserved c = record {
       c.loop-line.invariant.kept c.in_ok-step.ensures.kept;
   number = omega arith;
   bonds =
-      bonds_more c.args.plan.now c.args.lines.now c.loop-line.line-index c.loop-line.number _ c.loop-line.bonds c.tell_broken.new.bonds c.loop-line-test.true c.requires.lawful c.loop-line.invariant.number
-      c.loop-line.invariant.bonds c.in_ok-tell_broken.ensures.kept;
+      bonds_more c.args.plan.now c.args.lines.now c.loop-line.line-index c.loop-line.number _ c.loop-line.bonds c.tell_placed.new.bonds c.loop-line-test.true c.requires.lawful c.loop-line.invariant.number
+      c.loop-line.invariant.bonds c.in_ok-tell_placed.ensures.kept;
   found =
-      found_more c.args.plan.now c.args.lines.now c.loop-line.line-index c.loop-line.number _ c.args.ends.now c.loop-line.watch c.loop-line.bonds c.loop-line.all.items c.step.new.all.items c.tell_broken.new.all.items
+      found_more c.args.plan.now c.args.lines.now c.loop-line.line-index c.loop-line.number _ c.args.ends.now c.loop-line.watch c.loop-line.bonds c.called-called.result c.loop-line.all.items c.step.new.all.items c.tell_placed.new.all.items
       c.loop-line-test.true c.requires.lawful c.requires.of_plan c.loop-line.invariant.number c.loop-line.invariant.kept c.loop-line.invariant.bonds c.loop-line.invariant.found c.in_ok-step.ensures.found
-      c.in_ok-tell_broken.ensures.broken;
+      c.called-called.ensures c.in_ok-tell_placed.ensures.told;
 }

@@ -1,0 +1,130 @@
+//! The lines of a run on one thread, one by one.
+
+ghost use Rattle.std.specs.Prelude.{◌≡◌, ◌+◌, ◌<◌, length, reverse, slice_get, true, IfNone, IfOk, IfSome};
+ghost use Rattle.std.specs.List.{list_all};
+ghost use Rattle.pm_model.specs.declared.plan.Plan.{Plan as APlan};
+ghost use Rattle.pm_model.specs.Lawful.{IsLawful};
+ghost use Rattle.pm_model.specs.LineOf.{is_line_of};
+ghost use Rattle.pm_model.specs.Serial.{serial};
+ghost use Rattle.pm_serial.specs.Coming.{IsAfter};
+ghost use Rattle.pm_serial.specs.Ends.{IsSerialEnd};
+ghost use Rattle.pm_state.specs.Standing.{IsActor};
+
+use crate::{End, fresh_books_have_time};
+use pm_base::{ActorId, NoMemory};
+use pm_book::{all_stand_well, each_line_fits, each_line_is_taken};
+use pm_law_bounds::{due_moments, lines_are_of_plan};
+use pm_law_turns::{serial_ends, serial_stops};
+use pm_model::{Line, Move, Plan};
+use pm_state::State;
+use pm_turns::Turns;
+use std::alloc::Global;
+use std::marker::Model;
+
+/// A run on one thread that keeps no lines: each is handed out as it comes. Contracts see the plan, and how many
+/// lines have come.
+#[derive(Drop)]
+pub struct SerialLines<'p> {
+    plan: &'p Plan,
+    state: State,
+    turns: Turns,
+    came: u32,
+}
+
+impl<'p> Model for SerialLines<'p> {
+    ghost use Rattle.pm_serial.specs.Coming.{Coming, IsAfter};
+
+    ghost Value = { Coming };
+
+    ghost view = { λ l. record { plan = l.plan.now; came = l.came } };
+
+    ghost invariant = { λ l. IsAfter l.plan.now l.came l.state l.turns };
+}
+
+// Writes the next line, if there is one: by the actor whose turn it is.
+fn write_next(plan: &Plan, state: &mut State, turns: &mut Turns, _came: u32) -> Option<Line>
+    requires after { IsAfter plan.now _came state.old turns.old }
+    requires room { _came < plan.now.lines }
+    ensures line { result ≡ slice_get (serial plan.now) _came }
+    ensures some { IfSome result (λ line. IsAfter plan.now (_came + 1) state.new turns.new) }
+    ensures none { IfNone result (IsAfter plan.now _came state.new turns.new) }
+{
+    all_stand_well();
+    each_line_is_taken();
+    each_line_fits();
+    due_moments();
+    let (actor, time) = turns.next()?;
+    let Some(stage) = state.stage_at(plan, actor) else {
+        unreachable!();
+    };
+    let mut next = Move::Late(time);
+    state.write_next(plan, &stage, time, &mut next);
+    let Move::Write(event, change, then) = &next else {
+        unreachable!();
+    };
+    let line = Line {
+        time,
+        actor,
+        event: *event,
+    };
+    state.go(plan, time, actor, &line.event, change, then);
+    turns.settle(plan, state, &stage, &line);
+    Some(line)
+}
+
+impl<'p> SerialLines<'p> {
+    /// The run of a plan before its first line. All memory is taken here; fails where it runs out.
+    pub fn start(alloc: Global, plan: &'p Plan) -> Result<SerialLines<'p>, NoMemory>
+        ensures { IfOk result (λ lines. lines ≡ record { plan = plan.now; came = 0 }) }
+    {
+        all_stand_well();
+        fresh_books_have_time();
+        let state = State::fresh(alloc, plan)?;
+        let turns = Turns::after(alloc, plan, &state, &[])?;
+        Ok(SerialLines {
+            plan,
+            state,
+            turns,
+            came: 0,
+        })
+    }
+
+    /// The next line of the run that one thread makes of the plan; none comes exactly where all have come. It takes
+    /// no memory, and a number of steps that is logarithmic in the number of actors.
+    pub fn next(&mut self) -> Option<Line>
+        ensures line { result ≡ slice_get (serial self.old.plan) self.old.came }
+        ensures plan { self.new.plan ≡ self.old.plan }
+        ensures some { IfSome result (λ line. self.new.came ≡ self.old.came + 1) }
+        ensures none { IfNone result (self.new.came ≡ self.old.came) }
+    {
+        if self.came >= self.plan.lines {
+            return None;
+        }
+        let line = write_next(self.plan, &mut self.state, &mut self.turns, self.came)?;
+        self.came += 1;
+        Some(line)
+    }
+
+    /// How the run ends, once all its lines have come.
+    pub fn end(&self) -> End
+        requires { self.now.came ≡ length (serial self.now.plan) }
+        ensures { IsSerialEnd self.now.plan result }
+    {
+        serial_stops();
+        serial_ends();
+        match self.turns.next() {
+            Some(_) => End::AtLimit,
+            None => End::Finished,
+        }
+    }
+}
+
+/// The lines of a run on one thread are lawful, and each has a text.
+pub fn serial_lines_are_lawful()
+    ensures lawful { (plan : APlan) → IsLawful plan (reverse (serial plan)) }
+    ensures of_plan { (plan : APlan) → list_all (is_line_of plan) (reverse (serial plan)) ≡ true }
+{
+    due_moments();
+    lines_are_of_plan();
+    fresh_books_have_time();
+}
