@@ -7,3 +7,4 @@ mod items;
 mod plain;
 
 pub use checking::check;
+pub use plain::line_of;

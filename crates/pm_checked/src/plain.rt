@@ -23,8 +23,9 @@ fn section_of(expected: &Expectations, number: usize) -> (Section, usize) {
     }
 }
 
-/// The line at which the table of an expectation begins, or the first one.
-fn line_of(
+/// The line of a file at which the table of an expectation begins, which is looked for; else the first one. Expectations are
+/// counted from 0: the answers, the ends and the uses. Fails where memory runs out.
+pub fn line_of(
     alloc: Global,
     bytes: &[u8],
     expected: &Expectations,

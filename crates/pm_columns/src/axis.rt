@@ -1,6 +1,6 @@
 //! The x axis of a picture.
 
-ghost use Rattle.std.specs.Prelude.{◌≡◌, ◌+◌, ◌≤◌, IfOk, OnOk, length, true};
+ghost use Rattle.std.specs.Prelude.{◌≡◌, ◌+◌, ◌-◌, ◌≤◌, IfOk, OnOk, length, true};
 ghost use Rattle.pm_columns.specs.Axis.{fitted, rises, x_of};
 
 use crate::steps::step;
@@ -44,12 +44,15 @@ struct Axis {
     columns: usize,
     time: u64,
     ghost in_order: { rises 0 xs.items x ≡ true },
+    ghost few: { columns ≤ length xs.items },
 }
 
 impl Axis {
     // Appends the next line.
     #[tactic(auto, using(crate::proofs::AxisLemmas::rises_more))]
-    fn push(&mut self, line: &Line, marked: bool) -> Result<(), NoMemory> {
+    fn push(&mut self, line: &Line, marked: bool) -> Result<(), NoMemory>
+        ensures { OnOk result (length self.new.xs.items ≡ length self.old.xs.items + 1) }
+    {
         let step = step(marked, line.time.saturating_sub(self.time));
         let x = self.x.saturating_add(step);
         self.xs.push(x)?;
@@ -62,22 +65,27 @@ impl Axis {
     }
 
     // The axis of all lines of a run.
-    fn of(alloc: Global, lines: &[Line], marks: &[bool]) -> Result<Axis, NoMemory> {
+    fn of(alloc: Global, lines: &[Line], marks: &[bool]) -> Result<Axis, NoMemory>
+        ensures { IfOk result (λ axis. length axis.xs.items ≡ length lines.now) }
+    {
         let mut axis = Axis {
             xs: Vec::new(alloc),
             x: 0,
             columns: 0,
             time: 0,
         };
-        for (line, marked) in lines.iter().zip(marks) {
-            axis.push(line, *marked)?;
+        for place in 0..lines.len() {
+            axis.push(&lines[place], marks.get(place).copied().unwrap_or(false))?;
         }
         Ok(axis)
     }
 
     // With the room behind the last line.
     #[tactic(auto, using(crate::proofs::AxisLemmas::rises_wider))]
-    fn whole(self) -> Columns {
+    fn whole(self) -> Columns
+        ensures places { result.xs ≡ self.xs }
+        ensures whole { result.is_whole ≡ true }
+    {
         let width = self.x.saturating_add(REST);
         Columns {
             xs: self.xs,
@@ -99,9 +107,12 @@ fn fitted(x: u32, width: u32) -> u32
 }
 
 impl Columns {
-    /// The axis of the lines of a run, by whether the picture changes at each of them. Fails where memory runs
-    /// out.
-    pub fn new(alloc: Global, lines: &[Line], marks: &[bool]) -> Result<Columns, NoMemory> {
+    /// The axis of the lines of a run, by whether the picture changes at each of them. A run of at most 400 lines is
+    /// drawn in whole. Fails where memory runs out.
+    pub fn new(alloc: Global, lines: &[Line], marks: &[bool]) -> Result<Columns, NoMemory>
+        ensures places { IfOk result (λ columns. length columns.xs.items ≡ length lines.now) }
+        ensures whole { IfOk result (λ columns. length lines.now ≤ 400 → columns.is_whole ≡ true) }
+    {
         let axis = Axis::of(alloc, lines, marks)?;
         let is_whole = axis.columns <= WHOLE;
         let columns = axis.whole();
@@ -114,7 +125,9 @@ impl Columns {
 
     // The same as an overview.
     #[tactic(auto, using(crate::proofs::AxisLemmas::fits))]
-    fn fit(self, alloc: Global) -> Result<Columns, NoMemory> {
+    fn fit(self, alloc: Global) -> Result<Columns, NoMemory>
+        ensures { IfOk result (λ columns. length columns.xs.items ≡ length self.xs.items) }
+    {
         let mut xs = Vec::new(alloc);
         for x in &self.xs {
             xs.push(fitted(*x, self.width))?;
@@ -153,11 +166,12 @@ impl Columns {
         }
     }
 
-    #[tactic(auto, using(crate::proofs::AxisLemmas::x_later, crate::proofs::AxisLemmas::x_within))]
     /// What lies between two lines, where the second isn't before the first. It lies within the lanes.
+    #[tactic(auto, using(crate::proofs::AxisLemmas::x_later, crate::proofs::AxisLemmas::x_within))]
     pub fn span(&self, from: u32, until: u32) -> Span
         ensures begins { result.x ≡ x_of self.now.xs.items self.now.width from }
         ensures ends { from ≤ until → result.x + result.width ≡ x_of self.now.xs.items self.now.width until }
+        ensures width { result.width ≡ x_of self.now.xs.items self.now.width until - x_of self.now.xs.items self.now.width from }
         ensures within { result.x + result.width ≤ self.now.width }
     {
         let x = self.x(from);
@@ -165,6 +179,18 @@ impl Columns {
         Span {
             x,
             width: end.saturating_sub(x),
+        }
+    }
+
+    /// What lies between a line and where the run ends.
+    pub fn rest(&self, from: u32) -> Span
+        ensures begins { result.x ≡ x_of self.now.xs.items self.now.width from }
+        ensures width { result.width ≡ self.now.width - x_of self.now.xs.items self.now.width from }
+    {
+        let x = self.x(from);
+        Span {
+            x,
+            width: self.width.saturating_sub(x),
         }
     }
 }

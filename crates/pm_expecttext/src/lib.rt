@@ -12,4 +12,6 @@ mod told;
 
 pub use items::{Item, Outcome, answer_items, end_items, use_items};
 pub use ktap::push_ktap;
+pub use names::{answer_name, end_name, use_name};
 pub use plain::{has_failed, is_broken, push_counts, push_failed};
+pub use told::{answer_told, end_told, use_told};

@@ -24,11 +24,7 @@ fn push_which(text: &mut Vec<u8>, which: Which) -> Result<(), NoMemory>
 }
 
 /// How an answer is called, as `answer sensor get_sync imx -5`.
-pub(crate) fn answer_name(
-    alloc: Global,
-    plan: &Plan,
-    answer: &Answer,
-) -> Result<Items<u8>, NoMemory>
+pub fn answer_name(alloc: Global, plan: &Plan, answer: &Answer) -> Result<Items<u8>, NoMemory>
     ensures { IfOk result (λ name. name ≡ answer_name (names_of plan.now) answer.now) }
 {
     let mut text = Vec::new(alloc);
@@ -63,7 +59,7 @@ fn push_usage(text: &mut Vec<u8>, usage: Option<u32>) -> Result<(), NoMemory>
 }
 
 /// How an end is called, as `end imx suspended`.
-pub(crate) fn end_name(alloc: Global, plan: &Plan, end: &End) -> Result<Items<u8>, NoMemory>
+pub fn end_name(alloc: Global, plan: &Plan, end: &End) -> Result<Items<u8>, NoMemory>
     ensures { IfOk result (λ name. name ≡ end_name (names_of plan.now) end.now) }
 {
     let mut text = Vec::new(alloc);
@@ -76,7 +72,7 @@ pub(crate) fn end_name(alloc: Global, plan: &Plan, end: &End) -> Result<Items<u8
 }
 
 /// How a use is called, as `use imx sensor delay 5`.
-pub(crate) fn use_name(alloc: Global, plan: &Plan, used: &Use) -> Result<Items<u8>, NoMemory>
+pub fn use_name(alloc: Global, plan: &Plan, used: &Use) -> Result<Items<u8>, NoMemory>
     ensures { IfOk result (λ name. name ≡ use_name (names_of plan.now) used.now) }
 {
     let mut text = Vec::new(alloc);

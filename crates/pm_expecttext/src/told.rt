@@ -14,7 +14,7 @@ use pm_module::push_command;
 use std::alloc::Global;
 
 /// That a call answers this code.
-pub(crate) fn answer_told(
+pub fn answer_told(
     alloc: Global,
     plan: &Plan,
     answer: &Answer,
@@ -43,7 +43,7 @@ fn status_word(status: Status) -> &'static [u8]
 }
 
 /// That a run leaves a device so.
-pub(crate) fn end_told(
+pub fn end_told(
     alloc: Global,
     plan: &Plan,
     end: &End,
@@ -98,12 +98,7 @@ fn push_lack(text: &mut Vec<u8>, plan: &Plan, lack: Lack) -> Result<(), NoMemory
 }
 
 /// That a device lacks this.
-pub(crate) fn use_told(
-    alloc: Global,
-    plan: &Plan,
-    used: &Use,
-    lack: Lack,
-) -> Result<Items<u8>, NoMemory>
+pub fn use_told(alloc: Global, plan: &Plan, used: &Use, lack: Lack) -> Result<Items<u8>, NoMemory>
     ensures { IfOk result (λ told. told ≡ use_told (names_of plan.now) used.now lack) }
 {
     let mut text = Vec::new(alloc);

@@ -11,12 +11,14 @@ use Rattle.pm_say.specs.Says.{Says}
 use Rattle.pm_say.specs.declared.told.Kind.{Kind}
 use Rattle.pm_say.specs.declared.told.Kind.TheVariants as kind
 use Rattle.pm_say.specs.declared.told.Said.{Said}
-use Rattle.pm_lab_find.specs.Check.{CheckEnds, CheckUnread}
+use Rattle.pm_lab_find.specs.Check.{CheckEnds, CheckUnread, OfExpectations}
 use Rattle.pm_lab_find.specs.Find.{FindUnread, OfFind}
+use Rattle.pm_lab_order.specs.Failing.{FailingEnds}
 use Rattle.pm_lab_order.specs.Order.{OrderEnds}
+use Rattle.pm_lab_orders.specs.Expect.{ExpectEnds, ExpectUnread}
 use Rattle.pm_lab_orders.specs.Orders.{OrdersEnds}
 use Rattle.pm_lab_picture.specs.Picture.{OfPicture, PictureUnread}
-use Rattle.pm_lab_words.specs.Request.{Asked, Help, HelpOn, Say, Find, Check, Picture, Orders, Order, Kernel}
+use Rattle.pm_lab_words.specs.Request.{Asked, Help, HelpOn, Say, Find, Check, Picture, Orders, OrdersExpected, Order, OrderFailing, Kernel}
 use Rattle.pm_lab_orders.specs.Seen.{OfSeen, SeenUnread}
 use Rattle.pm_lab_words.specs.declared.names.Command.{Command}
 use Rattle.pm_lab_words.specs.declared.names.Command.TheVariants as command
@@ -61,6 +63,8 @@ AskedEnds all known (Check plan trace expect ktap notes) = OfPlan all (known pla
 AskedEnds all known (Picture plan trace json) = OfPlan all (known plan) plan (OfPicture all (known trace) trace json)
 AskedEnds all known (Orders plan bounds differ None) = OfPlan all (known plan) plan (OrdersEnds bounds differ)
 AskedEnds all known (Orders plan bounds differ (Some log)) = OfPlan all (known plan) plan (OfSeen all (known log) bounds differ)
+AskedEnds all known (OrdersExpected plan expect bounds differ) = OfPlan all (known plan) plan (OfExpectations all (known expect) expect (ExpectEnds bounds differ expect))
+AskedEnds all known (OrderFailing plan expect bounds index) = OfPlan all (known plan) plan (OfExpectations all (known expect) expect (FailingEnds bounds index))
 AskedEnds all known (Order plan bounds sought) = OfPlan all (known plan) plan (OrderEnds bounds sought)
 AskedEnds all known (Kernel plan) = OfPlan all (known plan) plan KernelEnds
 
@@ -72,6 +76,8 @@ AskedUnread all known (Check plan trace expect ktap notes) Alone Failed = CheckU
 AskedUnread all known (Picture plan trace json) Alone Failed = PictureUnread all (known plan) plan trace (Alone plan) Failed
 AskedUnread all known (Orders plan bounds differ None) Alone Failed = OfThis plan Failed
 AskedUnread all known (Orders plan bounds differ (Some log)) Alone Failed = SeenUnread all (known plan) plan log (Alone plan) Failed
+AskedUnread all known (OrdersExpected plan expect bounds differ) Alone Failed = ExpectUnread all (known plan) plan expect (Alone plan) Failed
+AskedUnread all known (OrderFailing plan expect bounds index) Alone Failed = ExpectUnread all (known plan) plan expect (Alone plan) Failed
 AskedUnread all known (Order plan bounds sought) Alone Failed = OfThis plan Failed
 AskedUnread all known (Kernel plan) Alone Failed = OfThis plan Failed
 AskedUnread all known _ Alone Failed = OfThis [] ⊥

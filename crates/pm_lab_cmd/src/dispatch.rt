@@ -14,8 +14,8 @@ use crate::say::say_top;
 use pm_io::{Files, Sink};
 use pm_lab_ends::refuse_words;
 use pm_lab_find::{check_top, find_top};
-use pm_lab_order::order_top;
-use pm_lab_orders::{orders_top, seen_top};
+use pm_lab_order::{failing_top, order_top};
+use pm_lab_orders::{expect_top, orders_top, seen_top};
 use pm_lab_picture::picture_top;
 use pm_lab_words::{Request, read_words};
 use std::alloc::Global;
@@ -63,6 +63,18 @@ fn answer<F: Files, O: Sink, E: Sink>(
             differ,
             seen: None,
         } => orders_top(alloc, plan, bounds, differ, files, out, err),
+        Request::OrdersExpected {
+            plan,
+            expect,
+            bounds,
+            differ,
+        } => expect_top(alloc, plan, expect, bounds, differ, files, out, err),
+        Request::OrderFailing {
+            plan,
+            expect,
+            bounds,
+            index,
+        } => failing_top(alloc, plan, expect, bounds, index, files, out, err),
         Request::Order {
             plan,
             bounds,

@@ -12,14 +12,15 @@ use pm_lab_words::Command;
 
 /// The answer of `help`.
 pub const HELP: &[u8] =
-    b"usage: pm_lab say PLAN | find PLAN TRACE [--expect FILE] [--ktap] [--notes] | picture PLAN TRACE [--json] | orders PLAN [--late] [--most K] [--spots N] [--differ] [--seen LOG] | order PLAN [--late] [--most K] [--spots N] CALLER N CODE|end DEVICE STATUS USAGE ERROR | kernel PLAN
+    b"usage: pm_lab say PLAN | find PLAN TRACE [--expect FILE] [--ktap] [--notes] | picture PLAN TRACE [--json] | orders PLAN [--late] [--most K] [--spots N] [--differ] [--expect FILE|--seen LOG] | order PLAN [--late] [--most K] [--spots N] CALLER N CODE|end DEVICE STATUS USAGE ERROR|--expect FILE fails INDEX | kernel PLAN
 
 say PLAN            what is wrong with a plan, and where
 find PLAN TRACE     what stands out in a run, and whether what is expected holds
 picture PLAN TRACE  a run as a picture, or as a timeline for a viewer
-orders PLAN         what each call may return, and how each device may end
+orders PLAN         what each call may return, and how each device may end, and
+                    whether what is expected holds in every order
 order PLAN ..       the trace of a run in which a call returns a code, or that
-                    leaves a device so
+                    leaves a device so, or that breaks what is expected
 kernel PLAN         the plan as a C file: a module that runs it on a kernel
 ";
 
@@ -139,8 +140,8 @@ refused, or a file is too long. 4: one couldn't be read. 5: writing failed.
 ";
 
 /// The answer of `help orders`.
-pub const ORDERS_PAGE: &[u8] =
-    b"pm_lab orders PLAN [--late] [--most K] [--spots N] [--differ] [--seen LOG]
+pub const ORDERS_PAGE: &[u8] = b"pm_lab orders PLAN [--late] [--most K] [--spots N] [--differ]
+                   [--expect FILE|--seen LOG]
 
 Goes through the orders in which the lines of a run of the plan may come, and
 tells what each call returns and how each device ends over all of them:
@@ -166,35 +167,50 @@ The last line says how far this is exact: `all`, of all orders of that pace;
 `within K`, of those with at most K disturbances; `limit`, where the spots or
 the lines of the plan came first, of as many as it names.
 
+With --expect FILE a line for each expectation of the file comes first, of its
+answers, its ends and its uses, each in the file's order:
+
+    race.expect.toml:2: holds in every order of at most 2 disturbances
+    race.expect.toml:7: fails after 1: end cam suspended: cam is active at the end, usage 1
+
+`help find` says what is expected. It fails where some order breaks it, and
+`order` writes the trace of one. Where a limit came first it may be broken in a
+round that isn't complete: `after more than K`.
+
 With --differ only commands and devices are told that have more than one. With
 --seen LOG a line says behind the last one whether each code and end that the
 log of a kernel's run tells is listed, or names the first that isn't; `kernel`
 makes the module. A device's error isn't told there, nor asked for.
 
-Status 0: each has one. 1: one has more, or what was seen isn't listed. 2: wrong
-words. 3: the plan is refused, or the log is too long or tells of no whole run.
-4: one couldn't be read. 5: writing failed. 6: a limit came first. 7: no memory.
+Status 0: each has one, or, with --expect, each expectation holds. 1: one has
+more, or what was seen isn't listed; with --expect an expectation fails. 2: wrong
+words. 3: the plan or the expectations are refused, or the log is too long or
+tells of no whole run. 4: one couldn't be read. 5: writing failed. 6: a limit
+came first. 7: no memory.
 ";
 
 /// The answer of `help order`.
 pub const ORDER_PAGE: &[u8] = b"pm_lab order PLAN [--late] [--most K] [--spots N] CALLER N CODE
 pm_lab order PLAN [--late] [--most K] [--spots N] end DEVICE STATUS USAGE ERROR
+pm_lab order PLAN [--late] [--most K] [--spots N] --expect FILE fails INDEX
 
 Writes the trace of a run in which the N-th command of CALLER, counted from 1,
-returns CODE; or that leaves DEVICE so, with that error:
+returns CODE; or that leaves DEVICE so, with that error; or that breaks an
+expectation of FILE, counted from 1 as `orders --expect` tells them:
 
     pm_lab order race.toml irq 5 -22 >race.trace
     pm_lab order race.toml end hid suspended 0 0 >race.trace
+    pm_lab order race.toml --expect race.expect.toml fails 2 >race.trace
 
-What `orders` lists has a run here, with the same options: one of the orders, of
-as few disturbances as `orders` says, which from there on goes by one thread to
-its end. It is the text of a lawful run, in the plan's format.
+What `orders` lists or says to fail has a run here, with the same options: one of
+the orders, of as few disturbances as `orders` says, which from there on goes by
+one thread to its end. It is the text of a lawful run, in the plan's format.
 
 Status 0: written. 1: no order has it, of those that were gone through; a
-message says how far that is. 2: wrong words. 3: the plan is refused, or it has
-no such caller, command or device. 4: it couldn't be read. 5: writing failed.
-6: a limit of spots or of lines came first, or the run has as many lines as the
-plan allows and isn't finished. 7: no memory.
+message says how far that is. 2: wrong words. 3: the plan or the expectations are
+refused, or there is no such caller, command, device or expectation. 4: one
+couldn't be read. 5: writing failed. 6: a limit of spots or of lines came first,
+or the run has as many lines as the plan allows and isn't finished. 7: no memory.
 ";
 
 /// The answer of `help kernel`.

@@ -1,5 +1,5 @@
 -- What `find --expect` comes to.
-use Rattle.std.proofs.Common.{◌≡◌, ℕ, Bool, List, [], Option, Result, Ok, Err, Vec, Global, ap, refl, subst, sym}
+use Rattle.std.proofs.Common.{◌≡◌, ℕ, Bool, List, [], Option, Result, Ok, Err, Vec, Global, refl, subst, sym}
 use Rattle.std.specs.Prelude.{IfErr, IsSome}
 use Rattle.pm_cmd_ends.specs.Coming.{trace_too_long}
 use Rattle.pm_cmd_ends.specs.Ending.{Taking, TookNothing}
@@ -8,7 +8,7 @@ use Rattle.pm_expect.specs.declared.expectation.Expectations.{Expectations}
 use Rattle.pm_expect_say.specs.Tells.{Tells}
 use Rattle.pm_found.specs.declared.telling.Found.{Found}
 use Rattle.pm_model.specs.declared.plan.Plan.{Plan}
-use Rattle.pm_lab_ends.specs.Coming.{Came, Work, Writes, ending_of}
+use Rattle.pm_lab_ends.specs.Coming.{Came, Work, Writes}
 use Rattle.pm_lab_ends.specs.Ending.{Answered, Ending, OfThis, Refused, SaidRefused, ended, no_memory, unread, unwritten}
 use Rattle.pm_lab_ends.specs.Reading.{OfPlan, held, read as plan_read}
 use Rattle.pm_lab_ends.specs.declared.ending.Fault.{Fault}
@@ -16,7 +16,7 @@ use Rattle.pm_lab_ends.specs.declared.ending.Fault.TheVariants as fault
 use Rattle.pm_lab_ends.specs.declared.ending.Outcome.TheVariants as outcome
 use Rattle.pm_lab_ends.proofs.EndLemmas.{came_weaker}
 use Rattle.pm_lab_find.specs.Find.{FindEnds}
-use Rattle.pm_lab_find.specs.Check.{AreRead, CheckEnds, CheckUnread, IsNotRead, IsTextUnread, IsTold, OfCheck, OfExpectations, RunUnread, long_refusal, of_expect, of_plan, of_run, of_trace, read, refused, told, too_long, too_many}
+use Rattle.pm_lab_find.specs.Check.{AreRead, CheckUnread, IsNotRead, IsTextUnread, IsTold, IsToldUnread, OfCheck, OfExpectations, RunUnread, long_refusal, of_expect, of_plan, of_trace, read, refused, told, too_long, too_many}
 
 -- the same of a command that may come to more endings, and of which more reads may fail
 pub answered_more : (E F : Ending → Type 0) (U V : List ℕ → Type 0) (status : ℕ) (out err : Taking) → ((ending : Ending) → E ending → F ending) → ((name : List ℕ) → U name → V name)
@@ -99,3 +99,11 @@ pub texts_refused : {T : Type 0} (r : Result T Fault) (all : Bool) (known : Opti
     → IfErr r (IsNotRead all known file plan Unread)
 texts_refused (Ok x) all known file plan text Unread holds is = tt
 texts_refused (Err f) all known file plan text Unread holds is = text_refused all known file plan text Unread f holds is
+
+-- why a file of expectations isn't read, told
+pub unread_told : (all : Bool) (known : Option (List ℕ)) (file : List ℕ) (Ends : Plan → List ℕ → Expectations → Ending → Type 0) (plan : Plan) (f : Fault) (Unread : Type 0) (out : Taking) (work : Work)
+    → IsNotRead all known file plan Unread f → IsToldUnread f work out → Came (OfExpectations all known file Ends plan) work Unread out
+unread_told all known file Ends plan (fault.Refused text) Unread out work is shown = refusal_written all known file Ends plan text text.items Unread out work refl is shown
+unread_told all known file Ends plan fault.ReadFailed Unread out work is shown = subst (λ (w : Work). Came (OfExpectations all known file Ends plan) w Unread out) (sym shown.0) (is, shown.1)
+unread_told all known file Ends plan fault.WriteFailed Unread out work is shown = absurd is
+unread_told all known file Ends plan fault.NoMemory Unread out work is shown = subst (λ (w : Work). Came (OfExpectations all known file Ends plan) w Unread out) (sym shown.0) shown.1

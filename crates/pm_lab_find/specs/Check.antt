@@ -2,6 +2,7 @@
 use Rattle.std.specs.Prelude.{◌≡◌, ⊤, ℕ, Bool, Option, List, [], Ok, Err, IsSome}
 use Rattle.pm_checked.specs.Checks.{IsToldOf}
 use Rattle.pm_cmd_ends.specs.Coming.{trace_too_long}
+use Rattle.pm_cmd_ends.specs.Ending.{Taking, TookNothing}
 use Rattle.pm_cmd_ends.specs.Reading.{Holds, IsRead, IsTooLong}
 use Rattle.pm_expect.specs.Expected.{expected_in}
 use Rattle.pm_expect.specs.declared.expectation.Expectations.{Expectations}
@@ -10,9 +11,11 @@ use Rattle.pm_expect.specs.declared.refusal.Section.TheVariants.{Top}
 use Rattle.pm_expect.specs.declared.refusal.Why.TheVariants.{TooLong}
 use Rattle.pm_expect_say.specs.Tells.{Tells}
 use Rattle.pm_found.specs.declared.telling.Found.{Found}
+use Rattle.pm_lab_ends.specs.Coming.{Came, Work, Writes}
 use Rattle.pm_lab_ends.specs.Ending.{Ending, Refused, SaidRefused}
 use Rattle.pm_lab_ends.specs.declared.ending.Fault.{Fault}
 use Rattle.pm_lab_ends.specs.declared.ending.Fault.TheVariants as fault
+use Rattle.pm_lab_ends.specs.declared.ending.Outcome.TheVariants as outcome
 use Rattle.pm_lab_find.specs.Find.{FindEnds}
 use Rattle.pm_model.specs.declared.plan.Plan.{Plan}
 
@@ -75,3 +78,10 @@ IsTextUnread plan file text (fault.Refused said) = (refusal : Refusal) × (expec
 IsTextUnread plan file text fault.ReadFailed = ⊥
 IsTextUnread plan file text fault.WriteFailed = ⊥
 IsTextUnread plan file text fault.NoMemory = ⊤
+
+-- what was told of why nothing is expected: a refusal as a text; else nothing was written
+abbrev pub IsToldUnread : Fault → Work → Taking → Type 0
+IsToldUnread (fault.Refused text) work out = Came (Writes outcome.Refused text.items) work ⊥ out
+IsToldUnread fault.ReadFailed work out = (work ≡ Err fault.ReadFailed) × TookNothing out
+IsToldUnread fault.WriteFailed work out = (work ≡ Err fault.WriteFailed) × TookNothing out
+IsToldUnread fault.NoMemory work out = (work ≡ Err fault.NoMemory) × TookNothing out

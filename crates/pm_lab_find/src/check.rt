@@ -7,7 +7,7 @@ ghost use Rattle.pm_expect.specs.Over.{AreOver};
 ghost use Rattle.pm_found.specs.Telling.{IsNotTold};
 ghost use Rattle.pm_io.specs.Asks.{AskedOnly};
 ghost use Rattle.pm_io.specs.Faults.{Rose};
-ghost use Rattle.pm_lab_find.specs.Check.{AreRead, CheckEnds, CheckUnread, IsNotRead, IsTextUnread, IsTold, OfCheck, RunUnread};
+ghost use Rattle.pm_lab_find.specs.Check.{AreRead, CheckEnds, CheckUnread, IsNotRead, IsTextUnread, IsTold, IsToldUnread, OfCheck, RunUnread};
 ghost use Rattle.pm_lab_ends.specs.Coming.{Came};
 ghost use Rattle.pm_lab_ends.specs.Ending.{Answered};
 ghost use Rattle.pm_lab_ends.specs.Reading.{OfPlan};
@@ -23,11 +23,11 @@ use pm_lab_ends::{Fault, Outcome, finish, load, write_text};
 use pm_model::Plan;
 use std::alloc::Global;
 
-/// A file of expectations that is read.
+/// A file of expectations that is read: its text, and what it expects.
 #[derive(Debug, Drop)]
-struct Read {
-    text: Vec<u8>,
-    expected: Expectations,
+pub struct Read {
+    pub text: Vec<u8>,
+    pub expected: Expectations,
 }
 
 /// Runs `find PLAN TRACE --expect FILE`: reads the plan, the file of expectations and the trace, and writes to `out` what
@@ -90,8 +90,20 @@ fn run_expect<F: Files, O: Sink, E: Sink>(
     }
 }
 
+/// Tells why a file of expectations isn't read: on `out`, where it is refused.
+pub fn tell_unread<O: Sink>(fault: Fault, out: &mut O) -> Result<Outcome, Fault>
+    ensures { IsToldUnread fault result (taking O.taken O.faults out.old out.new) }
+{
+    match fault {
+        Fault::Refused { text } => write_text(text.as_slice(), Outcome::Refused, out),
+        Fault::ReadFailed => Err(Fault::ReadFailed),
+        Fault::WriteFailed => Err(Fault::WriteFailed),
+        Fault::NoMemory => Err(Fault::NoMemory),
+    }
+}
+
 /// The expectations of a file.
-fn expectations<F: Files>(
+pub fn expectations<F: Files>(
     alloc: Global,
     plan: &Plan,
     expect: &str,

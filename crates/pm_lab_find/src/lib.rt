@@ -5,5 +5,5 @@
 mod check;
 mod find;
 
-pub use check::check_top;
+pub use check::{Read, check_top, expectations, tell_unread};
 pub use find::find_top;

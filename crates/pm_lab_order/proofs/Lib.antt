@@ -1,3 +1,5 @@
 pub mod MarkLemmas
 pub mod ShownLemmas
 pub mod WorkLemmas
+pub mod FailLemmas
+pub mod BrokenLemmas

@@ -48,7 +48,7 @@ is_showing bounds plan spelled mark given lines h e way same lines_are lawful of
 }
 
 -- its ending
-ending_is : (e : End) (trace : List ℕ) → ending_of (outcome_of_end e) trace ≡ run_ending e trace
+pub ending_is : (e : End) (trace : List ℕ) → ending_of (outcome_of_end e) trace ≡ run_ending e trace
 ending_is end.Finished trace = refl
 ending_is end.AtLimit trace = refl
 

@@ -1,3 +1,4 @@
 pub mod Showing
 pub mod Order
 pub mod Work
+pub mod Failing

@@ -99,7 +99,7 @@ fn write_order<O: Sink>(
 }
 
 /// How a run that ends so is told of.
-fn outcome_of_end(end: End) -> Outcome
+pub fn outcome_of_end(end: End) -> Outcome
     ensures { result ≡ outcome_of_end end }
 {
     match end {

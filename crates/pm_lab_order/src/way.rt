@@ -38,8 +38,8 @@ fn none_shows(
     }
 }
 
-// The line that says that a way is too long.
-fn too_far(alloc: Global) -> Result<Vec<u8>, NoMemory>
+/// The line that says that a way is too long.
+pub fn too_far(alloc: Global) -> Result<Vec<u8>, NoMemory>
     ensures { IfOk result (λ text. text.items ≡ too_far_text) }
 {
     let text = Vec::from_slice(

@@ -1,2 +1,3 @@
 pub mod OrdersLemmas
 pub mod SeenLemmas
+pub mod ExpectLemmas

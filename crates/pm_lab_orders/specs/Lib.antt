@@ -2,3 +2,4 @@ pub mod OrdersOutcome
 pub mod Orders
 pub mod Found
 pub mod Seen
+pub mod Expect

@@ -1,9 +1,11 @@
-//! The commands of `pm_lab` that go through the orders of a plan: what they show, and where the outcome of a kernel's run
-//! stands among it. Files and sinks are handed in.
+//! The commands of `pm_lab` that go through the orders of a plan: what they show, where the outcome of a kernel's run
+//! stands among it, and what they make of what an author expects. Files and sinks are handed in.
 #![tactic(auto)]
 
+mod expect;
 mod orders;
 mod seen;
 
+pub use expect::expect_top;
 pub use orders::{orders_top, outcomes_of, pace_of};
 pub use seen::seen_top;

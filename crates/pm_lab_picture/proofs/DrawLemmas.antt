@@ -1,19 +1,22 @@
 -- What is written of the bytes of a trace.
-use Rattle.std.proofs.Common.{ℕ, ◌≡◌, Bool, true, false, List, Result, Ok, Err, IfOk, Vec, Global, subst, sym}
+use Rattle.std.proofs.Common.{ℕ, ◌≡◌, ◌∙◌, Bool, true, false, List, Result, Ok, Err, IfOk, Vec, Global, ap, reverse, subst, sym}
+use Rattle.std.proofs.lemmas.List.{reverse-reverse}
 use Rattle.pm_events.specs.Events.{IsTimeline}
 use Rattle.pm_model.specs.FirstBad.{StandsFor}
 use Rattle.pm_model.specs.History.{History}
 use Rattle.pm_model.specs.Lawful.{IsLawful}
 use Rattle.pm_model.specs.NoWhy.{NoWhy}
 use Rattle.pm_model.specs.Verdict.{IsVerdict, No}
+use Rattle.pm_model.specs.declared.event.Line.{Line}
 use Rattle.pm_model.specs.declared.plan.Plan.{Plan}
+use Rattle.pm_picture.specs.Calls.{IsPictureOf}
 use Rattle.pm_svg.specs.Shapes.{IsPicture}
 use Rattle.pm_lab_picture.specs.Drawing.{IsDrawnOf, IsOfRun, IsShown, IsUnlawful, bad, stands}
 use Rattle.pm_lab_picture.specs.declared.telling.Drawn.{Drawn}
 
 -- they stand for a lawful list
 pub drawn_lawful : {E : Type 0} (r : Result Drawn E) (plan : Plan) (h : History) (file bytes : List ℕ) (json : Bool) → IsLawful plan h → StandsFor plan bytes h
-    → IfOk r (IsOfRun json) → IfOk r (λ drawn. IsDrawnOf plan file bytes json drawn)
+    → IfOk r (IsOfRun json h) → IfOk r (λ drawn. IsDrawnOf plan file bytes json drawn)
 drawn_lawful (Ok drawn) plan h file bytes json lawful stands_for is = stands h lawful stands_for is
 drawn_lawful (Err e) plan h file bytes json lawful stands_for is = tt
 
@@ -24,8 +27,12 @@ drawn_bad (Ok drawn) plan file bytes json n why verdict is = bad n why verdict i
 drawn_bad (Err e) plan file bytes json n why verdict is = tt
 
 -- a timeline where it is asked for, and else a picture
-pub shown_timeline : {E : Type 0} (r : Result (Vec ℕ Global) E) (json : Bool) → json ≡ true → IfOk r (λ text. IsTimeline text.items) → IfOk r (λ text. IsShown json text.items)
-shown_timeline r json is all = subst (λ (b : Bool). IfOk r (λ text. IsShown b text.items)) (sym is) all
+pub shown_timeline : {E : Type 0} (r : Result (Vec ℕ Global) E) (json : Bool) (h : History) → json ≡ true → IfOk r (λ text. IsTimeline text.items) → IfOk r (λ text. IsShown json h text.items)
+shown_timeline r json h is all = subst (λ (b : Bool). IfOk r (λ text. IsShown b h text.items)) (sym is) all
 
-pub shown_picture : {E : Type 0} (r : Result (Vec ℕ Global) E) (json : Bool) → json ≡ false → IfOk r (λ text. IsPicture text.items) → IfOk r (λ text. IsShown json text.items)
-shown_picture r json is all = subst (λ (b : Bool). IfOk r (λ text. IsShown b text.items)) (sym is) all
+pub shown_picture : {E : Type 0} (r : Result (Vec ℕ Global) E) (json : Bool) (h : History) (lines : List Line) → json ≡ false → reverse lines ≡ h
+    → IfOk r (λ text. IsPicture text.items) → IfOk r (λ text. IsPictureOf lines text.items) → IfOk r (λ text. IsShown json h text.items)
+shown_picture (Ok text) json h lines is same picture calls =
+    let here = subst (λ (l : List Line). IsPictureOf l text.items) (sym (reverse-reverse lines) ∙ ap (λ (l : List Line). reverse l) same) calls in
+    subst (λ (b : Bool). IsShown b h text.items) (sym is) (picture, here)
+shown_picture (Err e) json h lines is same picture calls = tt

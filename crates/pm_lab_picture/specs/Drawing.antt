@@ -1,5 +1,5 @@
 -- What is written of a trace (this project's own). Lists of lines have the newest line first.
-use Rattle.std.specs.Prelude.{◌≡◌, ℕ, ⊤, Bool, true, false, Option, List}
+use Rattle.std.specs.Prelude.{◌≡◌, ℕ, ⊤, Bool, true, false, Option, List, reverse}
 use Rattle.pm_cmd_ends.specs.Reading.{Holds, IsTooLong}
 use Rattle.pm_events.specs.Events.{IsTimeline}
 use Rattle.pm_found.specs.Texts.{unlawful_text}
@@ -11,17 +11,18 @@ use Rattle.pm_model.specs.Lawful.{IsLawful}
 use Rattle.pm_model.specs.NoWhy.{NoWhy}
 use Rattle.pm_model.specs.Verdict.{IsVerdict, No}
 use Rattle.pm_model.specs.declared.plan.Plan.{Plan}
+use Rattle.pm_picture.specs.Calls.{IsPictureOf}
 use Rattle.pm_svg.specs.Shapes.{IsPicture}
 use Rattle.pm_lab_picture.specs.declared.telling.Drawn.{Drawn}
 
--- a timeline with --json, and else a picture
-abbrev pub IsShown : Bool → List ℕ → Type 0
-IsShown true text = IsTimeline text
-IsShown false text = IsPicture text
+-- a timeline with --json, and else a picture, with the bars of the calls of these lines
+abbrev pub IsShown : Bool → History → List ℕ → Type 0
+IsShown true h text = IsTimeline text
+IsShown false h text = IsPicture text × IsPictureOf (reverse h) text
 
--- what is written of a run
-pub record IsOfRun (json : Bool) (drawn : Drawn) : Type 0 where
-  pub is_shown : IsShown json drawn.text.items
+-- what is written of a run of these lines
+pub record IsOfRun (json : Bool) (h : History) (drawn : Drawn) : Type 0 where
+  pub is_shown : IsShown json h drawn.text.items
   pub is_lawful_is : drawn.is_lawful ≡ true
 
 -- what is told of a first bad line
@@ -32,7 +33,7 @@ pub record IsUnlawful (file : List ℕ) (n : ℕ) (why : NoWhy) (drawn : Drawn) 
 -- what is written of the bytes of a trace: they have a first bad line, or they stand for a lawful list
 pub data IsDrawnOf (plan : Plan) (file bytes : List ℕ) (json : Bool) (drawn : Drawn) : Type 0 where
   bad : (n : ℕ) (why : NoWhy) → IsVerdict plan bytes (No n why) → IsUnlawful file n why drawn → IsDrawnOf plan file bytes json drawn
-  stands : (h : History) → IsLawful plan h → StandsFor plan bytes h → IsOfRun json drawn → IsDrawnOf plan file bytes json drawn
+  stands : (h : History) → IsLawful plan h → StandsFor plan bytes h → IsOfRun json h drawn → IsDrawnOf plan file bytes json drawn
 
 -- what is written of the file of a trace
 pub record IsDrawn (all : Bool) (known : Option (List ℕ)) (plan : Plan) (file : List ℕ) (json : Bool) (drawn : Drawn) : Type 0 where

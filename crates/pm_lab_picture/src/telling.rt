@@ -27,7 +27,7 @@ pub(crate) struct Drawn {
 /// The picture of the run of a book, or its timeline.
 #[tactic(auto, using(crate::proofs::DrawLemmas::shown_timeline, crate::proofs::DrawLemmas::shown_picture))]
 fn text_of(alloc: Global, book: &Book, file: &[u8], json: bool) -> Result<Vec<u8>, NoMemory>
-    ensures { IfOk result (λ text. IsShown json text.items) }
+    ensures { IfOk result (λ text. IsShown json book.now.lines text.items) }
 {
     lines_are_bounded();
     if json {
@@ -39,7 +39,7 @@ fn text_of(alloc: Global, book: &Book, file: &[u8], json: bool) -> Result<Vec<u8
 
 /// What is written of the run of a book.
 fn drawn_book(alloc: Global, book: &Book, file: &[u8], json: bool) -> Result<Drawn, NoMemory>
-    ensures { IfOk result (IsOfRun json) }
+    ensures { IfOk result (IsOfRun json book.now.lines) }
 {
     let text = text_of(alloc, book, file, json)?;
     Ok(Drawn {

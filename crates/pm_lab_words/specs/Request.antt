@@ -27,7 +27,9 @@ pub data Asked : Type 0 where
   Check : (plan trace expect : List ℕ) (ktap notes : Bool) → Asked
   Picture : (plan trace : List ℕ) (json : Bool) → Asked
   Orders : (plan : List ℕ) (bounds : Bounds) (differ : Bool) (seen : Option (List ℕ)) → Asked
+  OrdersExpected : (plan expect : List ℕ) (bounds : Bounds) (differ : Bool) → Asked
   Order : (plan : List ℕ) (bounds : Bounds) (sought : Sought) → Asked
+  OrderFailing : (plan expect : List ℕ) (bounds : Bounds) (index : ℕ) → Asked
 
 -- how far the orders are looked through: at most so many disturbances, 0 to 99, and spots, 1 to 10,000,000
 abbrev pub bounds_with : Bool → ℕ → ℕ → Bounds
@@ -46,6 +48,15 @@ find_with plan trace notes None true = None
 abbrev pub find_of : List ℕ → List ℕ → Options → Option Asked
 find_of plan trace o = find_with plan trace o.notes o.expect o.ktap
 
+-- of orders: --expect doesn't stand beside --seen
+abbrev pub orders_with : List ℕ → Bounds → Bool → Option (List ℕ) → Option (List ℕ) → Option Asked
+orders_with plan bounds differ None seen = Some (Orders plan bounds differ seen)
+orders_with plan bounds differ (Some expect) None = Some (OrdersExpected plan expect bounds differ)
+orders_with plan bounds differ (Some expect) (Some log) = None
+
+abbrev pub orders_of : List ℕ → Options → Option Asked
+orders_of plan o = option_and_then (λ bounds. orders_with plan bounds o.differ o.expect o.seen) (bounds_of o)
+
 -- of order: CALLER N CODE, or end DEVICE STATUS USAGE ERROR
 abbrev pub return_of : List ℕ → List ℕ → List ℕ → Option Sought
 return_of caller number code =
@@ -63,16 +74,28 @@ sought_of (caller ∷ number ∷ code ∷ []) = return_of caller number code
 sought_of (end ∷ device ∷ status ∷ usage ∷ error ∷ []) = end_behind end device status usage error
 sought_of _ = None
 
+-- or, with --expect, fails INDEX
+abbrev pub fails_behind : List ℕ → List ℕ → Option ℕ
+fails_behind fails index = if bytes_eq fails (codes "fails") then number_between 1 (2 ^ 32 - 1) index else None
+
+abbrev pub failing_of : List (List ℕ) → Option ℕ
+failing_of (fails ∷ index ∷ []) = fails_behind fails index
+failing_of _ = None
+
+abbrev pub order_with : List ℕ → List (List ℕ) → Bounds → Option (List ℕ) → Option Asked
+order_with plan words bounds None = option_map (λ sought. Order plan bounds sought) (sought_of words)
+order_with plan words bounds (Some expect) = option_map (λ index. OrderFailing plan expect bounds index) (failing_of words)
+
 abbrev pub order_of : List (List ℕ) → Options → Option Asked
 order_of [] o = None
-order_of (plan ∷ words) o = option_and_then (λ bounds. option_map (λ sought. Order plan bounds sought) (sought_of words)) (bounds_of o)
+order_of (plan ∷ words) o = option_and_then (λ bounds. order_with plan words bounds o.expect) (bounds_of o)
 
 -- the words of each command
 abbrev pub asked_of : Command → List (List ℕ) → Options → Option Asked
 asked_of command.Say (plan ∷ []) o = Some (Say plan)
 asked_of command.Find (plan ∷ trace ∷ []) o = find_of plan trace o
 asked_of command.Picture (plan ∷ trace ∷ []) o = Some (Picture plan trace o.json)
-asked_of command.Orders (plan ∷ []) o = option_map (λ bounds. Orders plan bounds o.differ o.seen) (bounds_of o)
+asked_of command.Orders (plan ∷ []) o = orders_of plan o
 asked_of command.Order words o = order_of words o
 asked_of command.Kernel (plan ∷ []) o = Some (Kernel plan)
 asked_of _ _ _ = None
@@ -105,5 +128,7 @@ asked (request.Find plan trace notes) = Find plan.now trace.now notes
 asked (request.Check plan trace expect ktap notes) = Check plan.now trace.now expect.now ktap notes
 asked (request.Picture plan trace json) = Picture plan.now trace.now json
 asked (request.Orders plan bounds differ seen) = Orders plan.now bounds differ (option_map (λ word. word.now) seen)
+asked (request.OrdersExpected plan expect bounds differ) = OrdersExpected plan.now expect.now bounds differ
 asked (request.Order plan bounds sought) = Order plan.now bounds (sought_in sought)
+asked (request.OrderFailing plan expect bounds index) = OrderFailing plan.now expect.now bounds index
 asked (request.Kernel plan) = Kernel plan.now

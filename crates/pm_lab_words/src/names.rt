@@ -77,9 +77,9 @@ pub fn takes(command: Command, name: Name) -> bool
         Command::Picture => matches!(name, Name::Json),
         Command::Orders => matches!(
             name,
-            Name::Late | Name::Most | Name::Spots | Name::Differ | Name::Seen
+            Name::Late | Name::Most | Name::Spots | Name::Differ | Name::Expect | Name::Seen
         ),
-        Command::Order => matches!(name, Name::Late | Name::Most | Name::Spots),
+        Command::Order => matches!(name, Name::Late | Name::Most | Name::Spots | Name::Expect),
         Command::Say | Command::Kernel => false,
     }
 }

@@ -2,7 +2,7 @@
 
 ghost use Rattle.std.specs.Prelude.{◌≡◌, map, option_map, string_bytes};
 ghost use Rattle.pm_lab_words.specs.Read.{given_of, options_of};
-ghost use Rattle.pm_lab_words.specs.Request.{asked, asked_by, asked_of, asked_with, bounds_of, end_behind, end_of, find_of, help_on, order_of, return_of, sought_in, sought_of};
+ghost use Rattle.pm_lab_words.specs.Request.{asked, asked_by, asked_of, asked_with, bounds_of, end_behind, end_of, failing_of, fails_behind, find_of, help_on, order_of, order_with, orders_of, orders_with, return_of, sought_in, sought_of};
 
 use crate::given::given_by;
 use crate::names::{Command, command_of};
@@ -78,11 +78,26 @@ pub enum Request<'a> {
         /// The log of a kernel's run.
         seen: Option<&'a str>,
     },
+    /// `orders PLAN --expect FILE`: tells too which expectations hold in all of them.
+    OrdersExpected {
+        plan: &'a str,
+        expect: &'a str,
+        bounds: Bounds,
+        differ: bool,
+    },
     /// `order PLAN SOUGHT`: writes the trace of an order that shows what is sought.
     Order {
         plan: &'a str,
         bounds: Bounds,
         sought: Sought<'a>,
+    },
+    /// `order PLAN --expect FILE fails INDEX`: writes the trace of an order that breaks the expectation of this number, counted
+    /// from 1.
+    OrderFailing {
+        plan: &'a str,
+        expect: &'a str,
+        bounds: Bounds,
+        index: u32,
     },
     /// `kernel PLAN`: writes the plan as a module for a kernel.
     Kernel {
@@ -122,6 +137,41 @@ fn find_of<'a>(plan: &'a str, trace: &'a str, options: &Options<'a>) -> Option<R
         }),
         (None, true) => None,
     }
+}
+
+/// The command `orders` of a plan, with these options.
+fn orders_with<'a>(
+    plan: &'a str,
+    bounds: Bounds,
+    differ: bool,
+    expect: Option<&'a str>,
+    seen: Option<&'a str>,
+) -> Option<Request<'a>>
+    ensures { option_map asked result ≡ orders_with plan.now bounds differ (option_map (λ w. w.now) expect.entry) (option_map (λ w. w.now) seen.entry) }
+{
+    match (expect, seen) {
+        (None, seen) => Some(Request::Orders {
+            plan,
+            bounds,
+            differ,
+            seen,
+        }),
+        (Some(expect), None) => Some(Request::OrdersExpected {
+            plan,
+            expect,
+            bounds,
+            differ,
+        }),
+        (Some(_), Some(_)) => None,
+    }
+}
+
+/// The command `orders` of a plan. A file of expectations and a log are looked at one by one.
+fn orders_of<'a>(plan: &'a str, options: &Options<'a>) -> Option<Request<'a>>
+    ensures { option_map asked result ≡ orders_of plan.now (options_of options.now) }
+{
+    let bounds = bounds_of(options)?;
+    orders_with(plan, bounds, options.differ, options.expect, options.seen)
 }
 
 /// The code that a command of a caller is to return.
@@ -180,6 +230,57 @@ fn sought_of<'a>(words: &[&'a str]) -> Option<Sought<'a>>
     }
 }
 
+/// The number of an expectation, where the first word is `fails`.
+fn fails_behind(fails: &str, index: &str) -> Option<u32>
+    ensures { result ≡ fails_behind fails.now index.now }
+{
+    if fails == "fails" {
+        number_between(1, u32::MAX, index.as_bytes())
+    } else {
+        None
+    }
+}
+
+/// The number of the expectation that the words behind that of the plan name.
+fn failing_of(words: &[&str]) -> Option<u32>
+    ensures { result ≡ failing_of (map (λ w. w.now) words.now) }
+{
+    match words {
+        [fails, index] => fails_behind(fails, index),
+        _ => None,
+    }
+}
+
+/// The command `order` of a plan and what it seeks, with these options.
+fn order_with<'a>(
+    plan: &'a str,
+    words: &[&'a str],
+    bounds: Bounds,
+    expect: Option<&'a str>,
+) -> Option<Request<'a>>
+    ensures { option_map asked result ≡ order_with plan.now (map (λ w. w.now) words.now) bounds (option_map (λ w. w.now) expect.entry) }
+{
+    match expect {
+        None => {
+            let sought = sought_of(words)?;
+            Some(Request::Order {
+                plan,
+                bounds,
+                sought,
+            })
+        }
+        Some(expect) => {
+            let index = failing_of(words)?;
+            Some(Request::OrderFailing {
+                plan,
+                expect,
+                bounds,
+                index,
+            })
+        }
+    }
+}
+
 /// The command `order` of a plan.
 fn order_of<'a>(words: &[&'a str], options: &Options<'a>) -> Option<Request<'a>>
     ensures { option_map asked result ≡ order_of (map (λ w. w.now) words.now) (options_of options.now) }
@@ -188,12 +289,7 @@ fn order_of<'a>(words: &[&'a str], options: &Options<'a>) -> Option<Request<'a>>
         return None;
     };
     let bounds = bounds_of(options)?;
-    let sought = sought_of(words)?;
-    Some(Request::Order {
-        plan,
-        bounds,
-        sought,
-    })
+    order_with(plan, words, bounds, options.expect)
 }
 
 /// The command of these positional words and options.
@@ -208,15 +304,7 @@ fn asked_of<'a>(command: Command, words: &[&'a str], options: &Options<'a>) -> O
             trace,
             json: options.json,
         }),
-        (Command::Orders, [plan]) => {
-            let bounds = bounds_of(options)?;
-            Some(Request::Orders {
-                plan,
-                bounds,
-                differ: options.differ,
-                seen: options.seen,
-            })
-        }
+        (Command::Orders, [plan]) => orders_of(plan, options),
         (Command::Order, words) => order_of(words, options),
         (Command::Kernel, [plan]) => Some(Request::Kernel { plan }),
         _ => None,

@@ -191,8 +191,8 @@ fn write_failure(
     y: u32,
 ) -> Result<(), NoMemory> {
     canvas.say(cb_word(cb))?;
-    push(&mut canvas.words, b" ")?;
-    push_code(&mut canvas.words, code)?;
+    push(&mut canvas.pen.words, b" ")?;
+    push_code(&mut canvas.pen.words, code)?;
     canvas.label(Style::LeftHeld, x, y, false)
 }
 
@@ -268,7 +268,7 @@ fn write_usage(canvas: &mut Canvas<'_>, line: u32, dev: DevId, usage: u32) -> Re
     };
     canvas.point_at(line)?;
     canvas.say(b"")?;
-    push_number(&mut canvas.words, usage)?;
+    push_number(&mut canvas.pen.words, usage)?;
     let x = canvas.x(line).saturating_add(1);
     canvas.label(Style::Count, x, row.y.saturating_add(14), false)
 }

@@ -1,32 +1,56 @@
 //! The calls of callers, with what they return, what stands out in them, and whom they wait for.
 
+ghost use Rattle.std.specs.Prelude.{◌≡◌, ◌∷◌, [], ℕ, List, IfOk, OnOk, map, true};
+ghost use Rattle.pm_picture.specs.Calls.{Reaches, bar_of};
+ghost use Rattle.pm_svg.specs.Shapes.{Draws};
+
 use pm_base::{ActorId, EAGAIN, EBUSY, EINPROGRESS, NoMemory};
+use pm_calls::{Answer, Call};
 use pm_columns::{Columns, Span};
 use pm_findings::{Kind, Weight};
 use pm_findingtext::{push, push_actor, push_code, push_number};
 use pm_lanes::{Piece, Shown};
-use pm_model::{Command, Helper};
+use pm_model::Helper;
 use pm_module::push_command;
-use pm_rows::{Row, Subject};
+use pm_rows::{Row, Rows, Subject};
 use pm_scene::{Notes, Run};
-use pm_sheet::{Canvas, text_width};
-use pm_svg::Style;
+use pm_sheet::{Frame, Pen, text_width};
+use pm_svg::{Drawing, Style};
 use std::alloc::Global;
 
 /// The room of a caller's row but for words that lean, in pixels.
 const ROOM: u32 = 34;
 
-/// A call: who made it, which, and what it returned.
+/// On what calls are drawn.
 #[derive(Clone, Copy)]
-struct Call {
-    caller: u32,
-    command: Command,
-    /// `None` where it hasn't returned.
-    code: Option<i32>,
-    /// What stands out in it.
+pub(crate) struct Ground<'a> {
+    pub alloc: Global,
+    pub run: Run<'a>,
+    pub columns: &'a Columns,
+    pub rows: &'a Rows,
+    pub frame: Frame,
+}
+
+impl Ground<'_> {
+    // The row of a caller, with its place on the picture.
+    fn row(&self, caller: u32) -> Option<Row> {
+        let mut row = self.rows.row(Subject::Caller(caller))?;
+        row.y = row.y.saturating_add(self.frame.top);
+        Some(row)
+    }
+
+    // Where a line stands.
+    fn x(&self, line: u32) -> u32 {
+        self.frame.left.saturating_add(self.columns.x(line))
+    }
+}
+
+/// A call with what stands out in it, and where it is drawn.
+#[derive(Clone, Copy)]
+struct Bar {
+    call: Call,
     note: Option<Kind>,
     span: Span,
-    line: u32,
 }
 
 // Whether a code asks to try again.
@@ -34,39 +58,42 @@ fn asks_again(code: i32) -> bool {
     code == EAGAIN || code == EBUSY || code == EINPROGRESS
 }
 
-// The code that the call of a piece returned.
-fn code_of(run: &Run<'_>, place: usize) -> Option<i32> {
-    match run.next(place)?.shown {
-        Shown::Returned { code, .. } => Some(code),
-        _ => None,
+// How far a call reaches on the axis.
+fn span_of(columns: &Columns, line: u32, answer: Option<Answer>) -> Span
+    ensures { Reaches columns.now.xs.items columns.now.width line answer result }
+{
+    match answer {
+        Some(answer) => columns.span(line, answer.line),
+        None => columns.rest(line),
     }
 }
 
-// The call that a piece shows, if it is one.
-fn call_at(run: &Run<'_>, columns: &Columns, notes: &Notes, place: usize) -> Option<Call> {
-    let piece = run.pieces.get(place)?;
-    let Shown::Called { caller, command } = piece.shown else {
-        return None;
-    };
-    Some(Call {
-        caller,
-        command,
-        code: code_of(run, place),
-        note: notes.get(&place).copied(),
-        span: columns.span(piece.line, run.until(place)),
-        line: piece.line,
-    })
+// A call with what stands out in it.
+fn with_note(columns: &Columns, notes: &Notes, call: &Call) -> Bar
+    ensures call { result.call ≡ call.now }
+    ensures span { Reaches columns.now.xs.items columns.now.width result.call.line result.call.answer result.span }
+{
+    Bar {
+        call: *call,
+        note: notes.get(&call.line).copied(),
+        span: span_of(columns, call.line, call.answer),
+    }
 }
 
-impl Call {
+impl Bar {
     // Whether it only lets time pass.
     fn is_delay(&self) -> bool {
-        matches!(self.command.helper, Helper::Delay)
+        matches!(self.call.command.helper, Helper::Delay)
     }
 
-    // How its bar looks.
+    // The code that it returned.
+    fn code(&self) -> Option<i32> {
+        self.call.answer.map(|answer| answer.code)
+    }
+
+    // How it looks.
     fn style(&self) -> Style {
-        match (self.code, self.note) {
+        match (self.code(), self.note) {
             (None, _) => Style::CallOpen,
             (Some(code), _) if code < 0 && asks_again(code) => Style::CallRefused,
             (Some(code), _) if code < 0 => Style::CallFailed,
@@ -99,7 +126,7 @@ impl Call {
 
     // Appends what it returned.
     fn push_answer(&self, text: &mut Vec<u8>) -> Result<(), NoMemory> {
-        match self.code {
+        match self.code() {
             None => push(text, b" has not returned"),
             Some(0) => Ok(()),
             Some(_) if self.is_delay() => Ok(()),
@@ -112,7 +139,7 @@ impl Call {
 
     // Appends its words.
     fn push_words(&self, run: &Run<'_>, text: &mut Vec<u8>) -> Result<(), NoMemory> {
-        push_command(text, run.plan, &self.command)?;
+        push_command(text, run.plan, &self.call.command)?;
         self.push_answer(text)?;
         match self.note {
             Some(kind) => push_note(text, run, &kind),
@@ -158,16 +185,16 @@ pub(crate) struct Room {
 
 impl Room {
     // Makes room for the words of a call.
-    fn grow(&mut self, call: &Call, words: usize) {
-        if !call.leans(words) {
+    fn grow(&mut self, bar: &Bar, words: usize) {
+        if !bar.leans(words) {
             return;
         }
         let width = text_width(words);
         let height = (width.saturating_mul(53) / 100).saturating_add(ROOM + 14);
-        if let Some(slot) = self.heights.get_mut(call.caller as usize) {
+        if let Some(slot) = self.heights.get_mut(bar.call.caller as usize) {
             *slot = height.max(*slot);
         }
-        let end = call.span.x.saturating_add(call.span.width);
+        let end = bar.span.x.saturating_add(bar.span.width);
         let reach = end.saturating_add(width.saturating_mul(85) / 100);
         self.reach = reach.max(self.reach);
     }
@@ -192,22 +219,45 @@ impl Room {
             reach: 0,
         };
         let mut words = Vec::new(alloc);
-        for place in 0..run.pieces.len() {
-            if let Some(call) = call_at(run, columns, notes, place) {
-                words.clear();
-                call.push_words(run, &mut words)?;
-                room.grow(&call, words.len());
-            }
+        for call in run.calls {
+            let bar = with_note(columns, notes, call);
+            words.clear();
+            bar.push_words(run, &mut words)?;
+            room.grow(&bar, words.len());
         }
         Ok(room)
     }
 }
 
-// How far the words of each caller's calls, and of its waits, reach so far.
+// How far the words of each caller's calls, and of its waits, reach so far, where the latest mark of a call was drawn
+// that has no width, and the place of the next piece.
 #[derive(Drop)]
 struct Reach {
     leaning: Vec<u32>,
     below: Vec<u32>,
+    marks: Vec<Option<u32>>,
+    place: usize,
+}
+
+impl Reach {
+    fn new(alloc: Global, callers: usize) -> Result<Reach, NoMemory> {
+        Ok(Reach {
+            leaning: vec![in alloc; 0; callers]?,
+            below: vec![in alloc; 0; callers]?,
+            marks: vec![in alloc; None; callers]?,
+            place: 0,
+        })
+    }
+
+    // Whether the latest mark of a caller isn't at this place. It is from now on.
+    fn is_new(&mut self, caller: u32, x: u32) -> bool {
+        let Some(slot) = self.marks.get_mut(caller as usize) else {
+            return true;
+        };
+        let is_new = *slot != Some(x);
+        *slot = Some(x);
+        is_new
+    }
 }
 
 // Where words may stand at or right of a place, and from where on others may.
@@ -222,127 +272,184 @@ fn next_free(free: &mut [u32], caller: u32, x: u32, width: u32) -> u32 {
 
 // Writes the words of a call into its bar or above it.
 fn write_words(
-    canvas: &mut Canvas<'_>,
+    ground: &Ground<'_>,
+    pen: &mut Pen,
     reach: &mut Reach,
-    call: &Call,
+    bar: &Bar,
     y: u32,
-) -> Result<(), NoMemory> {
-    let run = canvas.run;
-    canvas.say(b"")?;
-    call.push_words(&run, &mut canvas.words)?;
-    let count = canvas.words.len();
-    let x = canvas.frame.left.saturating_add(call.span.x);
-    if call.fits(count) {
-        canvas.label(
-            call.word_style(),
-            x.saturating_add(4),
-            y.saturating_add(12),
-            false,
-        )
-    } else if call.leans(count) {
-        let middle = x.saturating_add(call.span.width / 2);
-        let x = next_free(&mut reach.leaning, call.caller, middle, 16);
-        canvas.label(call.word_style(), x, y.saturating_sub(4), true)
-    } else {
-        Ok(())
+) -> Result<(), NoMemory>
+    ensures { OnOk result (Draws [] pen.old.drawing pen.new.drawing) }
+{
+    pen.words.clear();
+    bar.push_words(&ground.run, &mut pen.words)?;
+    let count = pen.words.len();
+    let x = ground.frame.left.saturating_add(bar.span.x);
+    if bar.fits(count) {
+        let style = bar.word_style();
+        return pen.label(style, x.saturating_add(4), y.saturating_add(12), false);
+    }
+    if !bar.leans(count) {
+        return Ok(());
+    }
+    let middle = x.saturating_add(bar.span.width / 2);
+    let x = next_free(&mut reach.leaning, bar.call.caller, middle, 16);
+    pen.label(bar.word_style(), x, y.saturating_sub(4), true)
+}
+
+// Where the bar of a call stands, from the top, in a picture of all.
+fn bar_top(ground: &Ground<'_>, caller: u32) -> u32 {
+    match ground.row(caller) {
+        Some(row) => row.y.saturating_add(row.height.saturating_sub(30)),
+        None => ground.frame.top,
     }
 }
 
 // Draws a call with its words.
 fn draw_whole(
-    canvas: &mut Canvas<'_>,
+    ground: &Ground<'_>,
+    pen: &mut Pen,
     reach: &mut Reach,
-    call: &Call,
-    row: &Row,
-) -> Result<(), NoMemory> {
-    let y = row.y.saturating_add(row.height.saturating_sub(30));
+    bar: &Bar,
+) -> Result<(), NoMemory>
+    ensures { OnOk result ((xs : List ℕ) (width : ℕ) → Reaches xs width bar.now.call.line bar.now.call.answer bar.now.span → Draws (bar_of ground.now.frame.left xs width bar.now.call ∷ []) pen.old.drawing pen.new.drawing) }
+{
+    let y = bar_top(ground, bar.call.caller);
     let span = Span {
-        x: call.span.x,
-        width: call.span.width.saturating_sub(2),
+        x: bar.span.x,
+        width: bar.span.width.saturating_sub(2),
     };
-    canvas.point_at(call.line)?;
-    canvas.bar(call.style(), span, y, 17)?;
-    write_words(canvas, reach, call, y)
+    pen.point_at(ground.alloc, &ground.run, bar.call.line)?;
+    pen.bar(bar.style(), ground.frame.left, span, y, 17)?;
+    write_words(ground, pen, reach, bar, y)
 }
 
 // Draws a call in an overview: its bar, or a mark where it has no width and stands out.
-fn draw_thin(canvas: &mut Canvas<'_>, call: &Call, row: &Row) -> Result<(), NoMemory> {
-    let style = call.style();
-    let stands_out = matches!(style, Style::CallFailed);
-    if call.span.width == 0 && !(stands_out && canvas.is_new(row.subject, call.span.x)?) {
-        return Ok(());
-    }
-    canvas.point_at(call.line)?;
-    canvas.bar(style, call.span, row.y.saturating_add(2), 9)
-}
-
-// Draws a call.
-fn draw_call(canvas: &mut Canvas<'_>, reach: &mut Reach, call: &Call) -> Result<(), NoMemory> {
-    let Some(row) = canvas.row(Subject::Caller(call.caller)) else {
+fn draw_thin(
+    ground: &Ground<'_>,
+    pen: &mut Pen,
+    reach: &mut Reach,
+    bar: &Bar,
+) -> Result<(), NoMemory> {
+    let Some(row) = ground.row(bar.call.caller) else {
         return Ok(());
     };
-    if canvas.is_whole() {
-        draw_whole(canvas, reach, call, &row)
-    } else {
-        draw_thin(canvas, call, &row)
+    let style = bar.style();
+    let stands_out = matches!(style, Style::CallFailed);
+    if bar.span.width == 0 && !(stands_out && reach.is_new(bar.call.caller, bar.span.x)) {
+        return Ok(());
     }
+    pen.point_at(ground.alloc, &ground.run, bar.call.line)?;
+    let y = row.y.saturating_add(2);
+    pen.bar(style, ground.frame.left, bar.span, y, 9)
 }
 
 // Writes below a caller's bar whom it waits for.
 fn write_wait(
-    canvas: &mut Canvas<'_>,
+    ground: &Ground<'_>,
+    pen: &mut Pen,
     reach: &mut Reach,
     caller: u32,
     line: u32,
     name: &[u8],
-) -> Result<(), NoMemory> {
-    let Some(row) = canvas.row(Subject::Caller(caller)) else {
+) -> Result<(), NoMemory>
+    ensures { OnOk result (Draws [] pen.old.drawing pen.new.drawing) }
+{
+    let Some(row) = ground.row(caller) else {
         return Ok(());
     };
-    canvas.point_at(line)?;
-    canvas.say(b"waits for ")?;
-    push(&mut canvas.words, name)?;
-    let width = text_width(canvas.words.len()).saturating_add(6);
-    let x = canvas.x(line).saturating_add(2);
+    pen.point_at(ground.alloc, &ground.run, line)?;
+    pen.say(b"waits for ")?;
+    push(&mut pen.words, name)?;
+    let width = text_width(pen.words.len()).saturating_add(6);
+    let x = ground.x(line).saturating_add(2);
     let x = next_free(&mut reach.below, caller, x, width);
     let y = row.y.saturating_add(row.height.saturating_sub(3));
-    canvas.label(Style::WordRefused, x, y, false)
+    pen.label(Style::WordRefused, x, y, false)
 }
 
-// Draws a piece, if it is a call, or in a picture of all a wait of a caller.
-fn draw_piece(
-    canvas: &mut Canvas<'_>,
+// Writes whom a caller waits for, where a piece shows that.
+fn write_piece(
+    ground: &Ground<'_>,
+    pen: &mut Pen,
     reach: &mut Reach,
-    notes: &Notes,
-    place: usize,
     piece: &Piece,
-) -> Result<(), NoMemory> {
-    let run = canvas.run;
+) -> Result<(), NoMemory>
+    ensures { OnOk result (Draws [] pen.old.drawing pen.new.drawing) }
+{
     match piece.shown {
-        Shown::Called { .. } => match call_at(&run, canvas.columns, notes, place) {
-            Some(call) => draw_call(canvas, reach, &call),
-            None => Ok(()),
-        },
         Shown::Waits {
             actor: ActorId::Caller(caller),
             dev,
-        } if canvas.is_whole() => {
-            write_wait(canvas, reach, caller, piece.line, run.device_name(dev))
+        } => {
+            let name = ground.run.device_name(dev);
+            write_wait(ground, pen, reach, caller, piece.line, name)
         }
         _ => Ok(()),
     }
 }
 
-/// Draws the calls of callers, and in a picture of all writes whom they wait for.
-pub(crate) fn draw_calls(canvas: &mut Canvas<'_>, notes: &Notes) -> Result<(), NoMemory> {
-    let callers = canvas.run.plan.callers.len();
-    let mut reach = Reach {
-        leaning: vec![in canvas.alloc; 0; callers]?,
-        below: vec![in canvas.alloc; 0; callers]?,
-    };
-    let pieces = canvas.run.pieces;
-    for (place, piece) in pieces.iter().enumerate() {
-        draw_piece(canvas, &mut reach, notes, place, piece)?;
+// Writes whom callers wait for, up to this line.
+fn write_waits(
+    ground: &Ground<'_>,
+    pen: &mut Pen,
+    reach: &mut Reach,
+    line: u32,
+) -> Result<(), NoMemory>
+    ensures { OnOk result (Draws [] pen.old.drawing pen.new.drawing) }
+{
+    let pieces = ground.run.pieces;
+    for _ in reach.place..pieces.len() {
+        let Some(piece) = pieces.get(reach.place) else {
+            return Ok(());
+        };
+        if piece.line > line {
+            return Ok(());
+        }
+        write_piece(ground, pen, reach, piece)?;
+        reach.place = reach.place.saturating_add(1);
     }
     Ok(())
+}
+
+// Draws the calls of callers with their words, and writes whom they wait for.
+fn draw_all(ground: &Ground<'_>, pen: &mut Pen, notes: &Notes) -> Result<(), NoMemory>
+    ensures { OnOk result (Draws (map (bar_of ground.now.frame.left ground.now.columns.now.xs.items ground.now.columns.now.width) ground.now.run.calls.now) pen.old.drawing pen.new.drawing) }
+{
+    let mut reach = Reach::new(ground.alloc, ground.run.plan.callers.len())?;
+    for call in ground.run.calls {
+        write_waits(ground, pen, &mut reach, call.line)?;
+        let bar = with_note(ground.columns, notes, call);
+        draw_whole(ground, pen, &mut reach, &bar)?;
+    }
+    write_waits(ground, pen, &mut reach, u32::MAX)
+}
+
+// Draws the calls of callers in an overview.
+fn draw_overview(ground: &Ground<'_>, pen: &mut Pen, notes: &Notes) -> Result<(), NoMemory> {
+    let mut reach = Reach::new(ground.alloc, ground.run.plan.callers.len())?;
+    for call in ground.run.calls {
+        let bar = with_note(ground.columns, notes, call);
+        draw_thin(ground, pen, &mut reach, &bar)?;
+    }
+    Ok(())
+}
+
+// Draws the calls of callers, as a picture of all or as an overview.
+fn draw_by(ground: &Ground<'_>, pen: &mut Pen, notes: &Notes) -> Result<(), NoMemory>
+    ensures { OnOk result (ground.now.columns.now.is_whole ≡ true → Draws (map (bar_of ground.now.frame.left ground.now.columns.now.xs.items ground.now.columns.now.width) ground.now.run.calls.now) pen.old.drawing pen.new.drawing) }
+{
+    if ground.columns.is_whole() {
+        draw_all(ground, pen, notes)
+    } else {
+        draw_overview(ground, pen, notes)
+    }
+}
+
+/// Draws the calls of callers, and in a picture of all writes whom they wait for.
+pub(crate) fn draw_calls(ground: &Ground<'_>, notes: &Notes) -> Result<Drawing, NoMemory>
+    ensures { IfOk result (λ drawing. ground.now.columns.now.is_whole ≡ true → Draws (map (bar_of ground.now.frame.left ground.now.columns.now.xs.items ground.now.columns.now.width) ground.now.run.calls.now) [] drawing) }
+{
+    let mut pen = Pen::new(ground.alloc);
+    draw_by(ground, &mut pen, notes)?;
+    Ok(pen.finish())
 }

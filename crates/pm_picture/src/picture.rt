@@ -1,15 +1,17 @@
 //! A whole picture.
 
-ghost use Rattle.std.specs.Prelude.{◌≡◌, ◌<◌, ◌^◌, IfOk, length, reverse, true};
+ghost use Rattle.std.specs.Prelude.{◌≡◌, ◌<◌, ◌≤◌, ◌^◌, IfOk, length, reverse, true};
 ghost use Rattle.std.specs.List.{list_all};
 ghost use Rattle.pm_model.specs.Lawful.{IsLawful};
 ghost use Rattle.pm_model.specs.LineOf.{is_line_of};
+ghost use Rattle.pm_picture.specs.Calls.{IsPictureOf};
 ghost use Rattle.pm_svg.specs.Shapes.{IsPicture};
 
 use crate::bands::{draw_bands, draw_callbacks, draw_grounds, draw_hatches, write_usages};
-use crate::calls::{Room, draw_calls};
+use crate::calls::{Ground, Room, draw_calls};
 use crate::works::{BAND, STRIP, draw_works};
 use pm_base::NoMemory;
+use pm_calls::calls;
 use pm_columns::Columns;
 use pm_findings::{Finding, faults, findings};
 use pm_lanes::{all_pieces, next_places};
@@ -20,6 +22,7 @@ use pm_sheet::{
     Canvas, Head, draw_head, draw_moments, draw_rows, ends_width, frame_of, write_numbers,
     write_quiet,
 };
+use pm_svg::picture;
 use std::alloc::Global;
 
 // How high the row of a device is in a picture of all, in pixels: below its band are its timer, its work item, and words: what
@@ -85,13 +88,8 @@ fn rows_of(
     Rows::new(alloc, run.plan, &survey.holdings, &heights)
 }
 
-// Draws everything, the lowest first.
-fn draw(
-    canvas: &mut Canvas<'_>,
-    head: &Head<'_>,
-    left: &LeftOn,
-    notes: &Notes,
-) -> Result<(), NoMemory> {
+// Draws what lies under the calls, the lowest first.
+fn draw_under(canvas: &mut Canvas<'_>, head: &Head<'_>, left: &LeftOn) -> Result<(), NoMemory> {
     draw_head(canvas, head)?;
     draw_moments(canvas)?;
     draw_rows(canvas, left)?;
@@ -99,8 +97,11 @@ fn draw(
     draw_bands(canvas)?;
     draw_hatches(canvas)?;
     draw_callbacks(canvas)?;
-    draw_works(canvas)?;
-    draw_calls(canvas, notes)?;
+    draw_works(canvas)
+}
+
+// Draws what lies over them.
+fn draw_over(canvas: &mut Canvas<'_>) -> Result<(), NoMemory> {
     write_usages(canvas)?;
     write_numbers(canvas)?;
     write_quiet(canvas)
@@ -134,7 +135,9 @@ fn laid_out(
     survey: &Survey,
     notes: &Notes,
     columns: Columns,
-) -> Result<Layout, NoMemory> {
+) -> Result<Layout, NoMemory>
+    ensures { IfOk result (λ layout. layout.columns ≡ columns) }
+{
     let room = room_of(alloc, run, &columns, notes)?;
     let rows = rows_of(alloc, run, survey, &room, columns.is_whole())?;
     Ok(Layout {
@@ -160,49 +163,64 @@ fn lanes_width(
 // The picture where everything stands so.
 fn drawn(
     alloc: Global,
-    run: Run<'_>,
+    run: &Run<'_>,
     survey: &Survey,
     left: &LeftOn,
     notes: &Notes,
     layout: &Layout,
     head: &Head<'_>,
 ) -> Result<Vec<u8>, NoMemory>
-    ensures { IfOk result (λ text. IsPicture text.items) }
+    requires each_line { length layout.now.columns.xs.items ≡ length run.now.lines.now }
+    requires whole { length run.now.lines.now ≤ 400 → layout.now.columns.is_whole ≡ true }
+    ensures { IfOk result (λ text. IsPictureOf run.now.lines.now text.items) }
 {
-    let lanes = lanes_width(alloc, &run, survey, left, layout)?;
-    let frame = frame_of(&run, &layout.rows, head, lanes);
-    let mut canvas = Canvas::new(alloc, run, survey, &layout.columns, &layout.rows, frame)?;
-    draw(&mut canvas, head, left, notes)?;
-    canvas.finish()
+    let columns = &layout.columns;
+    let rows = &layout.rows;
+    let lanes = lanes_width(alloc, run, survey, left, layout)?;
+    let frame = frame_of(run, rows, head, lanes);
+    let ground = Ground {
+        alloc,
+        run: *run,
+        columns,
+        rows,
+        frame,
+    };
+    let mut canvas = Canvas::new(alloc, *run, survey, columns, rows, frame);
+    draw_under(&mut canvas, head, left)?;
+    let under = canvas.take();
+    let calls = draw_calls(&ground, notes)?;
+    draw_over(&mut canvas)?;
+    let over = canvas.take();
+    picture(alloc, frame.width, frame.height, &under, &calls, &over)
 }
 
 // The picture by what stands out in the calls and at the end.
 fn picture_by(
     alloc: Global,
-    run: Run<'_>,
+    run: &Run<'_>,
     survey: &Survey,
     left: &LeftOn,
     notes: &Notes,
     head: &Head<'_>,
 ) -> Result<Vec<u8>, NoMemory>
-    ensures { IfOk result (λ text. IsPicture text.items) }
+    ensures { IfOk result (λ text. IsPictureOf run.now.lines.now text.items) }
 {
     let columns = Columns::new(alloc, run.lines, &survey.marks)?;
-    let layout = laid_out(alloc, &run, survey, notes, columns)?;
+    let layout = laid_out(alloc, run, survey, notes, columns)?;
     drawn(alloc, run, survey, left, notes, &layout, head)
 }
 
 // The picture of a run that was looked at.
 fn picture_seen(
     alloc: Global,
-    run: Run<'_>,
+    run: &Run<'_>,
     survey: &Survey,
     head: &Head<'_>,
     all: &[Finding],
 ) -> Result<Vec<u8>, NoMemory>
-    ensures { IfOk result (λ text. IsPicture text.items) }
+    ensures { IfOk result (λ text. IsPictureOf run.now.lines.now text.items) }
 {
-    let notes = notes_of(alloc, &run, all)?;
+    let notes = notes_of(alloc, run, all)?;
     let left = left_on(alloc, all)?;
     picture_by(alloc, run, survey, &left, &notes, head)
 }
@@ -210,18 +228,19 @@ fn picture_seen(
 // The picture of a run whose pieces are at hand.
 fn picture_of(
     alloc: Global,
-    run: Run<'_>,
+    run: &Run<'_>,
     head: &Head<'_>,
     all: &[Finding],
 ) -> Result<Vec<u8>, NoMemory>
-    ensures { IfOk result (λ text. IsPicture text.items) }
+    ensures { IfOk result (λ text. IsPictureOf run.now.lines.now text.items) }
 {
-    let survey = Survey::of(alloc, &run)?;
+    let survey = Survey::of(alloc, run)?;
     picture_seen(alloc, run, &survey, head, all)
 }
 
 /// The picture of a lawful run of a plan, whose trace is called so, as the text of an SVG file. Up to 400 lines at which
-/// something changes are drawn in whole; of more there is an overview. Fails only where memory runs out.
+/// something changes are drawn in whole, with one bar for each call; of more there is an overview. Fails only where memory
+/// runs out.
 pub fn picture_text(
     alloc: Global,
     plan: &Plan,
@@ -232,10 +251,12 @@ pub fn picture_text(
     requires lawful { IsLawful plan.now (reverse lines.now) }
     requires of_plan { list_all (is_line_of plan.now) (reverse lines.now) ≡ true }
     requires few { length lines.now < 2 ^ 32 }
-    ensures { IfOk result (λ text. IsPicture text.items) }
+    ensures picture { IfOk result (λ text. IsPicture text.items) }
+    ensures calls { IfOk result (λ text. IsPictureOf lines.now text.items) }
 {
     let pieces = all_pieces(alloc, plan, lines)?;
     let nexts = next_places(alloc, &pieces)?;
+    let calls = calls(alloc, lines)?;
     let all = findings(alloc, plan, lines, is_finished)?;
     let told = faults(alloc, &all)?;
     let run = Run {
@@ -243,11 +264,12 @@ pub fn picture_text(
         lines,
         pieces: &pieces,
         nexts: &nexts,
+        calls: &calls,
     };
     let head = Head {
         file,
         findings: &told,
         is_finished,
     };
-    picture_of(alloc, run, &head, &told)
+    picture_of(alloc, &run, &head, &told)
 }

@@ -80,7 +80,7 @@ fn draw_below(
     };
     let y = row.y.saturating_add(strip);
     canvas.bar(style, bar, y, 12)?;
-    if text_width(canvas.words.len()).saturating_add(6) > span.width {
+    if text_width(canvas.pen.words.len()).saturating_add(6) > span.width {
         return Ok(());
     }
     let x = canvas.frame.left.saturating_add(span.x);
@@ -96,10 +96,10 @@ fn draw_below(
 fn say_deadline(canvas: &mut Canvas<'_>, deadline: u64) -> Result<(), NoMemory> {
     canvas.say(b"timer ")?;
     push(
-        &mut canvas.words,
+        &mut canvas.pen.words,
         itoa::Buffer::new().format(deadline).as_bytes(),
     )?;
-    push(&mut canvas.words, b" ms")
+    push(&mut canvas.pen.words, b" ms")
 }
 
 // Writes whom a work item waits for.
@@ -109,7 +109,7 @@ fn write_wait(canvas: &mut Canvas<'_>, own: DevId, line: u32, name: &[u8]) -> Re
     };
     canvas.point_at(line)?;
     canvas.say(b"waits for ")?;
-    push(&mut canvas.words, name)?;
+    push(&mut canvas.pen.words, name)?;
     let x = canvas.x(line).saturating_add(2);
     canvas.label(
         Style::WordRefused,

@@ -2,9 +2,11 @@
 
 ghost use Rattle.std.specs.Prelude.{◌≡◌, IfSome, reverse, true};
 ghost use Rattle.std.specs.List.{list_all};
+ghost use Rattle.pm_calls.specs.Calls.{calls_from};
 ghost use Rattle.pm_model.specs.LineOf.{is_line_of};
 
 use pm_base::{DevId, DomId, NoMemory};
+use pm_calls::Call;
 use pm_findingtext::{push, push_number};
 use pm_lanes::Piece;
 use pm_linetext::write_line;
@@ -19,6 +21,9 @@ pub struct Run<'a> {
     pub pieces: &'a [Piece],
     /// For each piece the place of its lane's next one.
     pub nexts: &'a [Option<usize>],
+    /// The calls of callers, with what they return.
+    pub calls: &'a [Call],
+    pub ghost each_call: { calls.now ≡ calls_from 1 lines.now },
     pub ghost of_plan: { list_all (is_line_of plan.now) (reverse lines.now) ≡ true },
 }
 

@@ -1,16 +1,14 @@
 //! A picture while it is drawn, with what is needed for it at hand.
 
-ghost use Rattle.std.specs.Prelude.{IfOk};
-ghost use Rattle.pm_svg.specs.Shapes.{IsPicture};
-
+use crate::pen::Pen;
 use indexmap::IndexMap;
 use pm_base::NoMemory;
 use pm_columns::{Columns, Span};
-use pm_findingtext::push;
 use pm_rows::{Row, Rows, Subject};
 use pm_scene::{Run, Survey};
-use pm_svg::{Block, Drawing, Label, Rule, Style};
+use pm_svg::{Drawing, Style};
 use std::alloc::Global;
+use std::mem;
 
 /// The measures of a picture, in pixels.
 #[derive(Clone, Copy)]
@@ -31,11 +29,7 @@ pub struct Canvas<'a> {
     pub columns: &'a Columns,
     pub rows: &'a Rows,
     pub frame: Frame,
-    drawing: Drawing,
-    // What is shown where the mouse points at the next shapes.
-    title: Vec<u8>,
-    // The next words.
-    pub words: Vec<u8>,
+    pub pen: Pen,
     // Where the latest mark of a row was drawn that has no width.
     marks: IndexMap<Subject, u32>,
 }
@@ -50,14 +44,10 @@ impl Drop for Canvas<'_> {
             columns: _,
             rows: _,
             frame: _,
-            drawing,
-            title,
-            words,
+            pen,
             marks,
         } = self;
-        drop(drawing);
-        drop(title);
-        drop(words);
+        drop(pen);
         drop(marks);
     }
 }
@@ -71,39 +61,23 @@ impl<'a> Canvas<'a> {
         columns: &'a Columns,
         rows: &'a Rows,
         frame: Frame,
-    ) -> Result<Canvas<'a>, NoMemory> {
-        let drawing = Drawing::start(alloc, frame.width, frame.height)?;
-        Ok(Canvas {
+    ) -> Canvas<'a> {
+        Canvas {
             alloc,
             run,
             survey,
             columns,
             rows,
             frame,
-            title: Vec::new(alloc),
-            words: Vec::new(alloc),
+            pen: Pen::new(alloc),
             marks: IndexMap::new(alloc),
-            drawing,
-        })
+        }
     }
 
-    /// The drawing.
-    pub fn finish(self) -> Result<Vec<u8>, NoMemory>
-        ensures { IfOk result (λ text. IsPicture text.items) }
-    {
-        let Canvas {
-            alloc: _,
-            run: _,
-            survey: _,
-            columns: _,
-            rows: _,
-            frame: _,
-            drawing,
-            title: _,
-            words: _,
-            marks: _,
-        } = self;
-        drawing.finish()
+    /// What is drawn so far. What is drawn next begins anew, with nothing that is shown where the mouse points.
+    pub fn take(&mut self) -> Drawing {
+        self.point_at_nothing();
+        mem::replace(&mut self.pen.drawing, Drawing::new(self.alloc))
     }
 
     /// Whether all is drawn, and not an overview.
@@ -135,19 +109,17 @@ impl<'a> Canvas<'a> {
 
     /// What is shown where the mouse points at the next shapes: this line.
     pub fn point_at(&mut self, line: u32) -> Result<(), NoMemory> {
-        self.title.clear();
-        self.run.push_line(self.alloc, &mut self.title, line)
+        self.pen.point_at(self.alloc, &self.run, line)
     }
 
     /// What is shown there: nothing.
     pub fn point_at_nothing(&mut self) {
-        self.title.clear();
+        self.pen.title.clear();
     }
 
     /// Begins the next words by these.
     pub fn say(&mut self, words: &[u8]) -> Result<(), NoMemory> {
-        self.words.clear();
-        push(&mut self.words, words)
+        self.pen.say(words)
     }
 
     /// Draws a block.
@@ -159,26 +131,17 @@ impl<'a> Canvas<'a> {
         width: u32,
         height: u32,
     ) -> Result<(), NoMemory> {
-        let block = Block {
-            style,
-            x,
-            y,
-            width: width.max(1),
-            height,
-        };
-        self.drawing.block(&block, &self.title)
+        self.pen.block(style, x, y, width, height)
     }
 
     /// Draws a block on the lanes.
     pub fn bar(&mut self, style: Style, span: Span, y: u32, height: u32) -> Result<(), NoMemory> {
-        let x = self.frame.left.saturating_add(span.x);
-        self.block(style, x, y, span.width, height)
+        self.pen.bar(style, self.frame.left, span, y, height)
     }
 
     /// Writes the words.
     pub fn label(&mut self, style: Style, x: u32, y: u32, leans: bool) -> Result<(), NoMemory> {
-        let label = Label { style, x, y, leans };
-        self.drawing.label(&label, &self.words, &self.title)
+        self.pen.label(style, x, y, leans)
     }
 
     /// Writes these words.
@@ -189,7 +152,7 @@ impl<'a> Canvas<'a> {
 
     /// Draws a thin line.
     pub fn rule(&mut self, x: u32, y: u32, to_x: u32, to_y: u32) -> Result<(), NoMemory> {
-        self.drawing.rule(&Rule { x, y, to_x, to_y })
+        self.pen.rule(x, y, to_x, to_y)
     }
 }
 

@@ -112,7 +112,7 @@ fn write_name(canvas: &mut Canvas<'_>, row: &Row) -> Result<(), NoMemory> {
         Subject::Link(_) => b"holds ",
         _ => b"",
     })?;
-    push(&mut canvas.words, name(&run, row.subject))?;
+    push(&mut canvas.pen.words, name(&run, row.subject))?;
     canvas.label(style, indent(row), y, false)
 }
 
@@ -126,7 +126,7 @@ fn write_home(canvas: &mut Canvas<'_>, row: &Row, dev: DevId) -> Result<(), NoMe
         return Ok(());
     };
     canvas.say(b"in ")?;
-    push(&mut canvas.words, run.domain_name(domain))?;
+    push(&mut canvas.pen.words, run.domain_name(domain))?;
     canvas.label(Style::Minor, indent(row), row.y.saturating_add(31), false)
 }
 
@@ -140,7 +140,7 @@ fn write_end(
     let run = canvas.run;
     let y = baseline(canvas, row);
     canvas.say(b"")?;
-    let style = push_end(&mut canvas.words, &run, canvas.survey, left, dev)?;
+    let style = push_end(&mut canvas.pen.words, &run, canvas.survey, left, dev)?;
     canvas.label(style, canvas.right().saturating_add(8), y, false)
 }
 
@@ -181,9 +181,9 @@ fn draw_moment(canvas: &mut Canvas<'_>, x: u32, time: u64, free: &mut u32) -> Re
         return Ok(());
     }
     canvas.say(Buffer::new().format(time).as_bytes())?;
-    push(&mut canvas.words, b" ms")?;
+    push(&mut canvas.pen.words, b" ms")?;
     *free = x
-        .saturating_add(text_width(canvas.words.len()))
+        .saturating_add(text_width(canvas.pen.words.len()))
         .saturating_add(12);
     canvas.label(Style::Moment, x, top.saturating_sub(8), false)
 }
@@ -209,8 +209,9 @@ pub fn draw_moments(canvas: &mut Canvas<'_>) -> Result<(), NoMemory> {
 // Writes the number of a line below the lanes.
 fn write_number(canvas: &mut Canvas<'_>, number: u32, x: u32) -> Result<(), NoMemory> {
     let bottom = canvas.frame.top.saturating_add(canvas.rows.height());
+    canvas.point_at(number)?;
     canvas.say(b"line ")?;
-    push_number(&mut canvas.words, number)?;
+    push_number(&mut canvas.pen.words, number)?;
     canvas.label(Style::Number, x, bottom.saturating_add(14), false)
 }
 
@@ -241,12 +242,12 @@ fn push_quiet(canvas: &mut Canvas<'_>) -> Result<usize, NoMemory> {
             continue;
         }
         count = count.saturating_add(1);
-        if canvas.words.len().saturating_add(48) < room as usize {
+        if canvas.pen.words.len().saturating_add(48) < room as usize {
             push(
-                &mut canvas.words,
+                &mut canvas.pen.words,
                 if count == 1 { b" ".as_slice() } else { b", " },
             )?;
-            push(&mut canvas.words, pm_model::Named::name(row).as_slice())?;
+            push(&mut canvas.pen.words, pm_model::Named::name(row).as_slice())?;
         }
     }
     Ok(count)

@@ -46,8 +46,11 @@ impl Head<'_> {
 
 // Appends a number and a word.
 fn push_counted(canvas: &mut Canvas<'_>, count: u64, word: &[u8]) -> Result<(), NoMemory> {
-    push(&mut canvas.words, Buffer::new().format(count).as_bytes())?;
-    push(&mut canvas.words, word)
+    push(
+        &mut canvas.pen.words,
+        Buffer::new().format(count).as_bytes(),
+    )?;
+    push(&mut canvas.pen.words, word)
 }
 
 // Says how much the run has, and how to read the picture.
@@ -58,16 +61,16 @@ fn say_what(canvas: &mut Canvas<'_>, is_finished: bool) -> Result<(), NoMemory> 
     push_counted(canvas, lines, b" lines, ")?;
     push_counted(canvas, time, b" ms")?;
     if !is_finished {
-        push(&mut canvas.words, b", not finished")?;
+        push(&mut canvas.pen.words, b", not finished")?;
     }
     if canvas.is_whole() {
         push(
-            &mut canvas.words,
+            &mut canvas.pen.words,
             b". From left to right go the lines; passed time widens a step. Point at a shape to see its line.",
         )
     } else {
         push(
-            &mut canvas.words,
+            &mut canvas.pen.words,
             b". An overview: thin lanes, without words, callbacks, counts and links. With --json, pm_lab picture has all of it.",
         )
     }
@@ -130,9 +133,9 @@ fn draw_keys(canvas: &mut Canvas<'_>) -> Result<(), NoMemory> {
 fn write_finding(canvas: &mut Canvas<'_>, found: &Finding, y: u32) -> Result<(), NoMemory> {
     let plan = canvas.run.plan;
     canvas.say(b"")?;
-    push_finding(&mut canvas.words, plan, b"line", found)?;
-    canvas.words.pop();
-    if let Some(colon) = canvas.words.get_mut(4) {
+    push_finding(&mut canvas.pen.words, plan, b"line", found)?;
+    canvas.pen.words.pop();
+    if let Some(colon) = canvas.pen.words.get_mut(4) {
         *colon = b' ';
     }
     let style = match found.kind.weight() {

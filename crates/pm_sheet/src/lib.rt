@@ -5,7 +5,9 @@
 mod canvas;
 mod frame;
 mod head;
+mod pen;
 
 pub use canvas::{Canvas, Frame, text_width};
 pub use frame::{draw_moments, draw_rows, ends_width, frame_of, write_numbers, write_quiet};
 pub use head::{Head, draw_head};
+pub use pen::Pen;

@@ -17,6 +17,10 @@ escaped_byte b =
 abbrev pub escaped : List ℕ → List ℕ
 escaped bytes = flat_map escaped_byte bytes
 
+-- a byte that stands for itself
+abbrev pub is_itself : ℕ → Bool
+is_itself b = not (nat_eq b 60) && not (nat_eq b 62) && not (nat_eq b 38) && not (nat_eq b 34) && not (nat_lt b 32)
+
 -- a byte that is neither an angle bracket nor a quote nor a control character
 abbrev pub is_no_markup : ℕ → Bool
 is_no_markup b = not (nat_eq b 60) && not (nat_eq b 62) && not (nat_eq b 34) && not (nat_lt b 32)

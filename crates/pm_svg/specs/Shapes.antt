@@ -1,5 +1,5 @@
 -- The shapes of a picture and their text, as elements of SVG (SVG 1.1; what stands in them is this project's own).
-use Rattle.std.specs.Prelude.{ℕ, List, [], ◌++◌, ◌≡◌, codes, decimal, if◌then◌else◌}
+use Rattle.std.specs.Prelude.{ℕ, List, [], ◌∷◌, ◌++◌, ◌≡◌, codes, decimal, if◌then◌else◌}
 use Rattle.std.specs.List.{flat_map}
 use Rattle.pm_svg.specs.declared.shapes.Block.{Block}
 use Rattle.pm_svg.specs.declared.shapes.Label.{Label}
@@ -96,15 +96,30 @@ unfoldable pub head_text : ℕ → ℕ → List ℕ
 head_text width height =
     codes "<svg xmlns=\"http://www.w3.org/2000/svg\"" ++ attribute (codes " width=\"") width ++ attribute (codes "\" height=\"") height ++ codes "\">\n" ++ sheet
 
--- a picture that isn't ended: a head, and behind it some shapes and nothing else
-pub record IsBegun (text : List ℕ) : Type 0 where
+-- the text of some shapes and nothing else
+pub record AreShapes (text : List ℕ) : Type 0 where
+  pub shapes : List Shape
+  pub text_is : text ≡ flat_map shape_text shapes
+
+-- a whole picture: a head, and behind it some shapes and nothing else
+pub record IsPicture (text : List ℕ) : Type 0 where
   pub width : ℕ
   pub height : ℕ
   pub shapes : List Shape
-  pub text_is : text ≡ head_text width height ++ flat_map shape_text shapes
+  pub text_is : text ≡ head_text width height ++ flat_map shape_text shapes ++ codes "</svg>\n"
 
--- a whole picture
-pub record IsPicture (text : List ℕ) : Type 0 where
-  pub begun : List ℕ
-  pub is_begun : IsBegun begun
-  pub text_is : text ≡ begun ++ codes "</svg>\n"
+-- where a block lies from left to right
+pub record Extent : Type 0 where
+  pub x : ℕ
+  pub width : ℕ
+
+abbrev pub extents : Shape → List Extent
+extents (OfBlock b title) = record { x = b.x; width = b.width } ∷ []
+extents (OfLabel l words title) = []
+extents (OfRule r) = []
+
+-- some shapes are appended, whose blocks lie so, in this order
+pub record Draws (blocks : List Extent) (old new : List ℕ) : Type 0 where
+  pub shapes : List Shape
+  pub blocks_are : flat_map extents shapes ≡ blocks
+  pub text_is : new ≡ old ++ flat_map shape_text shapes

@@ -1,7 +1,7 @@
-//! A picture while it is drawn.
+//! Shapes while they are drawn, and the picture of them.
 
-ghost use Rattle.std.specs.Prelude.{◌≡◌, ◌++◌, IfOk, OnErr, OnOk, codes};
-ghost use Rattle.pm_svg.specs.Shapes.{IsPicture, block_text, head_text, label_text, rule_text, sheet};
+ghost use Rattle.std.specs.Prelude.{◌≡◌, ◌++◌, [], IfOk, OnErr, OnOk, codes};
+ghost use Rattle.pm_svg.specs.Shapes.{block_text, head_text, label_text, rule_text, sheet};
 
 use crate::pieces::{push, push_attribute};
 use crate::shapes::{Block, Label, Rule, push_block, push_label, push_rule};
@@ -10,8 +10,7 @@ use pm_base::NoMemory;
 use std::alloc::Global;
 use std::marker::Model;
 
-/// The text of a picture so far. Contracts see its bytes, which are a head and some shapes and nothing else,
-/// whoever draws.
+/// The text of the shapes so far. Contracts see its bytes, which are some shapes and nothing else, whoever draws.
 #[derive(Drop)]
 pub struct Drawing {
     text: Vec<u8>,
@@ -21,13 +20,13 @@ pub struct Drawing {
 
 impl Model for Drawing {
     ghost use Rattle.std.specs.Prelude.{ℕ, List};
-    ghost use Rattle.pm_svg.specs.Shapes.{IsBegun};
+    ghost use Rattle.pm_svg.specs.Shapes.{AreShapes};
 
     ghost Value = { List ℕ };
 
     ghost view = { λ d. d.text.items };
 
-    ghost invariant = { λ d. IsBegun d.text.items };
+    ghost invariant = { λ d. AreShapes d.text.items };
 }
 
 // Appends the style sheet.
@@ -60,20 +59,18 @@ fn append(text: &mut Vec<u8>, piece: &[u8]) -> Result<(), NoMemory>
 }
 
 impl Drawing {
-    /// A picture of this width and height, in pixels, with nothing on it. Fails where memory runs out, as do the
-    /// others, which then change nothing.
-    pub fn start(alloc: Global, width: u32, height: u32) -> Result<Drawing, NoMemory>
-        ensures { IfOk result (λ drawing. drawing ≡ head_text width height) }
+    /// Nothing is drawn yet.
+    pub fn new(alloc: Global) -> Drawing
+        ensures { result ≡ [] }
     {
-        let mut text = Vec::new(alloc);
-        push_head(&mut text, width, height)?;
-        Ok(Drawing {
-            text,
+        Drawing {
+            text: Vec::new(alloc),
             shape: Vec::new(alloc),
-        })
+        }
     }
 
-    /// Draws a block, with words that are shown where the mouse points at it.
+    /// Draws a block, with words that are shown where the mouse points at it. Fails where memory runs out, as do the
+    /// others, which then change nothing.
     pub fn block(&mut self, block: &Block, title: &[u8]) -> Result<(), NoMemory>
         ensures ok { OnOk result (self.new ≡ self.old ++ block_text block.now title.now) }
         ensures err { OnErr result (self.new ≡ self.old) }
@@ -103,12 +100,31 @@ impl Drawing {
         append(&mut self.text, &self.shape)
     }
 
-    /// The text of the whole picture.
-    pub fn finish(self) -> Result<Vec<u8>, NoMemory>
-        ensures { IfOk result (λ text. IsPicture text.items) }
+    // Appends the text.
+    fn push_to(&self, text: &mut Vec<u8>) -> Result<(), NoMemory>
+        ensures { OnOk result (text.new.items ≡ text.old.items ++ self.now) }
     {
-        let Drawing { mut text, shape: _ } = self;
-        text.extend_from_slice(b"</svg>\n")?;
-        Ok(text)
+        push(text, &self.text)
     }
+}
+
+/// The text of a picture of this width and height, in pixels, with these shapes: some lie under others, and some over
+/// them. Fails where memory runs out.
+pub fn picture(
+    alloc: Global,
+    width: u32,
+    height: u32,
+    under: &Drawing,
+    between: &Drawing,
+    over: &Drawing,
+) -> Result<Vec<u8>, NoMemory>
+    ensures { IfOk result (λ text. text.items ≡ head_text width height ++ under.now ++ between.now ++ over.now ++ codes "</svg>\n") }
+{
+    let mut text = Vec::new(alloc);
+    push_head(&mut text, width, height)?;
+    under.push_to(&mut text)?;
+    between.push_to(&mut text)?;
+    over.push_to(&mut text)?;
+    push(&mut text, b"</svg>\n")?;
+    Ok(text)
 }

@@ -8,7 +8,7 @@ mod shapes;
 mod sheet;
 mod style;
 
-pub use drawing::Drawing;
+pub use drawing::{Drawing, picture};
 pub use escape::{escaped_is_no_markup, push_escaped};
 pub use shapes::{Block, Label, Rule};
 pub use sheet::SHEET;

@@ -10,6 +10,7 @@ use crate::bars::tell;
 use crate::threads::{DOMAINS, process_of};
 use crate::writer::Writer;
 use pm_base::{DevId, DomId, NoMemory};
+use pm_calls::calls;
 use pm_lanes::{Lane, all_pieces, next_places};
 use pm_model::{Line, Plan};
 use pm_scene::{Glance, Run, Survey};
@@ -76,11 +77,13 @@ pub fn timeline_text(alloc: Global, plan: &Plan, lines: &[Line]) -> Result<Vec<u
 {
     let pieces = all_pieces(alloc, plan, lines)?;
     let nexts = next_places(alloc, &pieces)?;
+    let calls = calls(alloc, lines)?;
     let run = Run {
         plan,
         lines,
         pieces: &pieces,
         nexts: &nexts,
+        calls: &calls,
     };
     timeline_of(alloc, run)
 }

@@ -1,6 +1,6 @@
 use Rattle.std.proofs.Common.{◌≡◌, ◌++◌, take}
 use Rattle.pm_svg.specs.Escape.{escaped}
-use Rattle.pm_svg.proofs.escape.push_escaped.Given as goal
+use Rattle.pm_svg.proofs.escape.push_bytes.Given as goal
 
 -- the bytes so far
 abbrev pub invariant-loop-byte : goal.invariant-loop-byte

@@ -1,0 +1,89 @@
+-- What the first spot that breaks an expectation says of all orders.
+use Rattle.std.proofs.Common.{◌≡◌, ◌<◌, ◌≤◌, ◌↔◌, ℕ, List, Option, Some, None, IsSome, length, slice_get, get_or, refl, ap, ◌∙◌, inl, inr, arith}
+use Rattle.std.proofs.lemmas.Bool.{cases_lt}
+use Rattle.std.proofs.lemmas.Option.{slice_get-get_or, slice_get_within}
+use Rattle.pm_broken.specs.Breaches.{breach_at}
+use Rattle.pm_broken.specs.Found.{IsBroken, IsBrokenWithin, IsFirstOf, IsToldWithin}
+use Rattle.pm_broken.specs.declared.expectation.Breach.{Breach}
+use Rattle.pm_broken.specs.declared.expectation.Expectation.{Expectation}
+use Rattle.pm_broken.specs.declared.firsts.Broken.{Broken}
+use Rattle.pm_listed.specs.Listing.{round_of}
+use Rattle.pm_model.specs.declared.plan.Plan.{Plan}
+use Rattle.pm_model.specs.History.{History}
+use Rattle.pm_orders.specs.declared.Pace.{Pace}
+use Rattle.pm_orders.specs.Orders.{IsOrder, disturbances, spot}
+use Rattle.pm_orders.specs.Spots.{Follows, Spot, start_spot}
+use Rattle.pm_search.specs.Reached.{Reached}
+use Rattle.pm_search.specs.Trees.{IsTree}
+use Rattle.pm_ways.specs.Found.{AreOfAllOrders, AreOfOrders}
+use Rattle.pm_broken.proofs.Lists.{clash, in_its_round, no_later}
+use Rattle.pm_broken.proofs.Reaching.{reached_at}
+
+-- it is first broken at a place, or before it
+abbrev IsEarly : ℕ → Option Broken → Type 0
+IsEarly j (Some b) = b.place ≤ j
+IsEarly j None = ⊥
+
+-- an order stands where something is reached
+abbrev pub OrdersStand : Pace → Plan → Type 0
+OrdersStand pace plan = (k : ℕ) (s : Spot) → Reached (Follows pace plan) (start_spot plan) k s → (h : History) × IsOrder pace plan h × (disturbances plan h ≡ k) × (spot plan h ≡ s)
+
+module _ (pace : Pace) (plan : Plan) (e : Expectation) (spots : List Spot) (rounds : List ℕ) where
+  early : (b : Option Broken) → IsFirstOf plan e spots rounds b → (j : ℕ) (s : Spot) (x : Breach) → slice_get spots j ≡ Some s → breach_at plan e s ≡ Some x → IsEarly j b
+  early None none j s x there breaks = clash (breach_at plan e s) x (none j s (slice_get_within spots j s there) there) breaks
+  early (Some b) first j s x there breaks = elim (cases_lt j b.place) [ inl before ↦ absurd (clash (breach_at plan e s) x (first.first j s before there) breaks) | inr behind ↦ behind ]
+
+  module _ (k bound : ℕ) (at : slice_get rounds k ≡ Some bound) where
+    told_of : (b : Option Broken) → IsFirstOf plan e spots rounds b → (j : ℕ) → IsEarly j b → j < bound → IsToldWithin k b
+    told_of None first j at_once lt = at_once
+    told_of (Some b) first j at_once lt =
+        let r = no_later rounds b.place k bound at (omega (arith, at_once, lt)) in
+        let round = first.round in
+        omega (arith, r, round)
+
+    broken_of : (b : Option Broken) → IsFirstOf plan e spots rounds b → ((k bound : ℕ) → slice_get rounds k ≡ Some bound → AreOfOrders pace plan k spots bound) → IsToldWithin k b → IsBrokenWithin pace plan k e
+    broken_of None first of_orders told = absurd told
+    broken_of (Some b) first of_orders told =
+        let within = slice_get_within rounds k bound at in
+        let round = first.round in
+        let r = round_of rounds b.place in
+        let there = slice_get-get_or rounds r 0 (omega (arith, told, within, round)) in
+        let c = get_or rounds r 0 in
+        let h = (of_orders r c there).sound b.place first.stands (in_its_round rounds b.place c there) first.there in
+        let few = h.2 in
+        record { order = h.0; is_order = h.1; few = omega (arith, few, told, round); breach = b.breach; breaks = ap (breach_at plan e) h.3 ∙ first.breach }
+
+  pub within : (b : Option Broken) → IsFirstOf plan e spots rounds b → ((k bound : ℕ) → slice_get rounds k ≡ Some bound → AreOfOrders pace plan k spots bound) → (k bound : ℕ) → slice_get rounds k ≡ Some bound → IsToldWithin k b ↔ IsBrokenWithin pace plan k e
+  within b first of_orders k bound at = (
+    λ told. broken_of k bound at b first of_orders told,
+    λ broken.
+        let a = (of_orders k bound at).complete broken.order broken.is_order broken.few in
+        told_of k bound at b first a.place (early b first a.place (spot plan broken.order) broken.breach a.there broken.breaks) a.below,
+  )
+
+  some_broken : (b : Option Broken) → IsFirstOf plan e spots rounds b → ((i : ℕ) (s : Spot) → slice_get spots i ≡ Some s → (h : History) × IsOrder pace plan h × (spot plan h ≡ s)) → IsSome b → IsBroken pace plan e
+  some_broken None first stand some = absurd (cc some)
+  some_broken (Some b) first stand some =
+      let h = stand b.place first.stands first.there in
+      record { order = h.0; is_order = h.1; breach = b.breach; breaks = ap (breach_at plan e) h.2 ∙ first.breach }
+
+  is_some_of : (b : Option Broken) (j : ℕ) → IsEarly j b → IsSome b
+  is_some_of None j at_once = absurd at_once
+  is_some_of (Some b) j at_once = refl
+
+  pub all : (b : Option Broken) → IsFirstOf plan e spots rounds b → AreOfAllOrders pace plan spots → IsSome b ↔ IsBroken pace plan e
+  all b first of_all = (
+    λ some. some_broken b first (λ i s there. of_all.sound i s there) some,
+    λ broken.
+        let a = of_all.complete broken.order broken.is_order in
+        is_some_of b a.place (early b first a.place (spot plan broken.order) broken.breach a.there broken.breaks),
+  )
+
+  pub sound : OrdersStand pace plan → (parents : List ℕ) (b : Option Broken) → IsFirstOf plan e spots rounds b → IsTree (Follows pace plan) (start_spot plan) spots parents → IsSome b → IsBroken pace plan e
+  sound orders parents b first tree some =
+      some_broken b first
+      (λ i s there.
+      let r = reached_at (Follows pace plan) (start_spot plan) spots parents tree i s there (slice_get_within spots i s there) in
+      let o = orders r.0 s r.1 in
+      (o.0, o.1, o.3))
+      some

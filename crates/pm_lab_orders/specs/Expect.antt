@@ -1,0 +1,41 @@
+-- What `orders --expect` may come to (this project's own).
+use Rattle.std.specs.Prelude.{◌≡◌, ◌↔◌, ℕ, Bool, List, ◌++◌, All, Option, Some, IsSome, length, map, slice_get}
+use Rattle.pm_broken.specs.Found.{IsBroken, IsBrokenWithin, IsToldWithin, all_of}
+use Rattle.pm_cmd_ends.specs.Reading.{IsRead}
+use Rattle.pm_expect.specs.declared.expectation.Expectations.{Expectations}
+use Rattle.pm_expect_orders.specs.Judged.{HasLine, what_of}
+use Rattle.pm_expect_orders.specs.Texts.{has_broken, judged_lines}
+use Rattle.pm_expect_orders.specs.declared.judging.Judged.{Judged}
+use Rattle.pm_lab_ends.specs.Coming.{ending_of}
+use Rattle.pm_lab_ends.specs.Ending.{Ending}
+use Rattle.pm_lab_orders.specs.Orders.{OrdersFound, pace_of, reach}
+use Rattle.pm_lab_orders.specs.OrdersOutcome.{outcome_of_orders}
+use Rattle.pm_lab_words.specs.declared.request.Bounds.{Bounds}
+use Rattle.pm_model.specs.declared.plan.Plan.{Plan}
+use Rattle.pm_orders_text.specs.Texts.{told}
+use Rattle.pm_search.specs.declared.found.Ended.TheVariants.{Whole}
+
+-- What was found decides an expectation: for each k whose round is complete it is told as broken with a number of at most k exactly where some
+-- order of at most k disturbances breaks it; where the search saw all, it is told as broken exactly where some order breaks it; and where it is
+-- told so, some order does.
+pub record IsDecided (bounds : Bounds) (plan : Plan) (found : OrdersFound bounds plan) (j : Judged) : Type 0 where
+  pub within : (k bound : ℕ) → slice_get found.rounds k ≡ Some bound → IsToldWithin k j.broken ↔ IsBrokenWithin (pace_of bounds) plan k j.expectation
+  pub of_all : found.ended ≡ Whole → IsSome j.broken ↔ IsBroken (pace_of bounds) plan j.expectation
+  pub sound : IsSome j.broken → IsBroken (pace_of bounds) plan j.expectation
+
+-- `orders PLAN --expect FILE`, over the file's text and what it expects: a line for each expectation, with a line of the file, and behind
+-- them the text of `orders`
+pub record ExpectEnds (bounds : Bounds) (differ : Bool) (file : List ℕ) (plan : Plan) (text : List ℕ) (expected : Expectations) (ending : Ending) : Type 0 where
+  pub found : OrdersFound bounds plan
+  pub judged : List Judged
+  pub each : map what_of judged ≡ all_of expected
+  pub decided : All (IsDecided bounds plan found) judged
+  pub lines : All (HasLine text) judged
+  pub is : ending ≡ ending_of (outcome_of_orders (reach found) (has_broken judged))
+      (judged_lines plan file (reach found) (length found.rounds) judged ++ told plan differ (reach found) (length found.spots) found.marks)
+
+-- which file's read failed, of a plan and a file of expectations: the plan's, and no other file was asked for where all is told of it; or that
+-- of the expectations, and the plan was read
+pub data ExpectUnread (all : Bool) (known : Option (List ℕ)) (plan expect : List ℕ) (Alone Failed : Type 0) : List ℕ → Type 0 where
+  of_plan : (IsSome known → Alone) → Failed → ExpectUnread all known plan expect Alone Failed plan
+  of_expect : (read : Plan) → IsRead all known read → Failed → ExpectUnread all known plan expect Alone Failed expect
