@@ -163,9 +163,15 @@ may write. Orders of at most K are gone through, 0 to 99, two where --most
 isn't given; and at most N spots, 1 to 10,000,000, a million where --spots
 isn't given. A spot is what decides how an order goes on.
 
+Callers and devices that no script, parent, link or domain connects run apart,
+and are gone through apart. So an order has the lines of one island alone, as
+they may stand in a run of the whole plan; K, N and the moments at which a line
+may come late are the island's own, and the spots are counted together.
+
 The last line says how far this is exact: `all`, of all orders of that pace;
 `within K`, of those with at most K disturbances; `limit`, where the spots or
-the lines of the plan came first, of as many as it names.
+the lines of the plan came first, of as many as it names. It is the least that
+holds of each island.
 
 With --expect FILE a line for each expectation of the file comes first, of its
 answers, its ends and its uses, each in the file's order:
@@ -175,7 +181,8 @@ answers, its ends and its uses, each in the file's order:
 
 `help find` says what is expected. It fails where some order breaks it, and
 `order` writes the trace of one. Where a limit came first it may be broken in a
-round that isn't complete: `after more than K`.
+round that isn't complete: `after more than K`. A use may need a device of
+another island, so with --expect the orders have the lines of the whole plan.
 
 With --differ only commands and devices are told that have more than one. With
 --seen LOG a line says behind the last one whether each code and end that the
@@ -203,8 +210,10 @@ expectation of FILE, counted from 1 as `orders --expect` tells them:
     pm_lab order race.toml --expect race.expect.toml fails 2 >race.trace
 
 What `orders` lists or says to fail has a run here, with the same options: one of
-the orders, of as few disturbances as `orders` says, which from there on goes by
-one thread to its end. It is the text of a lawful run, in the plan's format.
+the orders, of as few disturbances as `orders` says; from there on the whole plan
+goes by one thread to its end. For a return or an end the order is of the island
+of the caller or the device alone. It is the text of a lawful run, in the plan's
+format.
 
 Status 0: written. 1: no order has it, of those that were gone through; a
 message says how far that is. 2: wrong words. 3: the plan or the expectations are

@@ -1,5 +1,5 @@
 -- The run to which one thread goes on from an order that breaks an expectation.
-use Rattle.std.proofs.Common.{ℕ, ◌≡◌, List, reverse, sym, subst, ap, ◌∙◌}
+use Rattle.std.proofs.Common.{◌≡◌, List, reverse, sym, subst, ap, ◌∙◌}
 use Rattle.pm_broken.specs.declared.expectation.Expectation.{Expectation}
 use Rattle.pm_cmd_ends.specs.Ending.{Taking}
 use Rattle.pm_lab_ends.specs.Coming.{Came, Writes, ending_of}

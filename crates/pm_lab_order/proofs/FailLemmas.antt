@@ -1,8 +1,8 @@
 -- What `order .. fails INDEX` comes to.
-use Rattle.std.proofs.Common.{ℕ, ◌≡◌, ◌<◌, ◌≤◌, ◌-◌, ◌∙◌, Bool, List, Option, Some, None, Ok, Err, Vec, Global, IsSome, ap, get_or, length, map, refl, reverse, slice_get, subst, sym, arith}
+use Rattle.std.proofs.Common.{ℕ, ◌≡◌, ◌<◌, ◌≤◌, ◌-◌, ◌∙◌, Bool, List, Option, Some, None, Ok, Err, Vec, Global, IsSome, ap, get_or, length, map, reverse, slice_get, subst, sym, arith}
 use Rattle.std.proofs.lemmas.Option.{slice_get-get_or, slice_get_within}
 use Rattle.pm_broken.specs.Breaches.{breach_at}
-use Rattle.pm_broken.specs.Found.{FirstsDecideAll, FirstsDecideRounds, IsFirst, IsFirstOf, IsToldWithin, all_of}
+use Rattle.pm_broken.specs.Found.{FirstsDecideAll, FirstsDecideRounds, IsFirst, IsFirstOf, all_of}
 use Rattle.pm_broken.specs.declared.expectation.Expectation.{Expectation}
 use Rattle.pm_broken.specs.declared.firsts.Broken.{Broken}
 use Rattle.pm_broken.proofs.Lists.{in_its_round, some_is}

@@ -1,13 +1,14 @@
 -- Which marks are listed, and by how many disturbances.
-use Rattle.std.proofs.Common.{ℕ, ◌≡◌, ◌<◌, ◌≤◌, ◌⊎◌, List, Some, length, reverse, slice_get, refl, sym, subst, ap, ◌∙◌, inl, inr, arith}
+use Rattle.std.proofs.Common.{ℕ, ◌≡◌, ◌<◌, ◌≤◌, List, Some, length, reverse, slice_get, sym, subst, ap, ◌∙◌, inl, inr, arith}
 use Rattle.std.proofs.lemmas.Option.{slice_get_within}
+use Rattle.pm_apart.specs.Homes.{IsHomePart}
 use Rattle.pm_sought.specs.Listed.{HasItNot, IsMarkAt}
 use Rattle.pm_lab_ends.specs.Ending.{Unseen}
 use Rattle.pm_lab_order.specs.Order.{MarkEnds, in_none, none_ending, too_far, too_far_text}
 use Rattle.pm_lab_order.specs.Showing.{IsFewest, IsInNone}
 use Rattle.pm_lab_order.specs.Work.{IsWayTo}
 use Rattle.pm_lab_orders.specs.Found.{IsFound}
-use Rattle.pm_lab_orders.specs.Orders.{OrdersFound, pace_of, reach}
+use Rattle.pm_lab_orders.specs.Orders.{pace_of, reach}
 use Rattle.pm_lab_orders.proofs.OrdersLemmas.{reach_is}
 use Rattle.pm_lab_words.specs.declared.request.Bounds.{Bounds}
 use Rattle.pm_listed.specs.declared.marks.Left.{Left}
@@ -26,8 +27,7 @@ use Rattle.pm_orders_text.specs.Absent.{absent_line}
 use Rattle.pm_orders_text.specs.Reached.{reach_of}
 use Rattle.pm_orders_text.specs.declared.reach.Reach.{Reach}
 use Rattle.pm_outcomes.specs.declared.finding.Outcomes.{Outcomes}
-use Rattle.pm_outcomes.specs.Had.{IsHad, IsHadWithin, IsListed, IsListedWithin, IsWitness}
-use Rattle.pm_search.specs.declared.found.Ended.TheVariants.{Whole}
+use Rattle.pm_outcomes.specs.Had.{IsListed, IsListedWithin, IsWitness}
 use Rattle.pm_ways.specs.Found.{IsTooFar}
 
 -- marks of one kind that stand for the same are the same
@@ -73,12 +73,12 @@ has_none bounds plan all mark f none = record {
     none_found : HasItNot f.found.marks mark (length f.found.marks)
     none_found = subst (λ (outcomes : List Outcome). HasItNot outcomes mark (length outcomes)) (sym f.marks) none
 
-pub none_ends : (bounds : Bounds) (plan : Plan) (all : Outcomes) (mark : Mark) (f : IsFound bounds plan all) (known : Reach) (text : List ℕ) → HasItNot all.marks.items mark (length all.marks.items)
+pub none_ends : (bounds : Bounds) (plan part : Plan) (all : Outcomes) (mark : Mark) → IsHomePart plan mark part → (f : IsFound bounds part all) (known : Reach) (text : List ℕ) → HasItNot all.marks.items mark (length all.marks.items)
     → known ≡ reach_of all.found.ended (length all.found.rounds.items) → text ≡ absent_line plan known mark → MarkEnds bounds plan mark (none_ending known text)
-none_ends bounds plan all mark f known text none known_is text_is =
-    let same : known ≡ reach f.found = known_is ∙ reach_is bounds plan all f in
+none_ends bounds plan part all mark at f known text none known_is text_is =
+    let same : known ≡ reach f.found = known_is ∙ reach_is bounds part all f in
     subst (λ (t : List ℕ). MarkEnds bounds plan mark (none_ending known t)) (sym text_is)
-    (subst (λ (r : Reach). MarkEnds bounds plan mark (none_ending r (absent_line plan r mark))) (sym same) (in_none f.found (has_none bounds plan all mark f none)))
+    (subst (λ (r : Reach). MarkEnds bounds plan mark (none_ending r (absent_line plan r mark))) (sym same) (in_none part at f.found (has_none bounds part all mark f none)))
 
 -- the order of a mark that is listed has as few disturbances as any
 pub fewest : (bounds : Bounds) (plan : Plan) (all : Outcomes) (mark : Mark) (place : ℕ) (lines : List Line) (f : IsFound bounds plan all) (at : IsMarkAt all.marks.items mark place)
@@ -113,16 +113,16 @@ fewest bounds plan all mark place lines f at w = record {
         omega (arith, few, le, is)
 
 -- the lines of a witness are a way to the mark
-pub way_is : (pace : Pace) (bounds : Bounds) (plan : Plan) (all : Outcomes) (mark : Mark) (place : ℕ) (lines : List Line) → IsFound bounds plan all → IsMarkAt all.marks.items mark place → pace ≡ pace_of bounds
-    → ((o : Outcome) → slice_get all.marks.items place ≡ Some o → IsWitness pace plan all.found.rounds.items o lines) → IsWayTo bounds plan mark lines
-way_is pace bounds plan all mark place lines f at is witness =
-    let w : IsWitness (pace_of bounds) plan all.found.rounds.items at.outcome lines = subst (λ (p : Pace). IsWitness p plan all.found.rounds.items at.outcome lines) is (witness at.outcome at.there) in
-    record { found = f.found; lawful = w.lawful; fewest = fewest bounds plan all mark place lines f at w }
+pub way_is : (pace : Pace) (bounds : Bounds) (plan part : Plan) (all : Outcomes) (mark : Mark) (place : ℕ) (lines : List Line) → IsHomePart plan mark part → IsFound bounds part all → IsMarkAt all.marks.items mark place → pace ≡ pace_of bounds
+    → ((o : Outcome) → slice_get all.marks.items place ≡ Some o → IsWitness pace part all.found.rounds.items o lines) → IsWayTo bounds plan mark lines
+way_is pace bounds plan part all mark place lines home f at is witness =
+    let w : IsWitness (pace_of bounds) part all.found.rounds.items at.outcome lines = subst (λ (p : Pace). IsWitness p part all.found.rounds.items at.outcome lines) is (witness at.outcome at.there) in
+    record { part = part; at = home; found = f.found; lawful = w.lawful; fewest = fewest bounds part all mark place lines f at w }
 
 pub place_within : (outcomes : List Outcome) (mark : Mark) (place : ℕ) → IsMarkAt outcomes mark place → place < length outcomes
 place_within outcomes mark place at = slice_get_within outcomes place at.outcome at.there
 
 -- the way there is too long
-pub far_ends : (bounds : Bounds) (plan : Plan) (all : Outcomes) (mark : Mark) (text : List ℕ) → IsFound bounds plan all → text ≡ too_far_text → (at : ℕ) × IsTooFar plan all.found.tree.parents.items at → MarkEnds bounds plan mark (Unseen text)
-far_ends bounds plan all mark text f same far =
-    subst (λ (t : List ℕ). MarkEnds bounds plan mark (Unseen t)) (sym same) (too_far f.found far.0 (subst (λ (p : List ℕ). IsTooFar plan p far.0) (sym f.parents) far.1))
+pub far_ends : (bounds : Bounds) (plan part : Plan) (all : Outcomes) (mark : Mark) (text : List ℕ) → IsHomePart plan mark part → IsFound bounds part all → text ≡ too_far_text → (at : ℕ) × IsTooFar part all.found.tree.parents.items at → MarkEnds bounds plan mark (Unseen text)
+far_ends bounds plan part all mark text home f same far =
+    subst (λ (t : List ℕ). MarkEnds bounds plan mark (Unseen t)) (sym same) (too_far part home f.found far.0 (subst (λ (p : List ℕ). IsTooFar part p far.0) (sym f.parents) far.1))

@@ -1,25 +1,26 @@
 -- The run to which one thread goes on from an order that shows a mark.
 use Rattle.std.proofs.Common.{ℕ, ◌≡◌, true, false, List, nat_eq, reverse, refl, sym, subst, ap, ◌∙◌}
+use Rattle.pm_apart.specs.Homes.{home}
 use Rattle.pm_cmd_ends.specs.Ending.{Taking}
 use Rattle.pm_cmd_ends.specs.Pieces.{format_of, text_in}
 use Rattle.pm_cmd_ends.specs.declared.output.Format.{Format}
 use Rattle.pm_lab_ends.specs.Coming.{Came, Writes, ending_of}
 use Rattle.pm_lab_ends.specs.Coming.{Work as EndsWork}
-use Rattle.pm_lab_ends.specs.Ending.{Ending}
 use Rattle.pm_lab_ends.specs.declared.ending.Outcome.{Outcome}
 use Rattle.pm_lab_ends.proofs.EndLemmas.{came_weaker}
 use Rattle.pm_lab_order.specs.Order.{MarkEnds, run_ending, shows}
 use Rattle.pm_lab_order.specs.Showing.{IsShowing}
 use Rattle.pm_lab_order.specs.Work.{IsWayTo, outcome_of_end}
 use Rattle.pm_lab_words.specs.declared.request.Bounds.{Bounds}
+use Rattle.pm_law_islands.specs.Apart.{StandAlike}
 use Rattle.pm_listed.specs.declared.marks.Mark.{Mark}
-use Rattle.pm_listed.specs.Shown.{mark_of}
 use Rattle.pm_model.specs.declared.event.Line.{Line}
 use Rattle.pm_model.specs.declared.plan.Plan.{Plan}
 use Rattle.pm_model.specs.FirstBad.{AreLinesOf}
 use Rattle.pm_model.specs.History.{History}
 use Rattle.pm_model.specs.Lawful.{IsLawful}
 use Rattle.pm_model.specs.Text.{text}
+use Rattle.pm_model.specs.World.{world}
 use Rattle.pm_serial.specs.declared.running.End.{End}
 use Rattle.pm_serial.specs.declared.running.End.TheVariants as end
 use Rattle.pm_witness.specs.Going.{GoesOnFrom}
@@ -37,13 +38,15 @@ spelled_text plan spelled lines format spelled_is format_is =
     ap (λ (q : Plan). text_in format q lines) spelled_is ∙ ap (λ (f : Format). text_in f plan lines) format_is ∙ own_format plan lines
 
 -- what a book shows of the run
-is_showing : (bounds : Bounds) (plan spelled : Plan) (mark : Mark) (given lines : List Line) (h : History) (e : End) (way : IsWayTo bounds plan mark given) → spelled ≡ plan → reverse lines ≡ h → IsLawful spelled h → AreLinesOf spelled h
-    → GoesOnFrom plan (reverse given) h e → IsShowing bounds plan way.found (mark_of mark) lines e
-is_showing bounds plan spelled mark given lines h e way same lines_are lawful of_plan goes = record {
+is_showing : (bounds : Bounds) (plan spelled : Plan) (mark : Mark) (given lines : List Line) (h : History) (e : End) (way : IsWayTo bounds plan mark given)
+    → StandAlike plan way.at.numbering.island (home way.at.numbering.island mark) (world plan (reverse given)) (world way.part (reverse given)) → spelled ≡ plan → reverse lines ≡ h → IsLawful spelled h → AreLinesOf spelled h
+    → GoesOnFrom plan (reverse given) h e → IsShowing bounds plan mark way.part way.at way.found lines e
+is_showing bounds plan spelled mark given lines h e way stands same lines_are lawful of_plan goes = record {
   lawful = subst (IsLawful plan) (sym lines_are) (subst (λ (q : Plan). IsLawful q h) same lawful);
   of_plan = subst (AreLinesOf plan) (sym lines_are) (subst (λ (q : Plan). AreLinesOf q h) same of_plan);
   order = reverse given;
   fewest = way.fewest;
+  stands = stands;
   goes_on = subst (λ (l : History). GoesOnFrom plan (reverse given) l e) (sym lines_are) goes;
 }
 
@@ -52,11 +55,12 @@ pub ending_is : (e : End) (trace : List ℕ) → ending_of (outcome_of_end e) tr
 ending_is end.Finished trace = refl
 ending_is end.AtLimit trace = refl
 
-pub shown_written : (bounds : Bounds) (plan spelled shown : Plan) (mark : Mark) (given lines : List Line) (h : History) (e : End) (told : Outcome) (out : Taking) (work : EndsWork) → IsWayTo bounds plan mark given → spelled ≡ plan → shown ≡ spelled → reverse lines ≡ h
+pub shown_written : (bounds : Bounds) (plan spelled shown : Plan) (mark : Mark) (given lines : List Line) (h : History) (e : End) (told : Outcome) (out : Taking) (work : EndsWork) (way : IsWayTo bounds plan mark given)
+    → StandAlike plan way.at.numbering.island (home way.at.numbering.island mark) (world plan (reverse given)) (world way.part (reverse given)) → spelled ≡ plan → shown ≡ spelled → reverse lines ≡ h
     → IsLawful spelled h → AreLinesOf spelled h → GoesOnFrom plan (reverse given) h e → told ≡ outcome_of_end e → Came (Writes told (text shown lines)) work ⊥ out → Came (MarkEnds bounds plan mark) work ⊥ out
-shown_written bounds plan spelled shown mark given lines h e told out work way same shown_is lines_are lawful of_plan goes told_is came =
+shown_written bounds plan spelled shown mark given lines h e told out work way stands same shown_is lines_are lawful of_plan goes told_is came =
     came_weaker (Writes told (text shown lines)) (MarkEnds bounds plan mark) ⊥ ⊥
-    (λ ending is. subst (MarkEnds bounds plan mark) (sym (is ∙ ends)) (shows way.found lines e (is_showing bounds plan spelled mark given lines h e way same lines_are lawful of_plan goes)))
+    (λ ending is. subst (MarkEnds bounds plan mark) (sym (is ∙ ends)) (shows way.part way.at way.found lines e (is_showing bounds plan spelled mark given lines h e way stands same lines_are lawful of_plan goes)))
     (λ none. none) out work came
   where
     ends : ending_of told (text shown lines) ≡ run_ending e (text plan lines)

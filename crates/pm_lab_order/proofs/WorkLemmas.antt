@@ -1,5 +1,5 @@
 -- What the work of `order` comes to.
-use Rattle.std.proofs.Common.{ℕ, ◌≡◌, Bool, List, Option, Ok, Err, Vec, Global, refl, sym, subst}
+use Rattle.std.proofs.Common.{ℕ, ◌≡◌, Bool, List, Option, Ok, Err, Vec, Global, sym, subst}
 use Rattle.pm_cmd_ends.specs.Ending.{Taking, Told, TookNothing}
 use Rattle.pm_cmd_ends.specs.Reading.{IsRead}
 use Rattle.pm_lab_ends.specs.Ending.{Absent, Answered, Ending, OfThis, Refused, Unseen, ended}

@@ -1,5 +1,5 @@
 -- What `order .. fails INDEX` may come to (this project's own).
-use Rattle.std.specs.Prelude.{ℕ, ◌≡◌, ◌≤◌, ◌-◌, ⊤, List, Option, Some, None, Result, Ok, Err, length, reverse, slice_get}
+use Rattle.std.specs.Prelude.{ℕ, ◌≡◌, ◌≤◌, ◌-◌, ⊤, List, Some, None, Ok, Err, length, reverse, slice_get}
 use Rattle.pm_broken.specs.Breaches.{breach_at}
 use Rattle.pm_broken.specs.Found.{IsBroken, IsBrokenWithin, all_of}
 use Rattle.pm_broken.specs.declared.expectation.Breach.{Breach}

@@ -1,5 +1,6 @@
 -- What `order` may come to (this project's own).
 use Rattle.std.specs.Prelude.{ℕ, ◌≡◌, List, Ok, Err, codes}
+use Rattle.pm_apart.specs.Homes.{IsHomePart}
 use Rattle.pm_lab_ends.specs.Ending.{Absent, AtLimit, Done, Ending, Refused, Unseen}
 use Rattle.pm_sought.specs.declared.sought.Missing.{Missing}
 use Rattle.pm_sought.specs.Missing.{missing_text}
@@ -34,12 +35,12 @@ none_ending (Limit k) message = Unseen message
 abbrev pub too_far_text : List ℕ
 too_far_text = codes "order: the way there has more lines than the plan allows\n"
 
--- Of a mark of the plan: this is the text of a run that shows it; or no order has it, of those that were gone through; or the way to
--- where it shows has as many lines as the plan allows.
+-- Of a mark of the plan, by the orders of the part of its island: this is the text of a run that shows it; or no order has it, of those
+-- that were gone through; or the way to where it shows has as many lines as the plan allows.
 pub data MarkEnds (bounds : Bounds) (plan : Plan) (mark : Mark) : Ending → Type 0 where
-  shows : (found : OrdersFound bounds plan) → (lines : List Line) (e : End) → IsShowing bounds plan found (mark_of mark) lines e → MarkEnds bounds plan mark (run_ending e (text plan lines))
-  in_none : (found : OrdersFound bounds plan) → IsInNone bounds plan found (mark_of mark) → MarkEnds bounds plan mark (none_ending (reach found) (absent_line plan (reach found) mark))
-  too_far : (found : OrdersFound bounds plan) → (at : ℕ) → IsTooFar plan found.parents at → MarkEnds bounds plan mark (Unseen too_far_text)
+  shows : (part : Plan) (at : IsHomePart plan mark part) (found : OrdersFound bounds part) (lines : List Line) (e : End) → IsShowing bounds plan mark part at found lines e → MarkEnds bounds plan mark (run_ending e (text plan lines))
+  in_none : (part : Plan) (at : IsHomePart plan mark part) (found : OrdersFound bounds part) → IsInNone bounds part found (mark_of mark) → MarkEnds bounds plan mark (none_ending (reach found) (absent_line plan (reach found) mark))
+  too_far : (part : Plan) (at : IsHomePart plan mark part) (found : OrdersFound bounds part) (place : ℕ) → IsTooFar part found.parents place → MarkEnds bounds plan mark (Unseen too_far_text)
 
 -- over a plan: it doesn't have what the words name; or it has
 pub data OrderEnds (bounds : Bounds) (asked : Sought) (plan : Plan) : Ending → Type 0 where

@@ -1,12 +1,17 @@
 -- Runs that show a mark, and marks that no order shows (this project's own).
 use Rattle.std.specs.Prelude.{ℕ, ◌≡◌, ◌<◌, ◌≤◌, ◌⊎◌, List, Some, length, reverse, slice_get}
+use Rattle.pm_apart.specs.Homes.{IsHomePart, home}
 use Rattle.pm_lab_orders.specs.Orders.{OrdersFound, pace_of}
 use Rattle.pm_lab_words.specs.declared.request.Bounds.{Bounds}
+use Rattle.pm_law_islands.specs.Apart.{StandAlike}
+use Rattle.pm_listed.specs.declared.marks.Mark.{Mark as Kept}
+use Rattle.pm_listed.specs.Shown.{mark_of}
 use Rattle.pm_model.specs.declared.event.Line.{Line}
 use Rattle.pm_model.specs.declared.plan.Plan.{Plan}
 use Rattle.pm_model.specs.FirstBad.{AreLinesOf}
 use Rattle.pm_model.specs.History.{History}
 use Rattle.pm_model.specs.Lawful.{IsLawful}
+use Rattle.pm_model.specs.World.{world}
 use Rattle.pm_orders.specs.Marks.{HasMark, Mark}
 use Rattle.pm_orders.specs.Orders.{IsOrder, disturbances, spot}
 use Rattle.pm_outcomes.specs.Had.{IsHad, IsHadWithin}
@@ -23,13 +28,14 @@ pub record IsFewest (bounds : Bounds) (plan : Plan) (found : OrdersFound bounds 
   pub few : (k bound : ℕ) → slice_get found.rounds k ≡ Some bound → IsHadWithin (pace_of bounds) plan k m → disturbances plan order ≤ k
   pub of_round : (found.ended ≡ Whole) ⊎ (disturbances plan order < length found.rounds)
 
--- Lines, in order, are a lawful run of the plan, of which each has a text. It begins with such an order, from which one thread goes on
--- with it, and ends so.
-pub record IsShowing (bounds : Bounds) (plan : Plan) (found : OrdersFound bounds plan) (m : Mark) (lines : List Line) (e : End) : Type 0 where
+-- Lines, in order, are a lawful run of the plan, of which each has a text. It begins with such an order of the part of the mark's island, after
+-- which the island stands in the plan as in the part; from there one thread goes on with the whole plan, and ends so.
+pub record IsShowing (bounds : Bounds) (plan : Plan) (mark : Kept) (part : Plan) (at : IsHomePart plan mark part) (found : OrdersFound bounds part) (lines : List Line) (e : End) : Type 0 where
   pub lawful : IsLawful plan (reverse lines)
   pub of_plan : AreLinesOf plan (reverse lines)
   pub order : History
-  pub fewest : IsFewest bounds plan found m order
+  pub fewest : IsFewest bounds part found (mark_of mark) order
+  pub stands : StandAlike plan at.numbering.island (home at.numbering.island mark) (world plan order) (world part order)
   pub goes_on : GoesOnFrom plan order (reverse lines) e
 
 -- no order has the mark: none of at most k disturbances, for each k whose round is complete; and where the search saw all, none at all

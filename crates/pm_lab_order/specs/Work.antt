@@ -1,5 +1,6 @@
 -- What the work of `order` came to, before its message is written (this project's own).
-use Rattle.std.specs.Prelude.{ℕ, ◌≡◌, ⊤, List, Result, Ok, Err, reverse}
+use Rattle.std.specs.Prelude.{ℕ, ⊤, List, Result, Ok, Err, reverse}
+use Rattle.pm_apart.specs.Homes.{IsHomePart}
 use Rattle.pm_cmd_ends.specs.Ending.{Taking, TookNothing}
 use Rattle.pm_lab_ends.specs.Coming.{Came, work_message, work_status}
 use Rattle.pm_lab_ends.specs.Ending.{Absent, Ending, Unseen}
@@ -8,8 +9,8 @@ use Rattle.pm_lab_ends.specs.declared.ending.Outcome.{Outcome}
 use Rattle.pm_lab_ends.specs.declared.ending.Outcome.TheVariants as outcome
 use Rattle.pm_lab_order.specs.declared.stop.Stop.{Stop}
 use Rattle.pm_lab_order.specs.declared.stop.Stop.TheVariants as stop
-use Rattle.pm_lab_order.specs.Order.{MarkEnds, run_ending}
-use Rattle.pm_lab_order.specs.Showing.{IsFewest, IsShowing}
+use Rattle.pm_lab_order.specs.Order.{MarkEnds}
+use Rattle.pm_lab_order.specs.Showing.{IsFewest}
 use Rattle.pm_lab_orders.specs.Orders.{OrdersFound}
 use Rattle.pm_lab_words.specs.declared.request.Bounds.{Bounds}
 use Rattle.pm_listed.specs.declared.marks.Mark.{Mark}
@@ -43,11 +44,13 @@ CameTo Ends (Err (stop.Fault f)) Unread out = Came Ends (Err f) Unread out
 CameTo Ends (Err (stop.Absent message)) Unread out = Ends (Absent message.items) × TookNothing out
 CameTo Ends (Err (stop.Unseen message)) Unread out = Ends (Unseen message.items) × TookNothing out
 
--- lines, in order, are a lawful order that has the mark
+-- lines, in order, are a lawful order of the part of its island that has the mark
 pub record IsWayTo (bounds : Bounds) (plan : Plan) (mark : Mark) (lines : List Line) : Type 0 where
-  pub found : OrdersFound bounds plan
-  pub lawful : IsLawful plan (reverse lines)
-  pub fewest : IsFewest bounds plan found (mark_of mark) (reverse lines)
+  pub part : Plan
+  pub at : IsHomePart plan mark part
+  pub found : OrdersFound bounds part
+  pub lawful : IsLawful part (reverse lines)
+  pub fewest : IsFewest bounds part found (mark_of mark) (reverse lines)
 
 -- why there is no such order: none has the mark, or a limit came; or memory ran out
 abbrev pub IsNotShown : Bounds → Plan → Mark → Stop → Type 0

@@ -22,10 +22,9 @@ use pm_expect_orders::no_expectation_text;
 use pm_io::{Files, Sink};
 use pm_lab_ends::{Fault, Outcome, finish, load};
 use pm_lab_find::{expectations, tell_unread};
-use pm_lab_orders::pace_of;
 use pm_lab_words::Bounds;
 use pm_model::{Line, Plan};
-use pm_witness::go_on;
+use pm_witness::{go_on, orders_are_near};
 use std::alloc::Global;
 
 /// Runs `order PLAN --expect FILE fails INDEX`: reads the plan and the file of expectations, and writes to `out` the trace of a
@@ -134,15 +133,16 @@ fn write_breaking<O: Sink>(
 fn write_broken<O: Sink>(
     alloc: Global,
     plan: Plan,
-    bounds: Bounds,
+    _bounds: Bounds,
     _each: Expectation,
     lines: &[Line],
     out: &mut O,
 ) -> Result<Outcome, Fault>
-    requires way { IsWayBreaking bounds plan _each lines.now }
-    ensures { Came (BreakEnds bounds plan _each) result ⊥ (taking O.taken O.faults out.old out.new) }
+    requires way { IsWayBreaking _bounds plan _each lines.now }
+    ensures { Came (BreakEnds _bounds plan _each) result ⊥ (taking O.taken O.faults out.old out.new) }
 {
-    let gone = go_on(alloc, plan, pace_of(bounds), lines)?;
+    orders_are_near();
+    let gone = go_on(alloc, plan, lines)?;
     let told = outcome_of_end(gone.end);
     let spelled = gone.book.plan();
     let run = gone.book.lines();

@@ -13,19 +13,19 @@ ghost use Rattle.pm_lab_order.specs.Work.{CameTo, IsWayTo, outcome_of_end};
 use crate::stop::{Stop, end};
 use crate::way::way_of;
 use crate::writing::write_lines;
+use pm_apart::islands_stand_alone;
 use pm_io::{Files, Sink};
 use pm_lab_ends::{Fault, Outcome, load};
-use pm_lab_orders::pace_of;
 use pm_lab_words::{Bounds, Sought};
 use pm_listed::Mark;
 use pm_model::{Line, Plan};
 use pm_serial::End;
 use pm_sought::{mark_sought, missing_text};
-use pm_witness::go_on;
+use pm_witness::{go_on, orders_are_near};
 use std::alloc::Global;
 
-/// Runs `order PLAN`: reads the plan, and writes to `out` the trace of a run that shows what is asked for, of its orders at
-/// a pace and within bounds on disturbances and spots. A message goes to `err`, and the answer is the status that the
+/// Runs `order PLAN`: reads the plan, and writes to `out` the trace of a run that shows what is asked for, of the orders of
+/// one island at a pace and within bounds on disturbances and spots. A message goes to `err`, and the answer is the status that the
 /// program ends with.
 pub fn order_top<F: Files, O: Sink, E: Sink>(
     alloc: Global,
@@ -108,19 +108,21 @@ pub fn outcome_of_end(end: End) -> Outcome
     }
 }
 
-/// Writes the run to which one thread goes on from an order. Everything that takes memory comes before the first write.
+/// Writes the run to which one thread goes on from an order of an island. Everything that takes memory comes before the first write.
 fn write_shown<O: Sink>(
     alloc: Global,
     plan: Plan,
-    bounds: Bounds,
+    _bounds: Bounds,
     _mark: Mark,
     lines: &[Line],
     out: &mut O,
 ) -> Result<Outcome, Fault>
-    requires way { IsWayTo bounds plan _mark lines.now }
-    ensures { Came (MarkEnds bounds plan _mark) result ⊥ (taking O.taken O.faults out.old out.new) }
+    requires way { IsWayTo _bounds plan _mark lines.now }
+    ensures { Came (MarkEnds _bounds plan _mark) result ⊥ (taking O.taken O.faults out.old out.new) }
 {
-    let gone = go_on(alloc, plan, pace_of(bounds), lines)?;
+    islands_stand_alone();
+    orders_are_near();
+    let gone = go_on(alloc, plan, lines)?;
     let told = outcome_of_end(gone.end);
     let spelled = gone.book.plan();
     let run = gone.book.lines();

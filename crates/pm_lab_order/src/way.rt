@@ -1,12 +1,14 @@
 //! The lines of an order that shows a mark.
 
 ghost use Rattle.std.specs.Prelude.{◌≡◌, IfErr, IfOk, length};
+ghost use Rattle.pm_apart.specs.Homes.{IsHomePart};
 ghost use Rattle.pm_sought.specs.Listed.{HasItNot, IsMarkAt};
 ghost use Rattle.pm_lab_order.specs.Order.{too_far_text};
 ghost use Rattle.pm_lab_order.specs.Work.{IsNotShown, IsWayTo};
 ghost use Rattle.pm_lab_orders.specs.Found.{IsFound, IsLedThrough};
 
 use crate::stop::Stop;
+use pm_apart::home_part;
 use pm_base::NoMemory;
 use pm_lab_orders::{outcomes_of, pace_of};
 use pm_lab_words::Bounds;
@@ -17,15 +19,17 @@ use pm_outcomes::{Outcomes, witness_of};
 use pm_sought::place_of;
 use std::alloc::Global;
 
-// Says that none of the orders has a mark, so far as they were gone through.
+// Says that none of the orders of its island has a mark, so far as they were gone through.
 fn none_shows(
     alloc: Global,
     plan: &Plan,
+    _part: &Plan,
     _bounds: Bounds,
     all: &Outcomes,
     mark: Mark,
 ) -> Result<Stop, NoMemory>
-    requires found { IsFound _bounds plan.now all.now }
+    requires home { IsHomePart plan.now mark _part.now }
+    requires found { IsFound _bounds _part.now all.now }
     requires none { HasItNot all.now.marks.items mark (length all.now.marks.items) }
     ensures { IfOk result (IsNotShown _bounds plan.now mark) }
 {
@@ -49,36 +53,39 @@ pub fn too_far(alloc: Global) -> Result<Vec<u8>, NoMemory>
     Ok(text)
 }
 
-// The lines of an order that has the mark at a place of the list.
+// The lines of an order of its island that has the mark at a place of the list.
 fn way_to(
     alloc: Global,
-    plan: &Plan,
+    _plan: &Plan,
+    part: &Plan,
     bounds: Bounds,
     all: &Outcomes,
     place: usize,
     _mark: Mark,
 ) -> Result<Vec<Line>, Stop>
-    requires found { IsFound bounds plan.now all.now }
-    requires led { IsLedThrough bounds plan.now all.now }
+    requires home { IsHomePart _plan.now _mark part.now }
+    requires found { IsFound bounds part.now all.now }
+    requires led { IsLedThrough bounds part.now all.now }
     requires at { IsMarkAt all.now.marks.items _mark place }
-    ensures ok { IfOk result (λ lines. IsWayTo bounds plan.now _mark lines.items) }
-    ensures err { IfErr result (IsNotShown bounds plan.now _mark) }
+    ensures ok { IfOk result (λ lines. IsWayTo bounds _plan.now _mark lines.items) }
+    ensures err { IfErr result (IsNotShown bounds _plan.now _mark) }
 {
-    match witness_of(alloc, plan, pace_of(bounds), all, place)? {
+    match witness_of(alloc, part, pace_of(bounds), all, place)? {
         Some(lines) => Ok(lines),
         None => Err(Stop::Unseen(too_far(alloc)?)),
     }
 }
 
-/// The lines of a lawful order that has a mark, of those within the bounds; or why there is none. Fails where memory
-/// runs out.
+/// The lines of a lawful order of its island that has a mark, of those within the bounds; or why there is none. Fails where
+/// memory runs out.
 pub fn way_of(alloc: Global, plan: &Plan, bounds: Bounds, mark: Mark) -> Result<Vec<Line>, Stop>
     ensures ok { IfOk result (λ lines. IsWayTo bounds plan.now mark lines.items) }
     ensures err { IfErr result (IsNotShown bounds plan.now mark) }
 {
-    let all = outcomes_of(alloc, plan, bounds)?;
+    let part = home_part(alloc, plan, mark)?;
+    let all = outcomes_of(alloc, &part, bounds)?;
     match place_of(all.marks.as_slice(), mark) {
-        Some(place) => way_to(alloc, plan, bounds, &all, place, mark),
-        None => Err(none_shows(alloc, plan, bounds, &all, mark)?),
+        Some(place) => way_to(alloc, plan, &part, bounds, &all, place, mark),
+        None => Err(none_shows(alloc, plan, &part, bounds, &all, mark)?),
     }
 }

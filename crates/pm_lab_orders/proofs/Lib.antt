@@ -1,3 +1,5 @@
 pub mod OrdersLemmas
+pub mod ApartLemmas
 pub mod SeenLemmas
 pub mod ExpectLemmas
+pub mod Exactly

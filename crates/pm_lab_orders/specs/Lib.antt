@@ -3,3 +3,4 @@ pub mod Orders
 pub mod Found
 pub mod Seen
 pub mod Expect
+pub mod Apart

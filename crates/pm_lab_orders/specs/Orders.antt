@@ -1,15 +1,21 @@
 -- What `orders` may come to (this project's own).
-use Rattle.std.specs.Prelude.{◌≡◌, ◌≤◌, ◌+◌, ℕ, Bool, List, Some, length, slice_get, if◌then◌else◌}
+use Rattle.std.specs.Prelude.{◌≡◌, ◌<◌, ◌≤◌, ◌+◌, ⊤, ℕ, Bool, List, Option, Some, None, flat_map, fold, length, map, min, slice_get, sum_by, if◌then◌else◌}
+use Rattle.std.specs.List.{range_with_len}
+use Rattle.pm_apart.specs.Homes.{at_home, has_rest}
 use Rattle.pm_lab_orders.specs.OrdersOutcome.{outcome_of_orders}
 use Rattle.pm_lab_ends.specs.Coming.{ending_of}
 use Rattle.pm_lab_ends.specs.Ending.{Ending}
 use Rattle.pm_lab_words.specs.declared.request.Bounds.{Bounds}
+use Rattle.pm_listed.specs.declared.marks.Mark.{Mark}
+use Rattle.pm_listed.specs.declared.marks.Mark.TheVariants.{End, Return}
 use Rattle.pm_listed.specs.declared.marks.Outcome.{Outcome}
 use Rattle.pm_model.specs.declared.plan.Plan.{Plan}
+use Rattle.pm_model.specs.Islands.{IsPart, Node, Numbering, the_device}
 use Rattle.pm_orders.specs.declared.Pace.{Pace}
 use Rattle.pm_orders.specs.declared.Pace.TheVariants.{Late, Prompt}
 use Rattle.pm_orders.specs.Spots.{Spot}
 use Rattle.pm_orders_text.specs.declared.reach.Reach.{Reach}
+use Rattle.pm_orders_text.specs.declared.reach.Reach.TheVariants.{All, Limit, Within}
 use Rattle.pm_orders_text.specs.Reached.{reach_of}
 use Rattle.pm_orders_text.specs.Texts.{differs, told}
 use Rattle.pm_outcomes.specs.Had.{AreExact, AreExactWithin, AreOfRounds, IsListedOnce}
@@ -46,7 +52,70 @@ pub record OrdersFound (bounds : Bounds) (plan : Plan) : Type 0 where
 abbrev pub reach : {bounds : Bounds} {plan : Plan} → OrdersFound bounds plan → Reach
 reach found = reach_of found.ended (length found.rounds)
 
--- `orders PLAN`: the text tells the marks that were found, how far they are exact, and the number of the spots
+-- What was found of one island, which has this number: of the orders of its part, the plan with every script outside the island empty.
+pub record IslandFound (bounds : Bounds) (plan : Plan) (island : Node → ℕ) : Type 0 where
+  pub number : ℕ
+  pub part : Plan
+  pub is_part : IsPart plan island number part
+  pub found : OrdersFound bounds part
+
+-- the outcomes of an island that are at home there: what its callers' commands return and how its devices end
+abbrev pub own_outcomes : {bounds : Bounds} {plan : Plan} {island : Node → ℕ} → IslandFound bounds plan island → List Outcome
+own_outcomes {island = island} one = at_home island one.number one.found.marks
+
+abbrev pub own_spots : {bounds : Bounds} {plan : Plan} {island : Node → ℕ} → IslandFound bounds plan island → ℕ
+own_spots one = length one.found.spots
+
+-- the lesser round; no round is less than any
+abbrev pub lesser_round : Option ℕ → Option ℕ → Option ℕ
+lesser_round None k = None
+lesser_round (Some j) None = None
+lesser_round (Some j) (Some k) = Some (min j k)
+
+-- how far two lists are exact together: of all orders where both are; else to the lesser of the rounds to which one is that isn't, by a limit if a
+-- limit came first at either
+abbrev pub both : Reach → Reach → Reach
+both All r = r
+both (Within j) All = Within j
+both (Within j) (Within k) = Within (min j k)
+both (Within j) (Limit k) = Limit (lesser_round (Some j) k)
+both (Limit j) All = Limit j
+both (Limit j) (Within k) = Limit (lesser_round j (Some k))
+both (Limit j) (Limit k) = Limit (lesser_round j k)
+
+-- of islands all outcomes, how far they are exact, and how many spots were found
+abbrev pub outcomes_in : {bounds : Bounds} {plan : Plan} {island : Node → ℕ} → List (IslandFound bounds plan island) → List Outcome
+outcomes_in islands = flat_map (λ one. own_outcomes one) islands
+
+abbrev pub reach_in : {bounds : Bounds} {plan : Plan} {island : Node → ℕ} → List (IslandFound bounds plan island) → Reach
+reach_in islands = fold (λ r one. both r (reach one.found)) All islands
+
+abbrev pub spots_in : {bounds : Bounds} {plan : Plan} {island : Node → ℕ} → List (IslandFound bounds plan island) → ℕ
+spots_in islands = sum_by (λ one. own_spots one) islands
+
+-- What was found of a plan: of each of its islands, by their numbers, and behind them, where a device has no island or there is none, of the plan with
+-- every script empty; such a device has that number.
+pub record IslandsFound (bounds : Bounds) (plan : Plan) : Type 0 where
+  pub count : ℕ
+  pub numbering : Numbering plan count
+  pub loose : (d : ℕ) → numbering.island (the_device d) ≤ count
+  pub islands : List (IslandFound bounds plan numbering.island)
+  pub numbers : map (λ one. one.number) islands ≡ range_with_len 0 (if has_rest plan numbering.island count then count + 1 else count)
+
+-- the plan has the caller that returned, or the device that is left so
+abbrev pub IsOfPlan : Plan → Mark → Type 0
+IsOfPlan plan (Return r) = r.caller < length plan.callers
+IsOfPlan plan (End l) = l.device.0 < length plan.devices
+
+-- the last line names this round, or all
+abbrev pub IsNamed : ℕ → Reach → Type 0
+IsNamed k All = ⊤
+IsNamed k (Within j) = k ≤ j
+IsNamed k (Limit (Some j)) = k ≤ j
+IsNamed k (Limit None) = ⊥
+
+-- `orders PLAN`: the text tells the outcomes that were found, how far they are exact, and the number of the spots
 pub record OrdersEnds (bounds : Bounds) (differ : Bool) (plan : Plan) (ending : Ending) : Type 0 where
-  pub found : OrdersFound bounds plan
-  pub is : ending ≡ ending_of (outcome_of_orders (reach found) (differs found.marks)) (told plan differ (reach found) (length found.spots) found.marks)
+  pub found : IslandsFound bounds plan
+  pub is : ending ≡ ending_of (outcome_of_orders (reach_in found.islands) (differs (outcomes_in found.islands)))
+      (told plan differ (reach_in found.islands) (spots_in found.islands) (outcomes_in found.islands))

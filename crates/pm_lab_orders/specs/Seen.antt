@@ -1,7 +1,7 @@
 -- What `orders --seen` may come to (this project's own).
 use Rattle.std.specs.Prelude.{◌≡◌, ⊤, ℕ, Bool, ◌||◌, List, ◌++◌, Option, Some, None, codes, is_some, IsSome, length, reverse, slice_get}
 use Rattle.pm_cmd_ends.specs.Reading.{Holds, IsRead, IsTooLong}
-use Rattle.pm_lab_orders.specs.Orders.{OrdersFound, reach}
+use Rattle.pm_lab_orders.specs.Orders.{IslandsFound, outcomes_in, reach_in, spots_in}
 use Rattle.pm_lab_orders.specs.OrdersOutcome.{outcome_of_orders}
 use Rattle.pm_lab_ends.specs.Coming.{ending_of}
 use Rattle.pm_lab_ends.specs.Ending.{Ending, Refused}
@@ -36,11 +36,11 @@ IsPlaced marks tells (Some t) = (place : ℕ) × IsFirstUnlisted marks tells pla
 
 -- over what a log tells: the text of `orders`, and behind it a line for the first that no mark shows
 pub record SeenEnds (bounds : Bounds) (differ : Bool) (tells : List Tell) (plan : Plan) (ending : Ending) : Type 0 where
-  pub found : OrdersFound bounds plan
+  pub found : IslandsFound bounds plan
   pub unlisted : Option Tell
-  pub placed : IsPlaced found.marks tells unlisted
-  pub is : ending ≡ ending_of (outcome_of_orders (reach found) (differs found.marks || is_some unlisted))
-      (told plan differ (reach found) (length found.spots) found.marks ++ seen_line plan (reach found) unlisted)
+  pub placed : IsPlaced (outcomes_in found.islands) tells unlisted
+  pub is : ending ≡ ending_of (outcome_of_orders (reach_in found.islands) (differs (outcomes_in found.islands) || is_some unlisted))
+      (told plan differ (reach_in found.islands) (spots_in found.islands) (outcomes_in found.islands) ++ seen_line plan (reach_in found.islands) unlisted)
 
 -- over the file of a log: it has too many bytes; the last run that it tells of has no whole outcome; or it has, in this order
 pub data OfSeen (all : Bool) (known : Option (List ℕ)) (bounds : Bounds) (differ : Bool) (plan : Plan) : Ending → Type 0 where

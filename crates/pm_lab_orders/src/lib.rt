@@ -2,10 +2,13 @@
 //! stands among it, and what they make of what an author expects. Files and sinks are handed in.
 #![tactic(auto)]
 
+mod apart;
 mod expect;
+mod laws;
 mod orders;
 mod seen;
 
 pub use expect::expect_top;
+pub use laws::islands_are_exact;
 pub use orders::{orders_top, outcomes_of, pace_of};
 pub use seen::seen_top;

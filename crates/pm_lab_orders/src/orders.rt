@@ -12,19 +12,20 @@ ghost use Rattle.pm_lab_ends.specs.Reading.{OfPlan};
 ghost use Rattle.pm_search.specs.declared.found.Ended.TheVariants.{Stopped};
 ghost use Rattle.pm_search.specs.declared.graph.Stop.TheVariants.{NoMemory as WantsMemory};
 
+use crate::apart::apart_of;
 use pm_base::NoMemory;
 use pm_io::{Files, Sink};
 use pm_lab_ends::{Fault, Outcome, finish, load, write_text};
 use pm_lab_words::Bounds;
 use pm_model::Plan;
 use pm_orders::Pace;
-use pm_orders_text::{Reach, differs, orders_text, reach_of};
+use pm_orders_text::{Reach, differs, told_text};
 use pm_outcomes::{Outcomes, all_outcomes};
 use pm_search::{Ended, Stop};
 use std::alloc::Global;
 
-/// Runs `orders PLAN`: reads the plan and writes to `out` what its orders show, at a pace and within bounds on
-/// disturbances and spots: all of it, or only of the commands and devices that differ. A message goes to `err`, and the
+/// Runs `orders PLAN`: reads the plan and writes to `out` what the orders of its islands show, at a pace and within bounds
+/// on disturbances and spots: all of it, or only of the commands and devices that differ. A message goes to `err`, and the
 /// answer is the status that the program ends with.
 pub fn orders_top<F: Files, O: Sink, E: Sink>(
     alloc: Global,
@@ -81,7 +82,7 @@ fn wants_memory(ended: Ended) -> bool
     matches!(ended, Ended::Stopped(Stop::NoMemory))
 }
 
-/// What the orders show within bounds; `NoMemory` also where the search wanted memory.
+/// What the orders of a plan, which may be an island's part, show within bounds; `NoMemory` also where the search wanted memory.
 pub fn outcomes_of(alloc: Global, plan: &Plan, bounds: Bounds) -> Result<Outcomes, NoMemory>
     ensures found { IfOk result (IsFound bounds plan.now) }
     ensures led { IfOk result (IsLedThrough bounds plan.now) }
@@ -109,10 +110,10 @@ fn write_orders<O: Sink>(
 ) -> Result<Outcome, Fault>
     ensures { Came (OrdersEnds bounds differ plan.now) result ⊥ (taking O.taken O.faults out.old out.new) }
 {
-    let all = outcomes_of(alloc, plan, bounds)?;
-    let text = orders_text(alloc, plan, &all, differ)?;
-    let reach = reach_of(all.found.ended, all.found.rounds.len());
-    let told = outcome_of_orders(reach, differs(all.marks.as_slice()));
+    let all = apart_of(alloc, plan, bounds)?;
+    let marks = all.marks.as_slice();
+    let text = told_text(alloc, plan, marks, all.reach, all.spots, differ)?;
+    let told = outcome_of_orders(all.reach, differs(marks));
     write_text(text.as_slice(), told, out)
 }
 

@@ -14,14 +14,15 @@ ghost use Rattle.pm_seen.specs.Placing.{IsWhole};
 ghost use Rattle.pm_seen.specs.Runs.{outcome_of};
 ghost use Rattle.pm_seen.specs.declared.tells.Tell.{Tell as ATell};
 
-use crate::orders::{outcome_of_orders, outcomes_of};
+use crate::apart::apart_of;
+use crate::orders::outcome_of_orders;
 use pm_base::{NoMemory, TRACE_BYTES};
 use pm_io::{FileFault, Files, Sink, read_all};
 use pm_lab_ends::{Fault, Outcome, finish, load, write_text};
 use pm_lab_words::Bounds;
 use pm_listed::Outcome as AnOutcome;
 use pm_model::Plan;
-use pm_orders_text::{differs, orders_text, push_seen, reach_of};
+use pm_orders_text::{differs, push_seen, told_text};
 use pm_seen::{Tell, first_unlisted, is_whole, outcome_of};
 use std::alloc::Global;
 
@@ -164,12 +165,11 @@ fn write_seen<O: Sink>(
 ) -> Result<Outcome, Fault>
     ensures { Came (SeenEnds bounds differ tells.now plan.now) result ⊥ (taking O.taken O.faults out.old out.new) }
 {
-    let all = outcomes_of(alloc, plan, bounds)?;
-    let reach = reach_of(all.found.ended, all.found.rounds.len());
-    let mut text = orders_text(alloc, plan, &all, differ)?;
-    let unlisted = placed(all.marks.as_slice(), tells);
-    push_seen(&mut text, plan, reach, unlisted)?;
-    let found = stands_out(all.marks.as_slice(), unlisted);
-    let told = outcome_of_orders(reach, found);
+    let all = apart_of(alloc, plan, bounds)?;
+    let marks = all.marks.as_slice();
+    let mut text = told_text(alloc, plan, marks, all.reach, all.spots, differ)?;
+    let unlisted = placed(marks, tells);
+    push_seen(&mut text, plan, all.reach, unlisted)?;
+    let told = outcome_of_orders(all.reach, stands_out(marks, unlisted));
     write_text(text.as_slice(), told, out)
 }

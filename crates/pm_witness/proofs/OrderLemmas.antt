@@ -1,4 +1,4 @@
--- The lines of an order come early, and may be taken one by one.
+-- The lines of a list that come near one another come early, and may be taken one by one.
 use Rattle.std.proofs.Common.{ℕ, zero, suc, ◌≡◌, ◌<◌, ◌≤◌, ◌+◌, ◌-◌, ◌*◌, ◌^◌, lit<, List, [], ◌∷◌, ◌++◌, Some, None, Err, drop, get_or, length, reverse, take, refl, sym, subst, ap, ◌∙◌, arith}
 use Rattle.std.proofs.lemmas.Bool.{leb-true}
 use Rattle.std.proofs.lemmas.List.{reverse-append, take-append-drop, take_more}
@@ -27,12 +27,12 @@ use Rattle.pm_serial.specs.declared.running.End.TheVariants as end
 use Rattle.pm_serial.specs.Ends.{GoesOn, IsEnd, whole}
 use Rattle.pm_state.specs.Standing.{IsActor}
 use Rattle.pm_steps.proofs.Places.{IsSized, caller_within, timer_within, work_within}
-use Rattle.pm_witness.specs.Going.{GoesOnFrom, IsEndOf}
+use Rattle.pm_witness.specs.Going.{GoesOnFrom, IsEndOf, IsNear}
 
 -- what holds of a list holds of the lines before the newest
-pub older_order : (pace : Pace) (plan : Plan) (more h : History) → IsOrder pace plan (more ++ h) → IsOrder pace plan h
-older_order pace plan [] h is = is
-older_order pace plan (line ∷ more) h is = older_order pace plan more h is.2
+pub older_near : (plan : Plan) (more h : History) → IsNear (more ++ h) → IsNear h
+older_near plan [] h is = is
+older_near plan (line ∷ more) h is = older_near plan more h is.1
 
 pub older_lawful : (plan : Plan) (more h : History) → IsLawful plan (more ++ h) → IsLawful plan h
 older_lawful plan [] h is = is
@@ -56,21 +56,24 @@ next_there P old new lines i d older lt same so_far whole_order =
 abbrev pub AreNear : Pace → Plan → Type 0
 AreNear pace plan = (h : History) (line : Line) → IsLawful plan h → IsTimely pace plan (spot plan h) line → line.time ≤ last_time h + 1000000
 
+pub orders_near : (pace : Pace) (plan : Plan) (h : History) → AreNear pace plan → IsOrder pace plan h → IsLawful plan h → IsNear h
+orders_near pace plan [] near order lawful = tt
+orders_near pace plan (line ∷ h) near order lawful = (near h line lawful.2 order.1, orders_near pace plan h near order.2 lawful.2)
+
 -- so the last line comes early
 next_early : (last time n : ℕ) → last ≤ 1000000 * n → time ≤ last + 1000000 → time ≤ 1000000 * suc n
 next_early last time n early near = omega (arith, early, near)
 
-pub early : (pace : Pace) (plan : Plan) (h : History) → AreNear pace plan → IsOrder pace plan h → IsLawful plan h → last_time h ≤ 1000000 * length h
-early pace plan [] near order lawful = omega arith
-early pace plan (line ∷ h) near order lawful =
-    next_early (last_time h) line.time (length h) (early pace plan h near order.2 lawful.2) (near h line lawful.2 order.1)
+pub early : (h : History) → IsNear h → last_time h ≤ 1000000 * length h
+early [] near = omega arith
+early (line ∷ h) near = next_early (last_time h) line.time (length h) (early h near.1) near.0
 
 -- and there is time for it
 small : (time n : ℕ) → time ≤ 1000000 * n → n ≤ 200000 → time < 2 ^ 63
 small time n le few = let end : 200000000000 < 2 ^ 63 = lit< tt in omega (arith, le, few, end)
 
-pub in_time : (pace : Pace) (plan : Plan) (line : Line) (h : History) → AreNear pace plan → length (line ∷ h) ≤ 200000 → IsOrder pace plan (line ∷ h) → IsLawful plan (line ∷ h) → line.time < 2 ^ 63
-in_time pace plan line h near few order lawful = small line.time (length (line ∷ h)) (early pace plan (line ∷ h) near order lawful) few
+pub in_time : (line : Line) (h : History) → length (line ∷ h) ≤ 200000 → IsNear (line ∷ h) → line.time < 2 ^ 63
+in_time line h few near = small line.time (length (line ∷ h)) (early (line ∷ h) near) few
 
 -- and for what follows
 pub fits : (plan : Plan) (h : History) → IsLawful plan h → length h ≤ plan.lines
@@ -80,8 +83,8 @@ fits plan (line ∷ h) lawful = let room = lawful.1 in omega (arith, room)
 time_left : (last len lines : ℕ) → last ≤ 1000000 * len → len ≤ lines → 0 + 1000000 * (lines - 0) ≤ 2 ^ 62 → last + 1000000 * (lines - len) ≤ 2 ^ 62
 time_left last len lines early fits all = omega (arith, early, fits, all)
 
-pub has_time : (pace : Pace) (plan : Plan) (h : History) → AreNear pace plan → IsOrder pace plan h → IsLawful plan h → HasTime plan [] → HasTime plan h
-has_time pace plan h near order lawful all = time_left (last_time h) (length h) plan.lines (early pace plan h near order lawful) (fits plan h lawful) all
+pub has_time : (plan : Plan) (h : History) → IsNear h → IsLawful plan h → HasTime plan [] → HasTime plan h
+has_time plan h near lawful all = time_left (last_time h) (length h) plan.lines (early h near) (fits plan h lawful) all
 
 -- who writes it is one of the plan's actors
 within : (plan : Plan) (w : World) (actor : ActorId) (s : Stage) → IsSized plan w → stage_at plan w actor ≡ Some s → IsActor plan actor

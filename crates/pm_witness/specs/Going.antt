@@ -1,13 +1,18 @@
 -- How a run goes on from an order (this project's own). Lists have the newest line first.
-use Rattle.std.specs.Prelude.{◌≡◌, ◌≤◌, false, List, ◌++◌, length}
+use Rattle.std.specs.Prelude.{◌≡◌, ◌≤◌, ◌+◌, false, List, [], ◌∷◌, ◌++◌, length}
 use Rattle.pm_model.specs.declared.event.Line.{Line}
 use Rattle.pm_model.specs.declared.plan.Plan.{Plan}
 use Rattle.pm_model.specs.History.{History}
-use Rattle.pm_model.specs.Lawful.{IsFinished, is_finished}
+use Rattle.pm_model.specs.Lawful.{IsFinished, is_finished, last_time}
 use Rattle.pm_model.specs.World.{world}
 use Rattle.pm_serial.specs.declared.running.End.{End}
 use Rattle.pm_serial.specs.declared.running.End.TheVariants as end
 use Rattle.pm_serial.specs.Ends.{whole}
+
+-- each line comes at most 1,000,000 milliseconds after the one before
+abbrev pub IsNear : History → Type 0
+IsNear [] = Unit {0}
+IsNear (line ∷ h) = (line.time ≤ last_time h + 1000000) × IsNear h
 
 -- the run is finished; or it isn't, and has all the lines that the plan allows
 abbrev pub IsEndOf : Plan → History → End → Type 0

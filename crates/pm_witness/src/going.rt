@@ -1,9 +1,12 @@
-//! A book of an order's lines, and what one thread makes of it.
+//! A book of a list's lines, and what one thread makes of it.
 
 ghost use Rattle.std.specs.Prelude.{◌≡◌, ◌∷◌, [], IfOk, OnOk, reverse};
 ghost use Rattle.pm_model.specs.Lawful.{IsLawful};
+ghost use Rattle.pm_model.specs.declared.plan.Plan.{Plan as APlan};
+ghost use Rattle.pm_model.specs.History.{History};
+ghost use Rattle.pm_orders.specs.declared.Pace.{Pace};
 ghost use Rattle.pm_orders.specs.Orders.{IsOrder};
-ghost use Rattle.pm_witness.specs.Going.{GoesOnFrom};
+ghost use Rattle.pm_witness.specs.Going.{GoesOnFrom, IsNear};
 
 use pm_base::NoMemory;
 use pm_book::{Book, TakeFault};
@@ -11,7 +14,6 @@ use pm_law_bounds::lines_are_bounded;
 use pm_law_counts::sizes;
 use pm_law_turns::serial_stops;
 use pm_model::{Line, Plan};
-use pm_orders::Pace;
 use pm_serial::{End, drain, fresh_books_have_time};
 use pm_steps::times_are_near;
 use std::alloc::Global;
@@ -21,6 +23,13 @@ use std::alloc::Global;
 pub struct Gone {
     pub book: Book,
     pub end: End,
+}
+
+/// The lines of a lawful order, at whatever pace, come near one another.
+pub fn orders_are_near()
+    ensures { (pace : Pace) (plan : APlan) (h : History) → IsOrder pace plan h → IsLawful plan h → IsNear h }
+{
+    times_are_near();
 }
 
 // What is wrong with a line that comes next, where it isn't taken.
@@ -33,15 +42,14 @@ fn wanting(fault: TakeFault) -> NoMemory
     }
 }
 
-// Takes the line that comes next in an order.
-fn take(book: &mut Book, _pace: Pace, line: &Line) -> Result<(), NoMemory>
-    requires order { IsOrder _pace book.old.plan (line.now ∷ book.old.lines) }
+// Takes a line that may come next, and comes near the last one.
+fn take(book: &mut Book, line: &Line) -> Result<(), NoMemory>
+    requires near { IsNear (line.now ∷ book.old.lines) }
     requires lawful { IsLawful book.old.plan (line.now ∷ book.old.lines) }
     ensures plan { OnOk result (book.new.plan ≡ book.old.plan) }
     ensures lines { OnOk result (book.new.lines ≡ line.now ∷ book.old.lines) }
 {
     sizes();
-    times_are_near();
     lines_are_bounded();
     match book.take_line(line) {
         Ok(()) => Ok(()),
@@ -49,48 +57,47 @@ fn take(book: &mut Book, _pace: Pace, line: &Line) -> Result<(), NoMemory>
     }
 }
 
-// Takes all lines of an order.
-fn take_all(book: &mut Book, pace: Pace, lines: &[Line]) -> Result<(), NoMemory>
+// Takes all lines of a list.
+fn take_all(book: &mut Book, lines: &[Line]) -> Result<(), NoMemory>
     requires none { book.old.lines ≡ [] }
-    requires order { IsOrder pace book.old.plan (reverse lines.now) }
+    requires near { IsNear (reverse lines.now) }
     requires lawful { IsLawful book.old.plan (reverse lines.now) }
     ensures plan { OnOk result (book.new.plan ≡ book.old.plan) }
     ensures lines { OnOk result (book.new.lines ≡ reverse lines.now) }
 {
     for line in lines {
-        take(book, pace, line)?;
+        take(book, line)?;
     }
     Ok(())
 }
 
-// The book of an order's lines.
-fn book_of(alloc: Global, plan: Plan, pace: Pace, lines: &[Line]) -> Result<Book, NoMemory>
-    requires order { IsOrder pace plan (reverse lines.now) }
+// The book of a list's lines.
+fn book_of(alloc: Global, plan: Plan, lines: &[Line]) -> Result<Book, NoMemory>
+    requires near { IsNear (reverse lines.now) }
     requires lawful { IsLawful plan (reverse lines.now) }
     ensures plan { IfOk result (λ book. book.plan ≡ plan) }
     ensures lines { IfOk result (λ book. book.lines ≡ reverse lines.now) }
 {
     match Book::start(alloc, plan) {
         Ok(mut book) => {
-            take_all(&mut book, pace, lines)?;
+            take_all(&mut book, lines)?;
             Ok(book)
         }
         Err((_plan, error)) => Err(error),
     }
 }
 
-/// The run to which one thread goes on from a lawful order at a pace: until it is finished, or has all the lines that
-/// the plan allows. Fails where memory runs out.
-pub fn go_on(alloc: Global, plan: Plan, pace: Pace, lines: &[Line]) -> Result<Gone, NoMemory>
-    requires order { IsOrder pace plan (reverse lines.now) }
+/// The run to which one thread goes on from a lawful list whose lines come near one another: until it is finished, or
+/// has all the lines that the plan allows. Fails where memory runs out.
+pub fn go_on(alloc: Global, plan: Plan, lines: &[Line]) -> Result<Gone, NoMemory>
+    requires near { IsNear (reverse lines.now) }
     requires lawful { IsLawful plan (reverse lines.now) }
     ensures plan { IfOk result (λ gone. gone.book.plan ≡ plan) }
     ensures goes_on { IfOk result (λ gone. GoesOnFrom plan (reverse lines.now) gone.book.lines gone.end) }
 {
-    times_are_near();
     fresh_books_have_time();
     serial_stops();
-    let mut book = book_of(alloc, plan, pace, lines)?;
+    let mut book = book_of(alloc, plan, lines)?;
     let end = drain(&mut book)?;
     Ok(Gone { book, end })
 }

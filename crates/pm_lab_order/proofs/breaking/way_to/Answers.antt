@@ -1,5 +1,5 @@
 -- The order that leads to the first spot.
-use Rattle.std.proofs.Common.{IfSome, ◌∙◌, arith, length, map, subst, sym}
+use Rattle.std.proofs.Common.{IfSome, arith, map, subst, sym}
 use Rattle.std.proofs.lemmas.List.{length-map}
 use Rattle.pm_orders.specs.Spots.{Follows, start_spot}
 use Rattle.pm_search.specs.Trees.{IsTree}

@@ -11,7 +11,7 @@ returns-in-All c =
     let all = c.args.all.now in
     let text = c.in_ok-text.text.items in
     let known_is = c.reach_of-reach.ensures ∙ ap (reach_of all.found.ended) (c.len.ensures ∙ all.found.rounds.ok.0) in
-    subst (λ r. MarkEnds c.args._bounds plan c.args.mark (none_ending r text)) c.in-All.is (none_ends c.args._bounds plan all c.args.mark c.requires.found c.reach_of-reach.result text c.requires.none known_is c.in_ok-text.ensures)
+    subst (λ r. MarkEnds c.args._bounds plan c.args.mark (none_ending r text)) c.in-All.is (none_ends c.args._bounds plan c.args._part.now all c.args.mark c.requires.home c.requires.found c.reach_of-reach.result text c.requires.none known_is c.in_ok-text.ensures)
 
 pub returns-in-Within : goal.returns-in-Within
 returns-in-Within c =
@@ -19,7 +19,7 @@ returns-in-Within c =
     let all = c.args.all.now in
     let text = c.in_ok-text.text.items in
     let known_is = c.reach_of-reach.ensures ∙ ap (reach_of all.found.ended) (c.len.ensures ∙ all.found.rounds.ok.0) in
-    subst (λ r. MarkEnds c.args._bounds plan c.args.mark (none_ending r text)) c.in-Within.is (none_ends c.args._bounds plan all c.args.mark c.requires.found c.reach_of-reach.result text c.requires.none known_is c.in_ok-text.ensures)
+    subst (λ r. MarkEnds c.args._bounds plan c.args.mark (none_ending r text)) c.in-Within.is (none_ends c.args._bounds plan c.args._part.now all c.args.mark c.requires.home c.requires.found c.reach_of-reach.result text c.requires.none known_is c.in_ok-text.ensures)
 
 pub returns-in-Limit : goal.returns-in-Limit
 returns-in-Limit c =
@@ -27,4 +27,4 @@ returns-in-Limit c =
     let all = c.args.all.now in
     let text = c.in_ok-text.text.items in
     let known_is = c.reach_of-reach.ensures ∙ ap (reach_of all.found.ended) (c.len.ensures ∙ all.found.rounds.ok.0) in
-    subst (λ r. MarkEnds c.args._bounds plan c.args.mark (none_ending r text)) c.in-Limit.is (none_ends c.args._bounds plan all c.args.mark c.requires.found c.reach_of-reach.result text c.requires.none known_is c.in_ok-text.ensures)
+    subst (λ r. MarkEnds c.args._bounds plan c.args.mark (none_ending r text)) c.in-Limit.is (none_ends c.args._bounds plan c.args._part.now all c.args.mark c.requires.home c.requires.found c.reach_of-reach.result text c.requires.none known_is c.in_ok-text.ensures)

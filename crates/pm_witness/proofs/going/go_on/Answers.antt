@@ -11,7 +11,7 @@ drain-requires c =
     let plan = c.args.plan in
     let h = reverse c.args.lines.now in
     let b = c.in_ok-book.ensures in
-    let time : HasTime plan h = has_time c.args.pace plan h (c.times_are_near.ensures.lines c.args.pace plan) c.requires.order c.requires.lawful (c.fresh_books_have_time.ensures plan) in
+    let time : HasTime plan h = has_time plan h c.requires.near c.requires.lawful (c.fresh_books_have_time.ensures plan) in
     subst (λ (q : Plan). HasTime q c.in_ok-book.book.lines) (sym b.plan) (subst (λ (l : History). HasTime plan l) (sym b.lines) time)
 
 pub returns-clause-goes_on : goal.returns-clause-goes_on

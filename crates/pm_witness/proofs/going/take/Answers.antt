@@ -1,4 +1,4 @@
--- The line comes next in a lawful order.
+-- The line comes next in a lawful list.
 use Rattle.std.proofs.Common.{◌∷◌, subst}
 use Rattle.pm_book.specs.Judging.{IsAnswer}
 use Rattle.pm_book.specs.Takes.{judged_as}
@@ -16,7 +16,7 @@ pub take_line-requires-clause-in_time : goal.take_line-requires-clause-in_time
 take_line-requires-clause-in_time c =
     let plan = c.args.book.now.plan in
     let h = c.args.book.now.lines in
-    in_time c.args._pace plan c.args.line.now h (c.times_are_near.ensures.lines c.args._pace plan) (c.lines_are_bounded.ensures plan (c.args.line.now ∷ h) c.requires.lawful) c.requires.order c.requires.lawful
+    in_time c.args.line.now h (c.lines_are_bounded.ensures plan (c.args.line.now ∷ h) c.requires.lawful) c.requires.near
 
 pub wanting-requires : goal.wanting-requires
 wanting-requires c =
