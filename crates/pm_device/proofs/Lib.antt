@@ -1,4 +1,5 @@
 pub mod ChildLemmas
+pub mod FillLemmas
 pub mod PlanLemmas
 pub mod PendingLemmas
 pub mod FreshLemmas

@@ -1,3 +1,4 @@
 pub mod Children
+pub mod Filling
 pub mod Giving
 pub mod Parts

@@ -9,6 +9,7 @@ ghost use Rattle.pm_device.specs.Parts.{Counters, IsInTime, is_quiet};
 
 mod changes;
 mod domains;
+mod fill;
 mod fresh;
 mod guards;
 mod links;

@@ -54,6 +54,25 @@ impl Domains {
         })
     }
 
+    // A domain is on or off, whatever hangs on it.
+    fn set_on(&mut self, domain: u32, on: bool)
+        requires { domain < length self.old.above }
+        ensures { self.new ≡ record self.old { on = slice_set self.old.on domain on } }
+    {
+        self.on.set(domain, on);
+    }
+
+    /// The domains of the plan that are on become these. It takes no memory.
+    pub fn fill(&mut self, plan: &Plan, on: &[bool])
+        requires made_for { IsMadeFor plan.now self.old }
+        requires each { length on.now ≡ length plan.now.domains }
+        ensures { self.new ≡ record self.old { on = on.now } }
+    {
+        for domain in 0..plan.domains.len() {
+            self.set_on(domain as u32, on[domain]);
+        }
+    }
+
     /// Whether a domain is on; none past the last is.
     pub fn is_on(&self, dom: DomId) -> bool
         ensures { result ≡ bit_at self.now.on dom.0 }

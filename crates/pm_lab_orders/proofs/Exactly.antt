@@ -1,12 +1,12 @@
 -- What the outcomes of islands tell together is what is found of each.
-use Rattle.std.proofs.Common.{ℕ, zero, suc, ◌≡◌, ◌<◌, ◌≤◌, ◌+◌, ◌⊎◌, ◌↔◌, ◌||◌, inl, inr, Bool, true, false, cond, List, [], ◌∷◌, ◌++◌, Option, Some, None, filter, flat_map, fold, length, map, min, nat_eq, nat_le, if◌then◌else◌, refl, sym, subst, ap, ◌∙◌, arith}
+use Rattle.std.proofs.Common.{ℕ, zero, suc, ◌≡◌, ◌<◌, ◌≤◌, ◌+◌, ◌⊎◌, ◌↔◌, ◌||◌, inl, inr, Bool, true, false, cond, List, [], ◌∷◌, ◌++◌, Some, None, filter, flat_map, fold, length, map, min, nat_eq, nat_le, if◌then◌else◌, refl, sym, subst, ap, ◌∙◌, arith}
 use Rattle.std.specs.Prelude.{slice_get}
 use Rattle.std.specs.List.{Contains, list_any, range_with_len}
-use Rattle.std.proofs.lemmas.Bool.{and_parts, eqb-true, false≢true}
+use Rattle.std.proofs.lemmas.Bool.{eqb-true, false≢true}
 use Rattle.std.proofs.lemmas.List.{length-map}
 use Rattle.std.proofs.lemmas.List.FromFn.{length-range_with_len}
 use Rattle.std.proofs.lemmas.Option.{get_or_from_slice_get, slice_get-get_or}
-use Rattle.pm_apart.specs.Homes.{at_home, has_rest, home}
+use Rattle.pm_apart.specs.Homes.{has_rest, home}
 use Rattle.pm_lab_orders.specs.Orders.{IsNamed, IsOfPlan, IslandFound, IslandsFound, both, outcomes_in, own_outcomes, pace_of, reach, reach_in}
 use Rattle.pm_lab_words.specs.declared.request.Bounds.{Bounds}
 use Rattle.pm_listed.specs.declared.marks.Left.{Left}
@@ -16,7 +16,7 @@ use Rattle.pm_listed.specs.declared.marks.Outcome.{Outcome}
 use Rattle.pm_listed.specs.declared.marks.Returned.{Returned}
 use Rattle.pm_listed.specs.Shown.{mark_of}
 use Rattle.pm_model.specs.declared.plan.Plan.{Plan}
-use Rattle.pm_model.specs.Islands.{Node, Numbering, the_caller, the_device}
+use Rattle.pm_model.specs.Islands.{Node, the_device}
 use Rattle.pm_orders.specs.Marks.Mark.{Ends, Returns}
 use Rattle.pm_orders_text.specs.Reached.{reach_of}
 use Rattle.pm_orders_text.specs.declared.reach.Reach.{Reach}

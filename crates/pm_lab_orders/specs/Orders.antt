@@ -72,8 +72,7 @@ lesser_round None k = None
 lesser_round (Some j) None = None
 lesser_round (Some j) (Some k) = Some (min j k)
 
--- how far two lists are exact together: of all orders where both are; else to the lesser of the rounds to which one is that isn't, by a limit if a
--- limit came first at either
+-- how far two lists are exact together: of all orders where both are; else up to the lesser round of those that aren't, and cut by a limit where either is
 abbrev pub both : Reach → Reach → Reach
 both All r = r
 both (Within j) All = Within j

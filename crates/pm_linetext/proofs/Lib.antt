@@ -1,7 +1,9 @@
 pub mod EnumPlaces
+pub mod Forms
 pub mod Lengths
 pub mod Padding
 pub mod Passing
+pub mod Placing
 pub mod PieceLemmas
 pub mod WordLemmas
 pub mod ShortLemmas

@@ -1,13 +1,11 @@
 -- What the words of a trace name: the variants of the enums, in the order of their declarations.
-use Rattle.std.specs.Prelude.{ℕ, List}
+use Rattle.std.specs.Prelude.{List}
 use Rattle.pm_base.specs.contracts.Cb as cb
 use Rattle.pm_base.specs.contracts.Req as req
 use Rattle.pm_base.specs.declared.Cb.{Cb}
 use Rattle.pm_base.specs.declared.Req.{Req}
 use Rattle.pm_model.specs.contracts.event.Helper as helper
 use Rattle.pm_model.specs.contracts.event.Word as word
-use Rattle.pm_model.specs.declared.event.Event.{Event}
-use Rattle.pm_model.specs.declared.event.Event.TheVariants as event
 use Rattle.pm_model.specs.declared.event.Helper.{Helper}
 use Rattle.pm_model.specs.declared.event.Word.{Word}
 use Rattle.pm_names.specs.EnumOrder.{every}

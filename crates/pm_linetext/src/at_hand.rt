@@ -8,11 +8,10 @@ ghost use Rattle.pm_model.specs.Text.{names_of};
 ghost use Rattle.pm_linetext.specs.Fronts.{IsFront, front_text};
 ghost use Rattle.pm_linetext.specs.Room.{HasRoom};
 
-use crate::events::push_event;
 use crate::names::NameSource;
 use crate::padded::PaddedName;
-use crate::pieces::push_actor;
-use crate::text::LineText;
+use crate::pieces::put_padded_name;
+use crate::text::LineBytes;
 use crate::timed::TimedText;
 use pm_base::{ActorId, NoMemory};
 use pm_model::{Event, Named, NamedList, Plan};
@@ -68,8 +67,7 @@ impl NamesAtHand {
     {
         let _ = &self.devices; // so the proof knows that the names fit
         text.put_time(time);
-        push_actor(&mut text.text, self, actor);
-        text.text.push(b" ");
+        text.text.push_actor(self, actor);
     }
 
     /// Puts the text of an event and the newline behind the front of its line. The event is one of a plan with as
@@ -81,8 +79,7 @@ impl NamesAtHand {
         ensures { text.new ≡ text.old ++ (event_text self.now event.now ++ newline) }
     {
         let _ = &self.devices; // so the proof knows that the names fit
-        push_event(&mut text.text, self, event);
-        text.text.push(b"\n");
+        text.text.push_event(self, event);
     }
 }
 
@@ -90,25 +87,26 @@ impl NamesAtHand {
 impl NameSource for NamesAtHand {
     ghost names = { λ names. names };
 
-    #[inline]
-    fn push_device_name(&self, text: &mut LineText, place: usize) {
-        push_name_at(text, &self.devices, place);
+    #[inline(always)]
+    fn put_device_name(&self, bytes: &mut LineBytes, at: usize, place: usize) -> usize {
+        put_name_at(bytes, at, &self.devices, place)
     }
 
-    #[inline]
-    fn push_caller_name(&self, text: &mut LineText, place: usize) {
-        push_name_at(text, &self.callers, place);
+    #[inline(always)]
+    fn put_caller_name(&self, bytes: &mut LineBytes, at: usize, place: usize) -> usize {
+        put_name_at(bytes, at, &self.callers, place)
     }
 }
 
-/// Appends the name at a place, and no bytes past the last.
+/// Puts the name at a place, and no bytes past the last.
 #[inline(always)]
-fn push_name_at(text: &mut LineText, names: &[PaddedName], place: usize)
-    requires { HasRoom text.old (slice_index_or names.now place []) }
-    ensures { text.new ≡ text.old ++ slice_index_or names.now place [] }
+fn put_name_at(bytes: &mut LineBytes, at: usize, names: &[PaddedName], place: usize) -> usize
+    requires { HasRoom (take at bytes.old) (slice_index_or names.now place []) }
+    ensures { take result bytes.new ≡ take at bytes.old ++ slice_index_or names.now place [] }
 {
-    if let Some(name) = names.get(place) {
-        text.push_name(name);
+    match names.get(place) {
+        Some(name) => put_padded_name(bytes, at, name),
+        None => at,
     }
 }
 

@@ -1,347 +1,431 @@
 //! The text of an event, and of a line.
 
-ghost use Rattle.std.specs.Prelude.{◌≡◌, ◌++◌, codes, if◌then◌else◌};
+ghost use Rattle.std.specs.Prelude.{◌≡◌, ◌++◌, codes, if◌then◌else◌, take};
 ghost use Rattle.pm_model.specs.Spelling.{cb_word, command_text, device_name, device_part, event_text};
 ghost use Rattle.pm_model.specs.Spelling.{helper_word, kind_word, line_text, operand_part, payload, req_word};
 ghost use Rattle.pm_model.specs.Spelling.{space, status_word, timer_text, why_text, work_text};
-ghost use Rattle.pm_linetext.specs.Payload.{counts_text, states_text};
 ghost use Rattle.pm_linetext.specs.Room.{HasRoom};
 
+use crate::fields::put_fields;
 use crate::names::NameSource;
 use crate::pieces::{
-    push_actor, push_bit, push_device, push_flags, push_name, push_padded, push_why,
+    put, put_actor, put_bytes, put_device, put_name, put_number, put_signed, put_why,
 };
-use crate::text::LineText;
-use crate::words::{cb_place, helper_place, operand_of, req_place, status_place, takes_device};
+use crate::text::LineBytes;
+use crate::words::{helper_place, operand_of, takes_device};
 use pm_base::{Cb, DevId, Req, Why};
 use pm_model::{Command, Event, Fields, Helper, Line, Operand, TimerAct, Word, WorkAct};
-use pm_names::{cb_words, helpers, req_words, status_words};
+use pm_names::helpers;
 
-/// Appends the word of a helper.
-fn push_helper(text: &mut LineText, helper: Helper)
-    requires { HasRoom text.old (helper_word helper) }
-    ensures { text.new ≡ text.old ++ helper_word helper }
+/// Puts the word of a callback.
+#[inline(always)]
+fn put_cb(bytes: &mut LineBytes, at: usize, cb: Cb) -> usize
+    requires { HasRoom (take at bytes.old) (cb_word cb) }
+    ensures { take result bytes.new ≡ take at bytes.old ++ cb_word cb }
 {
-    text.push_bytes(helpers().name_of(helper_place(helper)));
+    match cb {
+        Cb::Idle => put(bytes, at, b"idle"),
+        Cb::Suspend => put(bytes, at, b"suspend"),
+        Cb::Resume => put(bytes, at, b"resume"),
+    }
 }
 
-/// Appends the word of a callback.
-fn push_cb(text: &mut LineText, cb: Cb)
-    requires { HasRoom text.old (cb_word cb) }
-    ensures { text.new ≡ text.old ++ cb_word cb }
+/// Puts the word of a request.
+#[inline(always)]
+fn put_req(bytes: &mut LineBytes, at: usize, req: Req) -> usize
+    requires { HasRoom (take at bytes.old) (req_word req) }
+    ensures { take result bytes.new ≡ take at bytes.old ++ req_word req }
 {
-    text.push_bytes(cb_words().name_of(cb_place(cb)));
+    match req {
+        Req::Nothing => put(bytes, at, b"none"),
+        Req::Idle => put(bytes, at, b"idle"),
+        Req::Suspend => put(bytes, at, b"suspend"),
+        Req::Autosuspend => put(bytes, at, b"autosuspend"),
+        Req::Resume => put(bytes, at, b"resume"),
+    }
 }
 
-/// Appends the word of a request.
-fn push_req(text: &mut LineText, req: Req)
-    requires { HasRoom text.old (req_word req) }
-    ensures { text.new ≡ text.old ++ req_word req }
+/// Puts the word of a change of status.
+#[inline(always)]
+fn put_status(bytes: &mut LineBytes, at: usize, word: Word) -> usize
+    requires { HasRoom (take at bytes.old) (status_word word) }
+    ensures { take result bytes.new ≡ take at bytes.old ++ status_word word }
 {
-    text.push_bytes(req_words().name_of(req_place(req)));
+    match word {
+        Word::Active => put(bytes, at, b"active"),
+        Word::Resuming => put(bytes, at, b"resuming"),
+        Word::Suspended => put(bytes, at, b"suspended"),
+        Word::Deferred => put(bytes, at, b"deferred"),
+        Word::ForcedActive => put(bytes, at, b"forced_active"),
+        Word::ForcedSuspended => put(bytes, at, b"forced_suspended"),
+    }
 }
 
-/// Appends the word of a change of status.
-fn push_status(text: &mut LineText, word: Word)
-    requires { HasRoom text.old (status_word word) }
-    ensures { text.new ≡ text.old ++ status_word word }
-{
-    text.push_bytes(status_words().name_of(status_place(word)));
-}
-
-/// Appends the kind of a timer.
-fn push_kind(text: &mut LineText, autosuspends: bool)
-    requires { HasRoom text.old (kind_word autosuspends) }
-    ensures { text.new ≡ text.old ++ kind_word autosuspends }
+/// Puts the kind of a timer.
+fn put_kind(bytes: &mut LineBytes, at: usize, autosuspends: bool) -> usize
+    requires { HasRoom (take at bytes.old) (kind_word autosuspends) }
+    ensures { take result bytes.new ≡ take at bytes.old ++ kind_word autosuspends }
 {
     if autosuspends {
-        text.push(b"auto");
+        put(bytes, at, b"auto")
     } else {
-        text.push(b"plain");
+        put(bytes, at, b"plain")
     }
 }
 
-/// Appends a helper and its device.
-fn push_called<S: NameSource>(text: &mut LineText, names: &S, helper: Helper, dev: DevId)
-    requires { HasRoom text.old
-        (helper_word helper ++ device_part (S.names names.now) helper dev) }
-    ensures { text.new ≡ text.old
+/// Puts a helper and its device.
+#[inline(always)]
+fn put_called<S: NameSource>(
+    bytes: &mut LineBytes,
+    at: usize,
+    names: &S,
+    helper: Helper,
+    dev: DevId,
+) -> usize
+    requires { HasRoom (take at bytes.old) (helper_word helper ++ device_part (S.names names.now) helper dev) }
+    ensures { take result bytes.new ≡ take at bytes.old
         ++ (helper_word helper ++ device_part (S.names names.now) helper dev) }
 {
-    push_helper(text, helper);
+    let at = put_bytes(bytes, at, helpers().name_of(helper_place(helper)));
     if takes_device(helper) {
-        push_device(text, names, b" ", dev);
+        put_device(bytes, at, names, b" ", dev)
+    } else {
+        at
     }
 }
 
-/// Appends what a helper takes besides its device.
-fn push_operand<S: NameSource>(text: &mut LineText, names: &S, operand: Operand, number: i64)
-    requires { HasRoom text.old (operand_part (S.names names.now) operand number) }
-    ensures { text.new ≡ text.old ++ operand_part (S.names names.now) operand number }
+/// Puts what a helper takes besides its device.
+fn put_operand<S: NameSource>(
+    bytes: &mut LineBytes,
+    at: usize,
+    names: &S,
+    operand: Operand,
+    number: i64,
+) -> usize
+    requires { HasRoom (take at bytes.old) (operand_part (S.names names.now) operand number) }
+    ensures { take result bytes.new ≡ take at bytes.old ++ operand_part (S.names names.now) operand number }
 {
     match operand {
-        Operand::Nothing => {}
+        Operand::Nothing => at,
         Operand::Milliseconds => {
-            text.push(b" ");
-            text.push_signed(number);
+            let at = put(bytes, at, b" ");
+            put_signed(bytes, at, number)
         }
         Operand::Switch => {
             if number == 0 {
-                text.push(b" off");
+                put(bytes, at, b" off")
             } else {
-                text.push(b" on");
+                put(bytes, at, b" on")
             }
         }
-        Operand::Supplier => push_name(text, names, b" ", number.unsigned_abs() as usize),
+        Operand::Supplier => put_name(bytes, at, names, b" ", number.unsigned_abs() as usize),
     }
 }
 
-/// Appends a command.
-fn push_command<S: NameSource>(text: &mut LineText, names: &S, command: &Command)
-    requires { HasRoom text.old (command_text (S.names names.now) command.now) }
-    ensures { text.new ≡ text.old ++ command_text (S.names names.now) command.now }
+/// Puts a command.
+fn put_command<S: NameSource>(
+    bytes: &mut LineBytes,
+    at: usize,
+    names: &S,
+    command: &Command,
+) -> usize
+    requires { HasRoom (take at bytes.old) (command_text (S.names names.now) command.now) }
+    ensures { take result bytes.new ≡ take at bytes.old ++ command_text (S.names names.now) command.now }
 {
-    push_called(text, names, command.helper, command.dev);
-    push_operand(text, names, operand_of(command.helper), command.number);
+    let at = put_called(bytes, at, names, command.helper, command.dev);
+    put_operand(bytes, at, names, operand_of(command.helper), command.number)
 }
 
-/// Appends flags, usage and depth.
+/// Puts an event with a payload, behind the lead that names it.
 #[inline(always)]
-fn push_counts(text: &mut LineText, fields: &Fields)
-    requires { HasRoom text.old (counts_text fields.now) }
-    ensures { text.new ≡ text.old ++ counts_text fields.now }
-{
-    text.push(b" flags-");
-    push_flags(text, fields.flags);
-    text.push(b" cnt-");
-    push_padded(text, fields.cnt);
-    text.push(b" dep-");
-    push_padded(text, fields.dep);
-}
-
-/// Appends auto, pending, irq and child.
-#[inline(always)]
-fn push_states(text: &mut LineText, fields: &Fields)
-    requires { HasRoom text.old (states_text fields.now) }
-    ensures { text.new ≡ text.old ++ states_text fields.now }
-{
-    text.push(b" auto-");
-    push_bit(text, fields.auto_on);
-    text.push(b" p-");
-    push_bit(text, fields.pending);
-    text.push(b" irq-0 child-");
-    text.push_number(fields.child as u64);
-}
-
-/// Appends an event with a payload, behind the lead that names it.
-fn push_payload<S: NameSource, const N: usize>(
-    text: &mut LineText,
+fn put_payload<S: NameSource, const N: usize>(
+    bytes: &mut LineBytes,
+    at: usize,
     names: &S,
     lead: &[u8; N],
     dev: DevId,
     fields: &Fields,
-)
-    requires { HasRoom text.old (lead.now ++ payload (S.names names.now) dev fields.now) }
-    ensures { text.new ≡ text.old ++ (lead.now ++ payload (S.names names.now) dev fields.now) }
+) -> usize
+    requires { HasRoom (take at bytes.old) (lead.now ++ payload (S.names names.now) dev fields.now) }
+    ensures { take result bytes.new ≡ take at bytes.old
+        ++ (lead.now ++ payload (S.names names.now) dev fields.now) }
 {
-    push_device(text, names, lead, dev);
-    push_counts(text, fields);
-    push_states(text, fields);
+    let at = put_device(bytes, at, names, lead, dev);
+    put_fields(bytes, at, fields)
 }
 
-/// Appends what a work item's line tells.
-fn push_work(text: &mut LineText, act: WorkAct)
-    requires { HasRoom text.old (work_text act) }
-    ensures { text.new ≡ text.old ++ work_text act }
+/// Puts what a work item's line tells.
+#[inline(never)]
+fn put_work(bytes: &mut LineBytes, at: usize, act: WorkAct) -> usize
+    requires { HasRoom (take at bytes.old) (work_text act) }
+    ensures { take result bytes.new ≡ take at bytes.old ++ work_text act }
 {
     match act {
         WorkAct::Queue(req) => {
-            text.push(b"queue ");
-            push_req(text, req);
+            let at = put(bytes, at, b"queue ");
+            put_req(bytes, at, req)
         }
-        WorkAct::Defer => text.push(b"defer"),
+        WorkAct::Defer => put(bytes, at, b"defer"),
         WorkAct::Run(req) => {
-            text.push(b"run ");
-            push_req(text, req);
+            let at = put(bytes, at, b"run ");
+            put_req(bytes, at, req)
         }
     }
 }
 
-/// Appends what a timer's line tells.
-fn push_timer(text: &mut LineText, act: TimerAct)
-    requires { HasRoom text.old (timer_text act) }
-    ensures { text.new ≡ text.old ++ timer_text act }
+/// Puts what a timer's line tells.
+#[inline(never)]
+fn put_timer(bytes: &mut LineBytes, at: usize, act: TimerAct) -> usize
+    requires { HasRoom (take at bytes.old) (timer_text act) }
+    ensures { take result bytes.new ≡ take at bytes.old ++ timer_text act }
 {
     match act {
-        TimerAct::Arm { at, autosuspends } => {
-            text.push(b"arm ");
-            text.push_number(at);
-            text.push(b" ");
-            push_kind(text, autosuspends);
+        TimerAct::Arm {
+            at: moment,
+            autosuspends,
+        } => {
+            let at = put(bytes, at, b"arm ");
+            let at = put_number(bytes, at, moment);
+            let at = put(bytes, at, b" ");
+            put_kind(bytes, at, autosuspends)
         }
         TimerAct::Fire { autosuspends } => {
-            text.push(b"fire ");
-            push_kind(text, autosuspends);
+            let at = put(bytes, at, b"fire ");
+            put_kind(bytes, at, autosuspends)
         }
     }
 }
 
-/// Appends an event that moves a usage count, behind the lead that names it.
-fn push_move<S: NameSource, const N: usize>(
-    text: &mut LineText,
+/// Puts an event that moves a usage count, behind the lead that names it.
+#[inline(always)]
+fn put_move<S: NameSource, const N: usize>(
+    bytes: &mut LineBytes,
+    at: usize,
     names: &S,
     lead: &[u8; N],
     dev: DevId,
     why: Why,
-)
-    requires { HasRoom text.old
+) -> usize
+    requires { HasRoom (take at bytes.old)
         (lead.now ++ device_name (S.names names.now) dev.0 ++ space ++ why_text (S.names names.now) why) }
-    ensures { text.new ≡ text.old
+    ensures { take result bytes.new ≡ take at bytes.old
         ++ (lead.now ++ device_name (S.names names.now) dev.0 ++ space ++ why_text (S.names names.now) why) }
 {
-    push_device(text, names, lead, dev);
-    text.push(b" ");
-    push_why(text, names, why);
+    let at = put_device(bytes, at, names, lead, dev);
+    let at = put(bytes, at, b" ");
+    put_why(bytes, at, names, why)
 }
 
-/// Appends the call of a helper.
-fn push_call<S: NameSource>(text: &mut LineText, names: &S, command: &Command)
-    requires { HasRoom text.old (event_text (S.names names.now) (Event.Call command.now)) }
-    ensures { text.new ≡ text.old ++ event_text (S.names names.now) (Event.Call command.now) }
+/// Puts the call of a helper.
+#[inline(never)]
+fn put_call<S: NameSource>(bytes: &mut LineBytes, at: usize, names: &S, command: &Command) -> usize
+    requires { HasRoom (take at bytes.old) (event_text (S.names names.now) (Event.Call command.now)) }
+    ensures { take result bytes.new ≡ take at bytes.old
+        ++ event_text (S.names names.now) (Event.Call command.now) }
 {
-    text.push(b"pm_call: ");
-    push_command(text, names, command);
+    let at = put(bytes, at, b"pm_call: ");
+    put_command(bytes, at, names, command)
 }
 
-/// Appends the return of a helper.
-fn push_ret<S: NameSource>(text: &mut LineText, names: &S, helper: Helper, dev: DevId, code: i32)
-    requires { HasRoom text.old (event_text (S.names names.now) (Event.Ret helper dev code)) }
-    ensures { text.new ≡ text.old ++ event_text (S.names names.now) (Event.Ret helper dev code) }
+/// Puts the return of a helper.
+#[inline(never)]
+fn put_ret<S: NameSource>(
+    bytes: &mut LineBytes,
+    at: usize,
+    names: &S,
+    helper: Helper,
+    dev: DevId,
+    code: i32,
+) -> usize
+    requires { HasRoom (take at bytes.old) (event_text (S.names names.now) (Event.Ret helper dev code)) }
+    ensures { take result bytes.new ≡ take at bytes.old
+        ++ event_text (S.names names.now) (Event.Ret helper dev code) }
 {
-    text.push(b"pm_ret: ");
-    push_called(text, names, helper, dev);
-    text.push(b" ");
-    text.push_signed(code as i64);
+    let at = put(bytes, at, b"pm_ret: ");
+    let at = put_called(bytes, at, names, helper, dev);
+    let at = put(bytes, at, b" ");
+    put_signed(bytes, at, code as i64)
 }
 
-/// Appends the return of one of the kernel's inner functions.
+/// Puts the return of one of the kernel's inner functions.
 #[inline(always)]
-fn push_return<S: NameSource>(text: &mut LineText, names: &S, func: Cb, dev: DevId, code: i32)
-    requires { HasRoom text.old (event_text (S.names names.now) (Event.Return func dev code)) }
-    ensures { text.new ≡ text.old ++ event_text (S.names names.now) (Event.Return func dev code) }
+fn put_return<S: NameSource>(
+    bytes: &mut LineBytes,
+    at: usize,
+    names: &S,
+    func: Cb,
+    dev: DevId,
+    code: i32,
+) -> usize
+    requires { HasRoom (take at bytes.old) (event_text (S.names names.now) (Event.Return func dev code)) }
+    ensures { take result bytes.new ≡ take at bytes.old
+        ++ event_text (S.names names.now) (Event.Return func dev code) }
 {
-    text.push(b"rpm_return_int: rpm_");
-    push_cb(text, func);
-    push_device(text, names, b":", dev);
-    text.push(b" ret=");
-    text.push_signed(code as i64);
+    let at = put(bytes, at, b"rpm_return_int: rpm_");
+    let at = put_cb(bytes, at, func);
+    let at = put_device(bytes, at, names, b":", dev);
+    let at = put(bytes, at, b" ret=");
+    put_signed(bytes, at, code as i64)
 }
 
-/// Appends a change of status.
-fn push_state<S: NameSource>(text: &mut LineText, names: &S, dev: DevId, word: Word)
-    requires { HasRoom text.old (event_text (S.names names.now) (Event.State dev word)) }
-    ensures { text.new ≡ text.old ++ event_text (S.names names.now) (Event.State dev word) }
+/// Puts a change of status.
+#[inline(always)]
+fn put_state<S: NameSource>(
+    bytes: &mut LineBytes,
+    at: usize,
+    names: &S,
+    dev: DevId,
+    word: Word,
+) -> usize
+    requires { HasRoom (take at bytes.old) (event_text (S.names names.now) (Event.State dev word)) }
+    ensures { take result bytes.new ≡ take at bytes.old
+        ++ event_text (S.names names.now) (Event.State dev word) }
 {
-    push_device(text, names, b"pm_status: ", dev);
-    text.push(b" ");
-    push_status(text, word);
+    let at = put_device(bytes, at, names, b"pm_status: ", dev);
+    let at = put(bytes, at, b" ");
+    put_status(bytes, at, word)
 }
 
-/// Appends a callback of a device.
-fn push_callback<S: NameSource>(text: &mut LineText, names: &S, dev: DevId, cb: Cb)
-    requires { HasRoom text.old
+/// Puts a callback of a device.
+#[inline(always)]
+fn put_callback<S: NameSource>(
+    bytes: &mut LineBytes,
+    at: usize,
+    names: &S,
+    dev: DevId,
+    cb: Cb,
+) -> usize
+    requires { HasRoom (take at bytes.old)
         (codes "pm_callback: " ++ device_name (S.names names.now) dev.0 ++ space ++ cb_word cb) }
-    ensures { text.new ≡ text.old
+    ensures { take result bytes.new ≡ take at bytes.old
         ++ (codes "pm_callback: " ++ device_name (S.names names.now) dev.0 ++ space ++ cb_word cb) }
 {
-    push_device(text, names, b"pm_callback: ", dev);
-    text.push(b" ");
-    push_cb(text, cb);
+    let at = put_device(bytes, at, names, b"pm_callback: ", dev);
+    let at = put(bytes, at, b" ");
+    put_cb(bytes, at, cb)
 }
 
-/// Appends the begin of a callback.
-fn push_begin<S: NameSource>(text: &mut LineText, names: &S, dev: DevId, cb: Cb)
-    requires { HasRoom text.old (event_text (S.names names.now) (Event.Begin dev cb)) }
-    ensures { text.new ≡ text.old ++ event_text (S.names names.now) (Event.Begin dev cb) }
+/// Puts the begin of a callback.
+#[inline(always)]
+fn put_begin<S: NameSource>(
+    bytes: &mut LineBytes,
+    at: usize,
+    names: &S,
+    dev: DevId,
+    cb: Cb,
+) -> usize
+    requires { HasRoom (take at bytes.old) (event_text (S.names names.now) (Event.Begin dev cb)) }
+    ensures { take result bytes.new ≡ take at bytes.old ++ event_text (S.names names.now) (Event.Begin dev cb) }
 {
-    push_callback(text, names, dev, cb);
-    text.push(b" begin");
+    let at = put_callback(bytes, at, names, dev, cb);
+    put(bytes, at, b" begin")
 }
 
-/// Appends the end of a callback.
-fn push_end<S: NameSource>(text: &mut LineText, names: &S, dev: DevId, cb: Cb, code: i32)
-    requires { HasRoom text.old (event_text (S.names names.now) (Event.End dev cb code)) }
-    ensures { text.new ≡ text.old ++ event_text (S.names names.now) (Event.End dev cb code) }
+/// Puts the end of a callback.
+#[inline(always)]
+fn put_end<S: NameSource>(
+    bytes: &mut LineBytes,
+    at: usize,
+    names: &S,
+    dev: DevId,
+    cb: Cb,
+    code: i32,
+) -> usize
+    requires { HasRoom (take at bytes.old) (event_text (S.names names.now) (Event.End dev cb code)) }
+    ensures { take result bytes.new ≡ take at bytes.old
+        ++ event_text (S.names names.now) (Event.End dev cb code) }
 {
-    push_callback(text, names, dev, cb);
-    text.push(b" end ");
-    text.push_signed(code as i64);
+    let at = put_callback(bytes, at, names, dev, cb);
+    let at = put(bytes, at, b" end ");
+    put_signed(bytes, at, code as i64)
 }
 
-/// Appends which way power domains are switched.
-fn push_way(text: &mut LineText, up: bool)
-    requires { HasRoom text.old (if up then codes " up " else codes " down ") }
-    ensures { text.new ≡ text.old ++ (if up then codes " up " else codes " down ") }
+/// Puts which way power domains are switched.
+fn put_way(bytes: &mut LineBytes, at: usize, up: bool) -> usize
+    requires { HasRoom (take at bytes.old) (if up then codes " up " else codes " down ") }
+    ensures { take result bytes.new ≡ take at bytes.old ++ (if up then codes " up " else codes " down ") }
 {
     if up {
-        text.push(b" up ");
+        put(bytes, at, b" up ")
     } else {
-        text.push(b" down ");
+        put(bytes, at, b" down ")
     }
 }
 
-/// Appends a switch of power domains.
-fn push_domain<S: NameSource>(text: &mut LineText, names: &S, dev: DevId, up: bool, count: u32)
-    requires { HasRoom text.old (event_text (S.names names.now) (Event.Domain dev up count)) }
-    ensures { text.new ≡ text.old ++ event_text (S.names names.now) (Event.Domain dev up count) }
+/// Puts a switch of power domains.
+fn put_domain<S: NameSource>(
+    bytes: &mut LineBytes,
+    at: usize,
+    names: &S,
+    dev: DevId,
+    up: bool,
+    count: u32,
+) -> usize
+    requires { HasRoom (take at bytes.old) (event_text (S.names names.now) (Event.Domain dev up count)) }
+    ensures { take result bytes.new ≡ take at bytes.old
+        ++ event_text (S.names names.now) (Event.Domain dev up count) }
 {
-    push_device(text, names, b"pm_domain: ", dev);
-    push_way(text, up);
-    text.push_number(count as u64);
+    let at = put_device(bytes, at, names, b"pm_domain: ", dev);
+    let at = put_way(bytes, at, up);
+    put_number(bytes, at, count as u64)
 }
 
-/// Appends an event.
+/// Puts an event.
 #[inline(always)]
-pub(crate) fn push_event<S: NameSource>(text: &mut LineText, names: &S, event: &Event)
-    requires { HasRoom text.old (event_text (S.names names.now) event.now) }
-    ensures { text.new ≡ text.old ++ event_text (S.names names.now) event.now }
+pub(crate) fn put_event<S: NameSource>(
+    bytes: &mut LineBytes,
+    at: usize,
+    names: &S,
+    event: &Event,
+) -> usize
+    requires { HasRoom (take at bytes.old) (event_text (S.names names.now) event.now) }
+    ensures { take result bytes.new ≡ take at bytes.old ++ event_text (S.names names.now) event.now }
 {
     match event {
-        Event::Call { command } => push_call(text, names, command),
-        Event::Ret { helper, dev, code } => push_ret(text, names, *helper, *dev, *code),
-        Event::Get { dev, why } => push_move(text, names, b"pm_get: ", *dev, *why),
-        Event::Put { dev, why } => push_move(text, names, b"pm_put: ", *dev, *why),
-        Event::Usage { dev, fields } => push_payload(text, names, b"rpm_usage: ", *dev, fields),
-        Event::Idle { dev, fields } => push_payload(text, names, b"rpm_idle: ", *dev, fields),
-        Event::Suspend { dev, fields } => push_payload(text, names, b"rpm_suspend: ", *dev, fields),
-        Event::Resume { dev, fields } => push_payload(text, names, b"rpm_resume: ", *dev, fields),
-        Event::Return { func, dev, code } => push_return(text, names, *func, *dev, *code),
-        Event::Wait { dev } => push_device(text, names, b"pm_wait: ", *dev),
-        Event::State { dev, word } => push_state(text, names, *dev, *word),
-        Event::Begin { dev, cb } => push_begin(text, names, *dev, *cb),
-        Event::End { dev, cb, code } => push_end(text, names, *dev, *cb, *code),
-        Event::Domain { dev, up, count } => push_domain(text, names, *dev, *up, *count),
+        Event::Call { command } => put_call(bytes, at, names, command),
+        Event::Ret { helper, dev, code } => put_ret(bytes, at, names, *helper, *dev, *code),
+        Event::Get { dev, why } => put_move(bytes, at, names, b"pm_get: ", *dev, *why),
+        Event::Put { dev, why } => put_move(bytes, at, names, b"pm_put: ", *dev, *why),
+        Event::Usage { dev, fields } => put_payload(bytes, at, names, b"rpm_usage: ", *dev, fields),
+        Event::Idle { dev, fields } => put_payload(bytes, at, names, b"rpm_idle: ", *dev, fields),
+        Event::Suspend { dev, fields } => {
+            put_payload(bytes, at, names, b"rpm_suspend: ", *dev, fields)
+        }
+        Event::Resume { dev, fields } => {
+            put_payload(bytes, at, names, b"rpm_resume: ", *dev, fields)
+        }
+        Event::Return { func, dev, code } => put_return(bytes, at, names, *func, *dev, *code),
+        Event::Wait { dev } => put_device(bytes, at, names, b"pm_wait: ", *dev),
+        Event::State { dev, word } => put_state(bytes, at, names, *dev, *word),
+        Event::Begin { dev, cb } => put_begin(bytes, at, names, *dev, *cb),
+        Event::End { dev, cb, code } => put_end(bytes, at, names, *dev, *cb, *code),
+        Event::Domain { dev, up, count } => put_domain(bytes, at, names, *dev, *up, *count),
         Event::Work { dev, act } => {
-            push_device(text, names, b"pm_work: ", *dev);
-            text.push(b" ");
-            push_work(text, *act);
+            let at = put_device(bytes, at, names, b"pm_work: ", *dev);
+            let at = put(bytes, at, b" ");
+            put_work(bytes, at, *act)
         }
         Event::Timer { dev, act } => {
-            push_device(text, names, b"pm_timer: ", *dev);
-            text.push(b" ");
-            push_timer(text, *act);
+            let at = put_device(bytes, at, names, b"pm_timer: ", *dev);
+            let at = put(bytes, at, b" ");
+            put_timer(bytes, at, *act)
         }
     }
 }
 
-/// Appends a line with this time in place of its own, in format 1.
-pub(crate) fn push_line<S: NameSource>(text: &mut LineText, names: &S, time: u64, line: &Line)
-    requires { HasRoom text.old (line_text (S.names names.now) (record line.now { time = time })) }
-    ensures { text.new ≡ text.old ++ line_text (S.names names.now) (record line.now { time = time }) }
+/// Puts a line in format 1.
+pub(crate) fn put_line<S: NameSource>(
+    bytes: &mut LineBytes,
+    at: usize,
+    names: &S,
+    line: &Line,
+) -> usize
+    requires { HasRoom (take at bytes.old) (line_text (S.names names.now) line.now) }
+    ensures { take result bytes.new ≡ take at bytes.old ++ line_text (S.names names.now) line.now }
 {
-    text.push_number(time);
-    text.push(b" ");
-    push_actor(text, names, line.actor);
-    text.push(b" ");
-    push_event(text, names, &line.event);
+    let at = put_number(bytes, at, line.time);
+    let at = put(bytes, at, b" ");
+    let at = put_actor(bytes, at, names, line.actor);
+    let at = put(bytes, at, b" ");
+    put_event(bytes, at, names, &line.event)
 }

@@ -17,6 +17,7 @@ ghost use Rattle.pm_linetext.specs.ShortLine.{is_short_line};
 
 mod at_hand;
 mod events;
+mod fields;
 mod names;
 mod padded;
 mod pieces;
@@ -27,7 +28,6 @@ mod timed;
 mod words;
 
 pub use crate::at_hand::NamesAtHand;
-use crate::events::push_line;
 pub use crate::speller::LineSpeller;
 use crate::text::LineText;
 pub use crate::timed::TimedText;
@@ -113,6 +113,7 @@ fn spelled(plan: &Plan, line: &Line) -> LineText
     ensures { result ≡ line_text (names_of plan.now) line.now }
 {
     let mut text = LineText::new();
-    push_line(&mut text, plan, line.time, line);
+    text.push_line(plan, line);
+    text.cut(text.len() - 1);
     text
 }

@@ -1,116 +1,161 @@
-//! The pieces of a line.
+//! The pieces of a line. Each is put at a place of the line's bytes, and the place behind it is the answer.
 
-ghost use Rattle.std.specs.Prelude.{◌≡◌, ◌++◌, ◌<◌, false, decimal};
-ghost use Rattle.std.specs.Fmt.{digit_glyph, digits};
-ghost use Rattle.pm_model.specs.Spelling.{actor_text, bit, device_name, padded, why_text};
+ghost use Rattle.std.specs.Prelude.{◌≡◌, ◌++◌, ◌<◌, ◌∷◌, [], decimal, take};
+ghost use Rattle.std.specs.Fmt.{signed_decimal};
+ghost use Rattle.pm_model.specs.Spelling.{actor_text, device_name, why_text};
 ghost use Rattle.pm_linetext.specs.Room.{HasRoom};
 
 use crate::names::NameSource;
-use crate::text::LineText;
-use pm_base::{ActorId, DevId, Why};
+use crate::padded::PaddedName;
+use crate::text::LineBytes;
+use itoa::Buffer;
+use pm_base::{ActorId, DevId, MAX_NAME, Why};
 
-/// Appends what leads to the name of a device, by its place, and the name.
-#[inline]
-pub(crate) fn push_name<S: NameSource, const N: usize>(
-    text: &mut LineText,
+/// Puts a piece.
+#[inline(always)]
+pub(crate) fn put_bytes(bytes: &mut LineBytes, at: usize, piece: &[u8]) -> usize
+    requires { HasRoom (take at bytes.old) piece.now }
+    ensures { take result bytes.new ≡ take at bytes.old ++ piece.now }
+{
+    let end = at + piece.len();
+    bytes[at..end].copy_from_slice(piece);
+    end
+}
+
+/// Puts a piece whose length the compiler knows, so that it is copied without a call.
+#[inline(always)]
+pub(crate) fn put<const N: usize>(bytes: &mut LineBytes, at: usize, piece: &[u8; N]) -> usize
+    requires { HasRoom (take at bytes.old) piece.now }
+    ensures { take result bytes.new ≡ take at bytes.old ++ piece.now }
+{
+    put_bytes(bytes, at, piece)
+}
+
+/// Puts a name. It is copied with what pads it, which the next piece covers.
+#[inline(always)]
+pub(crate) fn put_padded_name(bytes: &mut LineBytes, at: usize, name: &PaddedName) -> usize
+    requires { HasRoom (take at bytes.old) name.now }
+    ensures { take result bytes.new ≡ take at bytes.old ++ name.now }
+{
+    bytes[at..at + MAX_NAME].copy_from_slice(name.padded());
+    at + name.len()
+}
+
+/// The digit of a number below 10.
+#[inline(always)]
+pub(crate) fn digit(number: u8) -> u8
+    requires { number < 10 }
+    ensures { result ∷ [] ≡ decimal number }
+{
+    b'0' + number
+}
+
+/// Puts a number in decimal.
+#[inline(always)]
+pub(crate) fn put_number(bytes: &mut LineBytes, at: usize, number: u64) -> usize
+    requires { HasRoom (take at bytes.old) (decimal number) }
+    ensures { take result bytes.new ≡ take at bytes.old ++ decimal number }
+{
+    // Most numbers have one digit.
+    if number < 10 {
+        put(bytes, at, &[digit(number as u8)])
+    } else {
+        put_digits(bytes, at, number)
+    }
+}
+
+/// Puts a number in decimal, of any length.
+#[inline(never)]
+fn put_digits(bytes: &mut LineBytes, at: usize, number: u64) -> usize
+    requires { HasRoom (take at bytes.old) (decimal number) }
+    ensures { take result bytes.new ≡ take at bytes.old ++ decimal number }
+{
+    put_bytes(bytes, at, Buffer::new().format(number).as_bytes())
+}
+
+/// Puts a number in decimal, with a minus where it is below 0.
+#[inline(always)]
+pub(crate) fn put_signed(bytes: &mut LineBytes, at: usize, number: i64) -> usize
+    requires { HasRoom (take at bytes.old) (signed_decimal number) }
+    ensures { take result bytes.new ≡ take at bytes.old ++ signed_decimal number }
+{
+    if number < 0 {
+        put_negative(bytes, at, number)
+    } else {
+        put_number(bytes, at, number as u64)
+    }
+}
+
+/// Puts a number below 0 in decimal, with its minus.
+#[inline(never)]
+fn put_negative(bytes: &mut LineBytes, at: usize, number: i64) -> usize
+    requires { HasRoom (take at bytes.old) (signed_decimal number) }
+    ensures { take result bytes.new ≡ take at bytes.old ++ signed_decimal number }
+{
+    put_bytes(bytes, at, Buffer::new().format(number).as_bytes())
+}
+
+/// Puts what leads to the name of a device, by its place, and the name.
+#[inline(always)]
+pub(crate) fn put_name<S: NameSource, const N: usize>(
+    bytes: &mut LineBytes,
+    at: usize,
     names: &S,
     lead: &[u8; N],
     place: usize,
-)
-    requires { HasRoom text.old (lead.now ++ device_name (S.names names.now) place) }
-    ensures { text.new ≡ text.old ++ (lead.now ++ device_name (S.names names.now) place) }
+) -> usize
+    requires { HasRoom (take at bytes.old) (lead.now ++ device_name (S.names names.now) place) }
+    ensures { take result bytes.new ≡ take at bytes.old ++ (lead.now ++ device_name (S.names names.now) place) }
 {
-    text.push(lead);
-    names.push_device_name(text, place);
+    let at = put(bytes, at, lead);
+    names.put_device_name(bytes, at, place)
 }
 
-/// Appends what leads to the name of a device, and the name.
-#[inline]
-pub(crate) fn push_device<S: NameSource, const N: usize>(
-    text: &mut LineText,
+/// Puts what leads to the name of a device, and the name.
+#[inline(always)]
+pub(crate) fn put_device<S: NameSource, const N: usize>(
+    bytes: &mut LineBytes,
+    at: usize,
     names: &S,
     lead: &[u8; N],
     dev: DevId,
-)
-    requires { HasRoom text.old (lead.now ++ device_name (S.names names.now) dev.0) }
-    ensures { text.new ≡ text.old ++ (lead.now ++ device_name (S.names names.now) dev.0) }
+) -> usize
+    requires { HasRoom (take at bytes.old) (lead.now ++ device_name (S.names names.now) dev.0) }
+    ensures { take result bytes.new ≡ take at bytes.old ++ (lead.now ++ device_name (S.names names.now) dev.0) }
 {
-    push_name(text, names, lead, dev.0 as usize);
+    put_name(bytes, at, names, lead, dev.0 as usize)
 }
 
-/// Appends who writes the line.
+/// Puts who writes the line.
 #[inline(always)]
-pub(crate) fn push_actor<S: NameSource>(text: &mut LineText, names: &S, actor: ActorId)
-    requires { HasRoom text.old (actor_text (S.names names.now) actor) }
-    ensures { text.new ≡ text.old ++ actor_text (S.names names.now) actor }
+pub(crate) fn put_actor<S: NameSource>(
+    bytes: &mut LineBytes,
+    at: usize,
+    names: &S,
+    actor: ActorId,
+) -> usize
+    requires { HasRoom (take at bytes.old) (actor_text (S.names names.now) actor) }
+    ensures { take result bytes.new ≡ take at bytes.old ++ actor_text (S.names names.now) actor }
 {
     match actor {
-        ActorId::Caller(place) => names.push_caller_name(text, place as usize),
-        ActorId::Work(place) => push_name(text, names, b"work.", place as usize),
-        ActorId::Timer(place) => push_name(text, names, b"timer.", place as usize),
+        ActorId::Caller(place) => names.put_caller_name(bytes, at, place as usize),
+        ActorId::Work(place) => put_name(bytes, at, names, b"work.", place as usize),
+        ActorId::Timer(place) => put_name(bytes, at, names, b"timer.", place as usize),
     }
 }
 
-/// Appends why a usage count is held.
-#[inline]
-pub(crate) fn push_why<S: NameSource>(text: &mut LineText, names: &S, why: Why)
-    requires { HasRoom text.old (why_text (S.names names.now) why) }
-    ensures { text.new ≡ text.old ++ why_text (S.names names.now) why }
+/// Puts why a usage count is held.
+#[inline(always)]
+pub(crate) fn put_why<S: NameSource>(bytes: &mut LineBytes, at: usize, names: &S, why: Why) -> usize
+    requires { HasRoom (take at bytes.old) (why_text (S.names names.now) why) }
+    ensures { take result bytes.new ≡ take at bytes.old ++ why_text (S.names names.now) why }
 {
     match why {
-        Why::Caller => text.push(b"caller"),
-        Why::Control => text.push(b"control"),
-        Why::Forbid => text.push(b"forbid"),
-        Why::Delay => text.push(b"delay"),
-        Why::Child(dev) => push_device(text, names, b"child ", dev),
-        Why::Link(dev) => push_device(text, names, b"link ", dev),
-    }
-}
-
-/// Appends 1 or 0.
-#[inline]
-pub(crate) fn push_bit(text: &mut LineText, set: bool)
-    requires { HasRoom text.old (bit set) }
-    ensures { text.new ≡ text.old ++ bit set }
-{
-    text.push(if set { b"1" } else { b"0" });
-}
-
-/// The hexadecimal digit of a number below 16.
-fn hex_digit(number: u8) -> u8
-    requires { number < 16 }
-    ensures { result ≡ digit_glyph false number }
-{
-    if number < 10 {
-        b'0' + number
-    } else {
-        b'a' - 10 + number
-    }
-}
-
-/// Appends flags in hexadecimal.
-#[tactic(auto, using(crate::proofs::PieceLemmas::hex_digits))]
-#[inline]
-pub(crate) fn push_flags(text: &mut LineText, flags: u8)
-    requires { HasRoom text.old (digits 16 false flags) }
-    ensures { text.new ≡ text.old ++ digits 16 false flags }
-{
-    if flags < 16 {
-        text.push(&[hex_digit(flags)]);
-    } else {
-        text.push(&[hex_digit(flags / 16), hex_digit(flags % 16)]);
-    }
-}
-
-/// Appends a count, padded on the right to two places.
-#[tactic(auto, using(crate::proofs::PieceLemmas::padded_digit, crate::proofs::PieceLemmas::padded_digits))]
-#[inline]
-pub(crate) fn push_padded(text: &mut LineText, count: u32)
-    requires { HasRoom text.old (padded (decimal count)) }
-    ensures { text.new ≡ text.old ++ padded (decimal count) }
-{
-    text.push_number(count as u64);
-    if count < 10 {
-        text.push(b" ");
+        Why::Caller => put(bytes, at, b"caller"),
+        Why::Control => put(bytes, at, b"control"),
+        Why::Forbid => put(bytes, at, b"forbid"),
+        Why::Delay => put(bytes, at, b"delay"),
+        Why::Child(dev) => put_device(bytes, at, names, b"child ", dev),
+        Why::Link(dev) => put_device(bytes, at, names, b"link ", dev),
     }
 }

@@ -1,20 +1,25 @@
 //! The text of one line while it is spelled.
 
 ghost use Rattle.std.specs.Prelude.{◌≡◌, ◌++◌, ◌<◌, ◌≤◌, ◌^◌, [], decimal, length, take};
-ghost use Rattle.std.specs.Fmt.{signed_decimal};
-ghost use Rattle.pm_model.specs.Spelling.{space};
+ghost use Rattle.pm_model.specs.Spelling.{actor_text, event_text, line_text, newline, space};
 ghost use Rattle.pm_linetext.specs.Room.{HasRoom};
 
-use crate::padded::PaddedName;
-use itoa::Buffer;
-use pm_base::MAX_NAME;
+use crate::events::{put_event, put_line};
+use crate::names::NameSource;
+use crate::pieces::{put, put_actor, put_number};
+use pm_base::ActorId;
+use pm_model::{Event, Line};
 use std::marker::Model;
 
-/// The text of one line as far as it is spelled. It takes no memory, and has room for the longest
-/// line with its newline and for a padded name behind that. Contracts see its bytes.
+/// The bytes in which a line is spelled, from the first on. Each piece is put at a place, and the place behind it
+/// is handed on: so the compiler keeps it at hand. There is room for the longest line with its newline and for a
+/// padded name behind that.
+pub(crate) type LineBytes = [u8; 256];
+
+/// The text of one line as far as it is spelled. It takes no memory. Contracts see its bytes.
 #[derive(Drop)]
 pub(crate) struct LineText {
-    bytes: [u8; 256],
+    bytes: LineBytes,
     len: usize,
 }
 
@@ -55,16 +60,6 @@ impl LineText {
         self.len
     }
 
-    /// Puts a time and the space behind it in place of what the text held.
-    pub(crate) fn put_time(&mut self, time: u64)
-        requires { time < 2 ^ 63 }
-        ensures { self.new ≡ decimal time ++ space }
-    {
-        self.cut(0);
-        self.push_number(time);
-        self.push(b" ");
-    }
-
     /// Leaves the first bytes, as many as this.
     #[inline]
     pub(crate) fn cut(&mut self, len: usize)
@@ -74,62 +69,41 @@ impl LineText {
         self.len = len;
     }
 
-    /// Appends a piece.
-    #[inline]
-    pub(crate) fn push_bytes(&mut self, piece: &[u8])
-        requires { HasRoom self.old piece.now }
-        ensures { self.new ≡ self.old ++ piece.now }
+    /// Puts a time and the space behind it in place of what the text held.
+    pub(crate) fn put_time(&mut self, time: u64)
+        requires { time < 2 ^ 63 }
+        ensures { self.new ≡ decimal time ++ space }
     {
-        let len = self.len;
-        let end = len + piece.len();
-        self.bytes[len..end].copy_from_slice(piece);
-        self.len = end;
+        let at = put_number(&mut self.bytes, 0, time);
+        self.len = put(&mut self.bytes, at, b" ");
     }
 
-    /// Appends a piece whose length the compiler knows, so that it is copied without a call.
-    #[inline]
-    pub(crate) fn push<const N: usize>(&mut self, piece: &[u8; N])
-        requires { HasRoom self.old piece.now }
-        ensures { self.new ≡ self.old ++ piece.now }
+    /// Appends an actor and a space.
+    #[inline(always)]
+    pub(crate) fn push_actor<S: NameSource>(&mut self, names: &S, actor: ActorId)
+        requires { HasRoom self.old (actor_text (S.names names.now) actor ++ space) }
+        ensures { self.new ≡ self.old ++ (actor_text (S.names names.now) actor ++ space) }
     {
-        self.push_bytes(piece);
+        let at = put_actor(&mut self.bytes, self.len, names, actor);
+        self.len = put(&mut self.bytes, at, b" ");
     }
 
-    /// Appends a name. It is copied with what pads it, which the next piece covers.
-    #[inline]
-    pub(crate) fn push_name(&mut self, name: &PaddedName)
-        requires { HasRoom self.old name.now }
-        ensures { self.new ≡ self.old ++ name.now }
+    /// Appends an event and a newline.
+    #[inline(always)]
+    pub(crate) fn push_event<S: NameSource>(&mut self, names: &S, event: &Event)
+        requires { HasRoom self.old (event_text (S.names names.now) event.now ++ newline) }
+        ensures { self.new ≡ self.old ++ (event_text (S.names names.now) event.now ++ newline) }
     {
-        let len = self.len;
-        self.bytes[len..len + MAX_NAME].copy_from_slice(name.padded());
-        self.len = len + name.len();
+        let at = put_event(&mut self.bytes, self.len, names, event);
+        self.len = put(&mut self.bytes, at, b"\n");
     }
 
-    /// Appends a number in decimal.
-    #[inline]
-    pub(crate) fn push_number(&mut self, number: u64)
-        requires { HasRoom self.old (decimal number) }
-        ensures { self.new ≡ self.old ++ decimal number }
+    /// Appends a line in format 1 and a newline.
+    pub(crate) fn push_line<S: NameSource>(&mut self, names: &S, line: &Line)
+        requires { HasRoom self.old (line_text (S.names names.now) line.now ++ newline) }
+        ensures { self.new ≡ self.old ++ (line_text (S.names names.now) line.now ++ newline) }
     {
-        // Most numbers have one digit.
-        if number < 10 {
-            self.push(&[b'0' + number as u8]);
-        } else {
-            self.push_bytes(Buffer::new().format(number).as_bytes());
-        }
-    }
-
-    /// Appends a number in decimal, with a minus where it is below 0.
-    #[inline]
-    pub(crate) fn push_signed(&mut self, number: i64)
-        requires { HasRoom self.old (signed_decimal number) }
-        ensures { self.new ≡ self.old ++ signed_decimal number }
-    {
-        if number < 0 {
-            self.push_bytes(Buffer::new().format(number).as_bytes());
-        } else {
-            self.push_number(number as u64);
-        }
+        let end = put_line(&mut self.bytes, self.len, names, line);
+        self.len = put(&mut self.bytes, end, b"\n");
     }
 }

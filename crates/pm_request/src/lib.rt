@@ -40,6 +40,14 @@ impl Requests {
         })
     }
 
+    /// What is pending becomes this. It takes no memory.
+    pub fn fill(&mut self, entries: &[Pending])
+        requires { length entries.now ≡ length self.old }
+        ensures { self.new ≡ entries.now }
+    {
+        self.entries.copy_from_slice(entries);
+    }
+
     /// Asks for a request and queues the work item of the device.
     pub fn place(&mut self, dev: DevId, req: Req)
         requires { dev.0 < length self.old }

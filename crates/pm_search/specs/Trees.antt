@@ -1,5 +1,5 @@
 -- Points with, for each, the place of one that it follows: its parent (this project's own).
-use Rattle.std.specs.Prelude.{ℕ, suc, ◌≡◌, ◌<◌, ◌≤◌, Bool, true, false, List, [], ◌∷◌, Some, length, slice_get}
+use Rattle.std.specs.Prelude.{ℕ, suc, ◌≡◌, ◌+◌, ◌<◌, ◌≤◌, Bool, true, false, List, [], ◌∷◌, Some, length, slice_get}
 
 -- each place but the first has its parent before it
 abbrev pub LeadDown : List ℕ → Type 0
@@ -9,6 +9,12 @@ LeadDown parents = (i parent : ℕ) → 0 < i → slice_get parents i ≡ Some p
 pub data IsWay (parents : List ℕ) : ℕ → List ℕ → Type 0 where
   begins : IsWay parents 0 (0 ∷ [])
   leads_on : {parent : ℕ} {way : List ℕ} (i : ℕ) → 0 < i → slice_get parents i ≡ Some parent → IsWay parents parent way → IsWay parents i (i ∷ way)
+
+-- the way back from a place has so many steps
+pub record HasWay (parents : List ℕ) (at steps : ℕ) : Type 0 where
+  pub way : List ℕ
+  pub leads : IsWay parents at way
+  pub many : length way ≡ steps + 1
 
 module _ {P : Type 0} (Follows : Bool → P → P → Type 0) where
   -- by such a step the point at the second place follows the one at the first

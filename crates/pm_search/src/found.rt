@@ -36,16 +36,19 @@ pub struct Found<N: Eq + Hash + Drop> {
 fn find<N: Eq + Hash + Drop, G: Graph<N>>(
     alloc: Global,
     graph: &G,
+    scratch: &mut G::Scratch,
     start: N,
     most: usize,
     limit: usize,
     tree: &mut Tree<N>,
     rounds: &mut Vec<usize>,
 ) -> Result<bool, Stop>
+    requires ready { G.IsReady graph.now scratch.old }
     requires start { G.point graph.now start ≡ G.start graph.now }
     requires no_nodes { tree.old.nodes.keys ≡ [] }
     requires no_parents { tree.old.parents.items ≡ [] }
     requires no_rounds { rounds.old.items ≡ [] }
+    ensures ready { G.IsReady graph.now scratch.new }
     ensures tree { IsTree (G.Follows graph.now) (G.start graph.now) (map (G.point graph.now) tree.new.nodes.keys) tree.new.parents.items }
     ensures rounds { AreExact (G.Follows graph.now) (G.start graph.now) (map (G.point graph.now) tree.new.nodes.keys) rounds.new.items }
     ensures led { AreLed (G.Follows graph.now) (map (G.point graph.now) tree.new.nodes.keys) tree.new.parents.items rounds.new.items }
@@ -55,17 +58,17 @@ fn find<N: Eq + Hash + Drop, G: Graph<N>>(
     ensures too_far { result ≡ Err Stop.TooFar → (at : ℕ) × G.IsTooFar graph.now (map (G.point graph.now) tree.new.nodes.keys) tree.new.parents.items at }
 {
     add(graph, tree, start, 0)?;
-    settle(alloc, graph, tree, 0, limit)?;
+    settle(alloc, graph, scratch, tree, 0, limit)?;
     rounds.push(tree.nodes.len())?;
     let mut spent = 0;
     for k in 0..most {
         let end = tree.nodes.len();
-        spend(alloc, graph, tree, spent, limit)?;
+        spend(alloc, graph, scratch, tree, spent, limit)?;
         if tree.nodes.len() == end {
             return Ok(true);
         }
         spent = end;
-        settle(alloc, graph, tree, end, limit)?;
+        settle(alloc, graph, scratch, tree, end, limit)?;
         rounds.push(tree.nodes.len())?;
     }
     Ok(false)
@@ -76,10 +79,12 @@ fn find<N: Eq + Hash + Drop, G: Graph<N>>(
 pub fn search<N: Eq + Hash + Drop, G: Graph<N>>(
     alloc: Global,
     graph: &G,
+    scratch: &mut G::Scratch,
     start: N,
     most: usize,
     limit: usize,
 ) -> Found<N>
+    requires ready { G.IsReady graph.now scratch.old }
     requires start { G.point graph.now start ≡ G.start graph.now }
     ensures tree { IsTree (G.Follows graph.now) (G.start graph.now) (map (G.point graph.now) result.tree.nodes.keys) result.tree.parents.items }
 
@@ -95,7 +100,16 @@ pub fn search<N: Eq + Hash + Drop, G: Graph<N>>(
 {
     let mut tree = new_tree(alloc);
     let mut rounds = Vec::new(alloc);
-    let ended = match find(alloc, graph, start, most, limit, &mut tree, &mut rounds) {
+    let ended = match find(
+        alloc,
+        graph,
+        scratch,
+        start,
+        most,
+        limit,
+        &mut tree,
+        &mut rounds,
+    ) {
         Ok(true) => Ended::Whole,
         Ok(false) => Ended::Rounds,
         Err(stop) => Ended::Stopped(stop),

@@ -38,6 +38,9 @@ impl<T: Drop> From<AllocFailed<T>> for Stop {
 
 /// A graph. Its points are kept as nodes. A step from one point to another is free, or it spends.
 pub trait Graph<N: Eq + Hash + Drop> {
+    /// What successors are found with, again and again, so that it isn't made anew for each node.
+    type Scratch;
+
     ghost Point: { Type 0 };
 
     /// The point that a node stands for.
@@ -51,16 +54,22 @@ pub trait Graph<N: Eq + Hash + Drop> {
     /// Whether the way to a place of a tree is as long as the graph lets one be.
     ghost IsTooFar: { Self → List Point → List ℕ → ℕ → Type 0 };
 
+    /// Whether successors can be found with it.
+    ghost IsReady: { Self → Self.Scratch → Type 0 };
+
     /// Nodes for all that follows one of a tree, and for nothing else.
     fn successors(
         &self,
         alloc: Global,
+        scratch: &mut Self::Scratch,
         tree: &Tree<N>,
         at: usize,
         spends: bool,
     ) -> Result<Vec<N>, Stop>
         requires within { at < length tree.now.nodes.keys }
         requires tree { IsTree (Follows self.now) (start self.now) (map (point self.now) tree.now.nodes.keys) tree.now.parents.items }
+        requires ready { IsReady self.now scratch.old }
+        ensures ready { IsReady self.now scratch.new }
         ensures all { IfOk result (λ out. (p : Point) → slice_get (map (point self.now) tree.now.nodes.keys) at ≡ Some p → HasExactly (Follows self.now spends p) (map (point self.now) out.items)) }
         ensures too_far { result ≡ Err Stop.TooFar → IsTooFar self.now (map (point self.now) tree.now.nodes.keys) tree.now.parents.items at }
 

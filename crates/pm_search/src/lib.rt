@@ -2,6 +2,7 @@
 //! (this project's own).
 #![tactic(auto)]
 
+mod far;
 mod found;
 mod graph;
 mod rounds;
@@ -10,6 +11,7 @@ mod spread;
 mod tests;
 mod tree;
 
+pub use far::steps_back;
 pub use found::{Ended, Found, search};
 pub use graph::{Graph, Stop};
 pub use tree::{Tree, way_back};

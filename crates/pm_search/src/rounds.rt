@@ -15,13 +15,16 @@ use std::hash::Hash;
 pub fn settle<N: Eq + Hash + Drop, G: Graph<N>>(
     alloc: Global,
     graph: &G,
+    scratch: &mut G::Scratch,
     tree: &mut Tree<N>,
     from: usize,
     limit: usize,
 ) -> Result<(), Stop>
+    requires ready { G.IsReady graph.now scratch.old }
     requires within { from ≤ length (map (G.point graph.now) tree.old.nodes.keys) }
     requires spread { AreSpread (G.Follows graph.now) false from (map (G.point graph.now) tree.old.nodes.keys) }
     requires tree { IsTree (G.Follows graph.now) (G.start graph.now) (map (G.point graph.now) tree.old.nodes.keys) tree.old.parents.items }
+    ensures ready { G.IsReady graph.now scratch.new }
     ensures tree { IsTree (G.Follows graph.now) (G.start graph.now) (map (G.point graph.now) tree.new.nodes.keys) tree.new.parents.items }
     ensures points { IsKept (map (G.point graph.now) tree.old.nodes.keys) (map (G.point graph.now) tree.new.nodes.keys) }
     ensures parents { IsKept tree.old.parents.items tree.new.parents.items }
@@ -35,7 +38,7 @@ pub fn settle<N: Eq + Hash + Drop, G: Graph<N>>(
         if tree.nodes.len() >= limit {
             return Err(Stop::Full);
         }
-        spread(alloc, graph, tree, at, false)?;
+        spread(alloc, graph, scratch, tree, at, false)?;
         at += 1;
     }
     Ok(())
@@ -45,13 +48,16 @@ pub fn settle<N: Eq + Hash + Drop, G: Graph<N>>(
 pub fn spend<N: Eq + Hash + Drop, G: Graph<N>>(
     alloc: Global,
     graph: &G,
+    scratch: &mut G::Scratch,
     tree: &mut Tree<N>,
     from: usize,
     limit: usize,
 ) -> Result<(), Stop>
+    requires ready { G.IsReady graph.now scratch.old }
     requires within { from ≤ length (map (G.point graph.now) tree.old.nodes.keys) }
     requires spread { AreSpread (G.Follows graph.now) true from (map (G.point graph.now) tree.old.nodes.keys) }
     requires tree { IsTree (G.Follows graph.now) (G.start graph.now) (map (G.point graph.now) tree.old.nodes.keys) tree.old.parents.items }
+    ensures ready { G.IsReady graph.now scratch.new }
     ensures tree { IsTree (G.Follows graph.now) (G.start graph.now) (map (G.point graph.now) tree.new.nodes.keys) tree.new.parents.items }
     ensures points { IsKept (map (G.point graph.now) tree.old.nodes.keys) (map (G.point graph.now) tree.new.nodes.keys) }
     ensures parents { IsKept tree.old.parents.items tree.new.parents.items }
@@ -66,7 +72,7 @@ pub fn spend<N: Eq + Hash + Drop, G: Graph<N>>(
         if tree.nodes.len() >= limit {
             return Err(Stop::Full);
         }
-        spread(alloc, graph, tree, at, true)?;
+        spread(alloc, graph, scratch, tree, at, true)?;
         at += 1;
     }
     Ok(())

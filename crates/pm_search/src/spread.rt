@@ -14,12 +14,15 @@ use std::hash::Hash;
 pub fn spread<N: Eq + Hash + Drop, G: Graph<N>>(
     alloc: Global,
     graph: &G,
+    scratch: &mut G::Scratch,
     tree: &mut Tree<N>,
     at: usize,
     spends: bool,
 ) -> Result<(), Stop>
+    requires ready { G.IsReady graph.now scratch.old }
     requires within { at < length tree.old.nodes.keys }
     requires tree { IsTree (G.Follows graph.now) (G.start graph.now) (map (G.point graph.now) tree.old.nodes.keys) tree.old.parents.items }
+    ensures ready { G.IsReady graph.now scratch.new }
     ensures tree { IsTree (G.Follows graph.now) (G.start graph.now) (map (G.point graph.now) tree.new.nodes.keys) tree.new.parents.items }
     ensures points { (p : G.Point) → slice_get (map (G.point graph.now) tree.old.nodes.keys) at ≡ Some p → Grows (G.Follows graph.now spends p) (map (G.point graph.now) tree.old.nodes.keys) (map (G.point graph.now) tree.new.nodes.keys) }
     ensures parents { Grows (λ parent. parent ≡ at) tree.old.parents.items tree.new.parents.items }
@@ -27,7 +30,7 @@ pub fn spread<N: Eq + Hash + Drop, G: Graph<N>>(
     ensures too_far { result ≡ Err Stop.TooFar → G.IsTooFar graph.now (map (G.point graph.now) tree.new.nodes.keys) tree.new.parents.items at }
     ensures never_full { result ≢ Err Stop.Full }
 {
-    let mut next = graph.successors(alloc, tree, at, spends)?;
+    let mut next = graph.successors(alloc, scratch, tree, at, spends)?;
     while let Some(node) = next.pop() {
         add(graph, tree, node, at)?;
     }

@@ -3,6 +3,7 @@
 ghost use Rattle.std.specs.Prelude.{ℕ};
 ghost use Rattle.pm_search.specs.Doubling.{FollowsTo};
 
+use crate::far::steps_back;
 use crate::found::{Ended, search};
 use crate::graph::{Graph, Stop};
 use crate::tree::{Tree, way_back};
@@ -15,6 +16,8 @@ struct Numbers {
 }
 
 impl Graph<u32> for Numbers {
+    type Scratch = ();
+
     ghost Point = { ℕ };
 
     ghost point = { λ g n. n };
@@ -25,9 +28,12 @@ impl Graph<u32> for Numbers {
 
     ghost IsTooFar = { λ g points parents at. Unit {0} };
 
+    ghost IsReady = { λ g scratch. Unit {0} };
+
     fn successors(
         &self,
         alloc: Global,
+        _scratch: &mut (),
         tree: &Tree<u32>,
         at: usize,
         spends: bool,
@@ -55,19 +61,23 @@ impl Graph<u32> for Numbers {
 #[test]
 fn rounds_and_ways(rt: HostRuntime) -> Result<(), Fail> {
     let graph = Numbers { top: 100 };
-    let found = search(rt.alloc(), &graph, 3, 2, 1000);
+    let found = search(rt.alloc(), &graph, &mut (), 3, 2, 1000);
     assert_eq!(rt; found.ended, Ended::Rounds);
     assert_eq!(rt; found.rounds.as_slice(), [7, 17, 37].as_slice());
     assert!(rt; found.tree.parents.len() > 36);
     let way = way_back(rt.alloc(), found.tree.parents.as_slice(), 36)?;
     assert!(rt; way.len() > 3);
+    assert_eq!(rt;
+        steps_back(found.tree.parents.as_slice(), 36),
+        way.len() - 1
+    );
     Ok(())
 }
 
 #[test]
 fn all_are_found(rt: HostRuntime) -> Result<(), Fail> {
     let graph = Numbers { top: 100 };
-    let found = search(rt.alloc(), &graph, 3, 9, 1000);
+    let found = search(rt.alloc(), &graph, &mut (), 3, 9, 1000);
     assert_eq!(rt; found.ended, Ended::Whole);
     assert_eq!(rt; found.tree.nodes.len(), 98);
     Ok(())
@@ -76,7 +86,7 @@ fn all_are_found(rt: HostRuntime) -> Result<(), Fail> {
 #[test]
 fn a_limit_is_told(rt: HostRuntime) -> Result<(), Fail> {
     let graph = Numbers { top: 100 };
-    let found = search(rt.alloc(), &graph, 3, 9, 10);
+    let found = search(rt.alloc(), &graph, &mut (), 3, 9, 10);
     assert_eq!(rt; found.ended, Ended::Stopped(Stop::Full));
     assert_eq!(rt; found.rounds.len(), 1);
     Ok(())

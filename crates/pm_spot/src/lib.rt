@@ -1,6 +1,7 @@
 //! Where an order of a plan's lines stands, as a search keeps it (this project's own).
 #![tactic(auto)]
 
+mod fill;
 mod reading;
 mod spot;
 

@@ -19,8 +19,10 @@ use Rattle.pm_model.specs.Handing.{after_then}
 use Rattle.pm_model.specs.Views.{Views}
 use Rattle.pm_model.specs.WellFormed.{is_well_formed}
 use Rattle.pm_model.specs.World.{World, called_by, counts_call, place, stage_at, with_place}
+use Rattle.pm_device.specs.Filling.{CanBe}
 use Rattle.pm_device.specs.Parts.{Counters, IsFor, Shape}
 use Rattle.pm_law_stacks.specs.Depth.{longest_chain}
+use Rattle.pm_state.specs.Places.{HasRoom}
 
 -- what the counters were made for, where the run stands, and for how many open stages each actor's place has room
 pub record Standing : Type 0 where
@@ -56,6 +58,18 @@ pub record IsOf (plan : Plan) (s : Standing) : Type 0 where
   pub timers : length s.world.timer_places ≡ length plan.devices
   pub called : length s.world.called ≡ length plan.callers
   pub roomy : IsRoomy plan s.room
+
+-- a state that stands here can stand there: its views can, there are as many places and numbers of calls, and there is
+-- room for the open stages
+pub record CanStand (s : Standing) (w : World) : Type 0 where
+  pub views : CanBe s.world.views w.views
+  pub callers : length w.caller_places ≡ length s.world.caller_places
+  pub works : length w.work_places ≡ length s.world.work_places
+  pub timers : length w.timer_places ≡ length s.world.timer_places
+  pub called : length w.called ≡ length s.world.called
+  pub caller_room : HasRoom s.room w.caller_places
+  pub work_room : HasRoom s.room w.work_places
+  pub timer_room : HasRoom s.room w.timer_places
 
 -- a stage that awaits no call
 abbrev pub is_awake : Stage → Bool

@@ -6,6 +6,7 @@ mod applying;
 mod changes;
 mod devices;
 mod events;
+mod fill;
 mod finished;
 mod going;
 mod moves;

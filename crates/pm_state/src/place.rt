@@ -66,6 +66,19 @@ fn put_row(stages: &mut Vec<Stage>, row: StageRow)
     }
 }
 
+// Puts stages on top, of which the first is to write next, where there is room for them.
+fn put_all(stages: &mut Vec<Stage>, more: &[Stage])
+    requires { vec_len stages.old + length more.now ≤ vec_capacity stages.old }
+    ensures stages { reverse stages.new.items ≡ more.now ++ reverse stages.old.items }
+    ensures room { vec_capacity stages.new ≡ vec_capacity stages.old }
+{
+    let mut left = more.len();
+    while left > 0 {
+        left -= 1;
+        stages.push_reserved(more[left]);
+    }
+}
+
 impl Place {
     /// The open stages, of which the one that writes next is the last.
     pub fn stages(&self) -> &[Stage]
@@ -108,5 +121,13 @@ impl Place {
             Some(code) => hand(&mut self.stages, code),
             None => put_row(&mut self.stages, then.push.row()),
         }
+    }
+    /// The open stages become these, the one that writes next first. It takes no memory.
+    pub fn fill(&mut self, stages: &[Stage])
+        requires { length stages.now ≤ self.old.room }
+        ensures { self.new ≡ record self.old { stages = stages.now } }
+    {
+        self.stages.clear();
+        put_all(&mut self.stages, stages);
     }
 }

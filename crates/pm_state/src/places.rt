@@ -1,11 +1,12 @@
 //! The places of some actors.
 
-ghost use Rattle.std.specs.Prelude.{◌≡◌, ◌<◌, ◌≤◌, [], drop, length, replicate, reverse, slice_index_or, slice_set, IfOk, None};
+ghost use Rattle.std.specs.Prelude.{◌≡◌, ◌<◌, ◌≤◌, [], drop, length, map, replicate, reverse, slice_index_or, slice_set, IfOk, None};
 ghost use Rattle.std.specs.List.{list_all};
 ghost use Rattle.std.specs.Option.{option_copied};
 ghost use Rattle.pm_model.specs.Handing.{after_then};
 ghost use Rattle.pm_model.specs.Lawful.{is_empty_place};
 ghost use Rattle.pm_model.specs.World.{top};
+ghost use Rattle.pm_state.specs.Places.{HasRoom};
 
 use crate::place::Place;
 use pm_base::NoMemory;
@@ -96,5 +97,25 @@ impl Places {
         ensures { self.new ≡ record self.old { stages = slice_set self.old.stages actor (after_then then.now (drop 1 (slice_index_or self.old.stages actor []))) } }
     {
         self.places[actor].go(then);
+    }
+    // The open stages of an actor become these, the one that writes next first.
+    #[tactic(auto, using(crate::proofs::StackLemmas::stack_at))]
+    fn put(&mut self, actor: usize, stages: &[Stage])
+        requires in_range { actor < length self.old.stages }
+        requires room { length stages.now ≤ self.old.room }
+        ensures { self.new ≡ record self.old { stages = slice_set self.old.stages actor stages.now } }
+    {
+        self.places[actor].fill(stages);
+    }
+
+    /// The open stages become these, for each actor the one that writes next first. It takes no memory.
+    pub fn fill(&mut self, all: &[Vec<Stage>])
+        requires as_many { length all.now ≡ length self.old.stages }
+        requires room { HasRoom self.old.room (map (λ v. v.items) all.now) }
+        ensures { self.new ≡ record self.old { stages = map (λ v. v.items) all.now } }
+    {
+        for actor in 0..all.len() {
+            self.put(actor, all[actor].as_slice());
+        }
     }
 }

@@ -5,3 +5,5 @@ mod FoundLemmas
 mod ListLemmas
 mod WitnessLemmas
 mod NextLemmas
+mod StandLemmas
+mod NodeLemmas

@@ -26,11 +26,18 @@ pub record IsRunOf (plan : Plan) (r : Run) : Type 0 where
   pub is_of : IsOf plan r.state
   pub early : r.last.time ≤ 1000000 * r.lines
 
--- it stands at the spot of a place, and has room for a line
-pub record IsRunAt (plan : Plan) (spots : List Spot) (at : ℕ) (r : Run) : Type 0 where
-  pub run : IsRunOf plan r
-  pub here : slice_get spots at ≡ Some (spot_of_run r)
-  pub room : r.lines < plan.lines
+-- a lawful list of so many lines stands there; no line came much later than the one before
+pub record IsListTo (plan : Plan) (s : Spot) (lines : ℕ) : Type 0 where
+  pub list : History
+  pub lawful : IsLawful plan list
+  pub stands : spot plan list ≡ s
+  pub many : length list ≡ lines
+  pub early : s.time ≤ 1000000 * lines
+
+-- it stands at the spot, and has so many lines
+pub record StandsAt (r : Run) (s : Spot) (lines : ℕ) : Type 0 where
+  pub spot_is : spot_of_run r ≡ s
+  pub lines_are : r.lines ≡ lines
 
 -- from one to the other by the line of this actor at this time
 pub record Took (plan : Plan) (old new : Run) (actor : ActorId) (time : ℕ) : Type 0 where

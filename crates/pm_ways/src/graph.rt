@@ -5,12 +5,14 @@ ghost use Rattle.pm_orders.specs.Spots.{Follows, all_actors, start_spot};
 ghost use Rattle.pm_orders.specs.Spots.{Spot as Where};
 ghost use Rattle.pm_spot.specs.SpotOf.{spot_of};
 ghost use Rattle.pm_ways.specs.Found.{IsTooFar};
+ghost use Rattle.pm_ways.specs.Runs.{IsRunOf};
 
 use crate::next::next_spots;
+use crate::run::Run;
 use pm_base::{ActorId, NoMemory};
 use pm_model::Plan;
 use pm_orders::Pace;
-use pm_search::{Graph, Stop, Tree, way_back};
+use pm_search::{Graph, Stop, Tree, steps_back};
 use pm_spot::Spot;
 use std::alloc::Global;
 
@@ -25,6 +27,8 @@ pub struct PaceGraph<'a> {
 }
 
 impl Graph<Spot> for PaceGraph<'_> {
+    type Scratch = Run;
+
     ghost use Rattle.pm_spot.proofs.SpotAlike.{same_if};
 
     ghost Point = { Where };
@@ -37,15 +41,19 @@ impl Graph<Spot> for PaceGraph<'_> {
 
     ghost IsTooFar = { λ g points parents at. IsTooFar g.plan.now parents at };
 
+    ghost IsReady = { λ g run. IsRunOf g.plan.now run };
+
+    #[tactic(auto, using(crate::proofs::NodeLemmas::too_far))]
     fn successors(
         &self,
         alloc: Global,
+        run: &mut Run,
         tree: &Tree<Spot>,
         at: usize,
         spends: bool,
     ) -> Result<Vec<Spot>, Stop> {
-        let way = way_back(alloc, tree.parents.as_slice(), at)?;
-        if way.len() > self.plan.lines as usize {
+        let steps = steps_back(tree.parents.as_slice(), at);
+        if steps >= self.plan.lines as usize {
             return Err(Stop::TooFar);
         }
         match next_spots(
@@ -53,9 +61,10 @@ impl Graph<Spot> for PaceGraph<'_> {
             self.plan,
             self.pace,
             self.actors,
+            run,
             tree,
             at,
-            way.as_slice(),
+            steps as u32,
             spends,
         ) {
             Ok(spots) => Ok(spots),

@@ -1,17 +1,16 @@
 //! What follows a node of a search.
 
-ghost use Rattle.std.specs.Prelude.{ℕ, ◌≡◌, ◌<◌, ◌≤◌, IfOk, IfSome, Some, length, map, slice_get};
+ghost use Rattle.std.specs.Prelude.{ℕ, ◌≡◌, ◌<◌, IfOk, Some, length, map, slice_get, true};
 ghost use Rattle.pm_model.specs.declared.event.Line.{Line as ALine};
 ghost use Rattle.pm_orders.specs.Spots.{Follows, after, all_actors, start_spot};
 ghost use Rattle.pm_orders.specs.Spots.{Spot as Where};
 ghost use Rattle.pm_search.specs.Exact.{HasExactly};
-ghost use Rattle.pm_search.specs.Trees.{IsTree, IsWay};
+ghost use Rattle.pm_search.specs.Trees.{HasWay, IsTree};
 ghost use Rattle.pm_spot.specs.SpotOf.{spot_of};
 ghost use Rattle.pm_steps.specs.Lines.{IsNext};
 ghost use Rattle.pm_ways.specs.Found.{MayComeNext};
-ghost use Rattle.pm_ways.specs.Runs.{IsRunAt, IsRunOf, spot_of_run};
+ghost use Rattle.pm_ways.specs.Runs.{IsListTo, IsRunOf, StandsAt, spot_of_run};
 
-use crate::replay::replay;
 use crate::run::Run;
 use pm_base::{ActorId, NoMemory};
 use pm_book::all_stand_well;
@@ -44,102 +43,100 @@ fn lines_of(
     next_lines(alloc, plan, &run.state, pace, run.last, spends, actors)
 }
 
-// The spot to which a line leads from where a run stands.
+// The spot to which a line leads from where a run stands: it goes there.
 fn spot_after(
     alloc: Global,
     plan: &Plan,
     _pace: Pace,
-    run: Run,
+    run: &mut Run,
     line: &Line,
 ) -> Result<Spot, AllocError>
-    requires run { IsRunOf plan.now run }
-    requires room { run.lines < plan.now.lines }
-    requires next { MayComeNext _pace plan.now (spot_of_run run) line.now }
-    ensures { IfOk result (λ spot. spot_of spot ≡ after plan.now (spot_of_run run) line.now) }
+    requires run { IsRunOf plan.now run.old }
+    requires room { run.old.lines < plan.now.lines }
+    requires next { MayComeNext _pace plan.now (spot_of_run run.old) line.now }
+    ensures run { IsRunOf plan.now run.new }
+    ensures spot { IfOk result (λ spot. spot_of spot ≡ after plan.now (spot_of_run run.old) line.now) }
 {
     sizes();
     times_are_near();
     lines_are_by_one();
-    let mut run = run;
     let took = run.step(plan, line.actor, line.time);
     prove!(took);
     Ok(run.spot(alloc, plan)?)
 }
 
-// The run that goes the way to a node, unless there is one.
-fn run_at(
-    alloc: Global,
-    plan: &Plan,
-    pace: Pace,
-    tree: &Tree<Spot>,
-    at: usize,
-    way: &[usize],
-    left: Option<Run>,
-) -> Result<Run, NoMemory>
-    requires within { at < length tree.now.nodes.keys }
-    requires tree { IsTree (Follows pace plan.now) (start_spot plan.now) (map spot_of tree.now.nodes.keys) tree.now.parents.items }
-    requires way { IsWay tree.now.parents.items at way.now }
-    requires room { length way.now ≤ plan.now.lines }
-    requires left { IfSome left (IsRunAt plan.now (map spot_of tree.now.nodes.keys) at) }
-    ensures { IfOk result (IsRunAt plan.now (map spot_of tree.now.nodes.keys) at) }
+// A run stands at a node to which so many lines lead, unless it does already.
+fn go_back(run: &mut Run, plan: &Plan, node: &Spot, lines: u32, is_there: bool)
+    requires run { IsRunOf plan.now run.old }
+    requires there { IsListTo plan.now (spot_of node.now) lines }
+    requires stands { is_there ≡ true → StandsAt run.old (spot_of node.now) lines }
+    ensures run { IsRunOf plan.now run.new }
+    ensures stands { StandsAt run.new (spot_of node.now) lines }
 {
-    match left {
-        Some(run) => Ok(run),
-        None => replay(alloc, plan, pace, tree, at, way),
+    if !is_there {
+        run.stand_at(plan, node, lines);
     }
 }
 
-// The spots to which these lines lead from a node, at which a run stands: it goes on by the first of them.
+// The spots to which these lines lead from a node, at which the run stands: it goes to each, and back again before
+// the next.
 fn spots_after(
     alloc: Global,
     plan: &Plan,
     pace: Pace,
-    tree: &Tree<Spot>,
-    at: usize,
-    way: &[usize],
-    run: Run,
+    run: &mut Run,
+    node: &Spot,
+    count: u32,
     lines: &[Line],
 ) -> Result<Vec<Spot>, NoMemory>
-    requires within { at < length tree.now.nodes.keys }
-    requires tree { IsTree (Follows pace plan.now) (start_spot plan.now) (map spot_of tree.now.nodes.keys) tree.now.parents.items }
-    requires way { IsWay tree.now.parents.items at way.now }
-    requires room { length way.now ≤ plan.now.lines }
-    requires run { IsRunAt plan.now (map spot_of tree.now.nodes.keys) at run }
-    requires next { (i : ℕ) (line : ALine) → slice_get lines.now i ≡ Some line → MayComeNext pace plan.now (spot_of_run run) line }
-    ensures { IfOk result (λ spots. map spot_of spots.items ≡ map (after plan.now (spot_of_run run)) lines.now) }
+    requires run { IsRunOf plan.now run.old }
+    requires there { IsListTo plan.now (spot_of node.now) count }
+    requires stands { StandsAt run.old (spot_of node.now) count }
+    requires room { count < plan.now.lines }
+    requires next { (i : ℕ) (line : ALine) → slice_get lines.now i ≡ Some line → MayComeNext pace plan.now (spot_of node.now) line }
+    ensures run { IsRunOf plan.now run.new }
+    ensures spots { IfOk result (λ spots. map spot_of spots.items ≡ map (after plan.now (spot_of node.now)) lines.now) }
 {
     let mut spots = Vec::with_capacity(alloc, lines.len())?;
-    let mut left = Some(run);
+    let mut is_there = true;
     for line in lines {
-        let here = run_at(alloc, plan, pace, tree, at, way, left.take())?;
-        let spot = spot_after(alloc, plan, pace, here, line)?;
+        go_back(run, plan, node, count, is_there);
+        let spot = spot_after(alloc, plan, pace, run, line)?;
         spots.push(spot)?;
+        is_there = false;
     }
     Ok(spots)
 }
 
 /// Spots for all that follows a node at a pace by a line that disturbs, or by one that doesn't, and for nothing
-/// else.
+/// else. The run is one that stands wherever it may.
 pub fn next_spots(
     alloc: Global,
     plan: &Plan,
     pace: Pace,
     actors: &[ActorId],
+    run: &mut Run,
     tree: &Tree<Spot>,
     at: usize,
-    way: &[usize],
+    count: u32,
     spends: bool,
 ) -> Result<Vec<Spot>, NoMemory>
     requires actors { actors.now ≡ all_actors plan.now }
+    requires run { IsRunOf plan.now run.old }
     requires within { at < length tree.now.nodes.keys }
     requires tree { IsTree (Follows pace plan.now) (start_spot plan.now) (map spot_of tree.now.nodes.keys) tree.now.parents.items }
-    requires way { IsWay tree.now.parents.items at way.now }
-    requires room { length way.now ≤ plan.now.lines }
-    ensures { IfOk result (λ spots. (p : Where) → slice_get (map spot_of tree.now.nodes.keys) at ≡ Some p → HasExactly (Follows pace plan.now spends p) (map spot_of spots.items)) }
+    requires way { HasWay tree.now.parents.items at count }
+    requires room { count < plan.now.lines }
+    ensures run { IsRunOf plan.now run.new }
+    ensures spots { IfOk result (λ spots. (p : Where) → slice_get (map spot_of tree.now.nodes.keys) at ≡ Some p → HasExactly (Follows pace plan.now spends p) (map spot_of spots.items)) }
 {
     next_spots_are_all();
-    let run = replay(alloc, plan, pace, tree, at, way)?;
-    let lines = lines_of(alloc, plan, pace, actors, &run, spends)?;
-    let spots = spots_after(alloc, plan, pace, tree, at, way, run, lines.as_slice())?;
+    times_are_near();
+    let Some(node) = tree.nodes.get_index(at) else {
+        unreachable!();
+    };
+    run.stand_at(plan, node, count);
+    let lines = lines_of(alloc, plan, pace, actors, run, spends)?;
+    let spots = spots_after(alloc, plan, pace, run, node, count, lines.as_slice())?;
     Ok(spots)
 }

@@ -5,12 +5,13 @@ ghost use Rattle.pm_model.specs.declared.event.Line.{Line as ALine};
 ghost use Rattle.pm_orders.specs.Spots.{MayFollow, code_of, start_spot};
 ghost use Rattle.pm_spot.specs.SpotOf.{spot_of};
 ghost use Rattle.pm_state.specs.Standing.{IsActor};
-ghost use Rattle.pm_ways.specs.Runs.{IsRunOf, Took, spot_of_run};
+ghost use Rattle.pm_ways.specs.Runs.{IsListTo, IsRunOf, StandsAt, Took, spot_of_run};
 
 use pm_base::{ActorId, NoMemory};
 use pm_book::{all_stand_well, each_line_fits, each_line_is_taken, offered};
-use pm_law_bounds::lines_are_bounded;
+use pm_law_bounds::{due_moments, lines_are_bounded};
 use pm_law_counts::sizes;
+use pm_law_stacks::{delays_are_bounded, stacks_are_shallow};
 use pm_model::{Event, Line, Move, Plan};
 use pm_spot::Spot;
 use pm_state::State;
@@ -117,5 +118,25 @@ impl Run {
         sizes();
         let last = self.last;
         Spot::of(alloc, plan, &self.state, last.time, last.actor, last.code)
+    }
+    /// It stands where a lawful list of so many lines does. It takes no memory.
+    pub fn stand_at(&mut self, plan: &Plan, node: &Spot, lines: u32)
+        requires run { IsRunOf plan.now self.old }
+        requires there { IsListTo plan.now (spot_of node.now) lines }
+        ensures run { IsRunOf plan.now self.new }
+        ensures stands { StandsAt self.new (spot_of node.now) lines }
+    {
+        sizes();
+        due_moments();
+        delays_are_bounded();
+        stacks_are_shallow();
+        lines_are_bounded();
+        node.fill(plan, &mut self.state);
+        self.last = Last {
+            time: node.time,
+            actor: node.last,
+            code: node.code,
+        };
+        self.lines = lines;
     }
 }

@@ -43,11 +43,12 @@ pub fn all_orders(
 {
     orders_are_ways();
     let all = actors(alloc, plan)?;
-    let start = Run::start(alloc, plan)?.spot(alloc, plan)?;
+    let mut run = Run::start(alloc, plan)?;
+    let start = run.spot(alloc, plan)?;
     let graph = PaceGraph {
         plan,
         pace,
         actors: all.as_slice(),
     };
-    Ok(search(alloc, &graph, start, most, limit))
+    Ok(search(alloc, &graph, &mut run, start, most, limit))
 }

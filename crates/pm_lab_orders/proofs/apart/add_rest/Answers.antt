@@ -1,4 +1,4 @@
-use Rattle.std.proofs.Common.{◌∙◌, ap, subst, sym}
+use Rattle.std.proofs.Common.{◌∙◌, subst, sym}
 use Rattle.pm_islands.specs.Numbers.{island_in}
 use Rattle.pm_lab_orders.specs.Apart.{IsAdded}
 use Rattle.pm_lab_orders.proofs.ApartLemmas.{no_rest, rest_there}

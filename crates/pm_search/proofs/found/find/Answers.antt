@@ -59,27 +59,31 @@ loop-k-init g c =
     let first : IsAmong alone (length alone) start = subst (λ l. IsAmong l (length l) start) (sym is) among in
     let led : IsLed F 0 alone c.add.new.tree.parents.items = subst (IsLed F 0 alone) (sym e.1) (subst (λ l. IsLed F 0 l (0 ∷ [])) (sym is) (led_first F start)) in
     let ends : c.push.new.self.items ≡ length all ∷ [] = c.in_ok-push.ensures.items ∙ ap (λ l. l ++ c.len.result ∷ []) c.requires.no_rounds ∙ ap (λ n. n ∷ []) (c.len.ensures.len ∙ sym (length-map c.settle.new.tree.nodes.keys f)) in
-    round_begins F start all c.settle.new.tree.parents.items c.push.new.self.items c.settle.ensures.tree (IsAmong-grows (λ y. Unit {0}) alone all start c.settle.ensures.points first) (c.settle.ensures.led 0 led) c.in_ok-settle.ensures.spread ends
+    record {
+      ready = c.settle.ensures.ready;
+      round =
+          round_begins F start all c.settle.new.tree.parents.items c.push.new.self.items c.settle.ensures.tree (IsAmong-grows (λ y. Unit {0}) alone all start c.settle.ensures.points first) (c.settle.ensures.led 0 led) c.in_ok-settle.ensures.spread ends;
+    }
 
 pub returns-in_err-spend-clause-rounds : goal.returns-in_err-spend-clause-rounds
 returns-in_err-spend-clause-rounds g c =
     let f = g.G.Graph.point c.args.graph.now in
-    exacts_kept (g.G.Graph.Follows c.args.graph.now) (g.G.Graph.start c.args.graph.now) (map f c.loop-k.tree.nodes.keys) (map f c.spend.new.tree.nodes.keys) c.loop-k.rounds.items c.spend.ensures.points c.loop-k.invariant.exact
+    exacts_kept (g.G.Graph.Follows c.args.graph.now) (g.G.Graph.start c.args.graph.now) (map f c.loop-k.tree.nodes.keys) (map f c.spend.new.tree.nodes.keys) c.loop-k.rounds.items c.spend.ensures.points c.loop-k.invariant.round.exact
 
 pub returns-in_err-spend-clause-led : goal.returns-in_err-spend-clause-led
 returns-in_err-spend-clause-led g c =
     let f = g.G.Graph.point c.args.graph.now in
-    leds_kept (g.G.Graph.Follows c.args.graph.now) (g.G.Graph.start c.args.graph.now) (map f c.loop-k.tree.nodes.keys) (map f c.spend.new.tree.nodes.keys) c.loop-k.tree.parents.items c.spend.new.tree.parents.items c.loop-k.rounds.items c.spend.ensures.points c.spend.ensures.parents c.loop-k.invariant.ways
+    leds_kept (g.G.Graph.Follows c.args.graph.now) (g.G.Graph.start c.args.graph.now) (map f c.loop-k.tree.nodes.keys) (map f c.spend.new.tree.nodes.keys) c.loop-k.tree.parents.items c.spend.new.tree.parents.items c.loop-k.rounds.items c.spend.ensures.points c.spend.ensures.parents c.loop-k.invariant.round.ways
 
 pub returns-then-len-end-clause-rounds : goal.returns-then-len-end-clause-rounds
 returns-then-len-end-clause-rounds g c =
     let f = g.G.Graph.point c.args.graph.now in
-    exacts_kept (g.G.Graph.Follows c.args.graph.now) (g.G.Graph.start c.args.graph.now) (map f c.loop-k.tree.nodes.keys) (map f c.spend.new.tree.nodes.keys) c.loop-k.rounds.items c.spend.ensures.points c.loop-k.invariant.exact
+    exacts_kept (g.G.Graph.Follows c.args.graph.now) (g.G.Graph.start c.args.graph.now) (map f c.loop-k.tree.nodes.keys) (map f c.spend.new.tree.nodes.keys) c.loop-k.rounds.items c.spend.ensures.points c.loop-k.invariant.round.exact
 
 pub returns-then-len-end-clause-led : goal.returns-then-len-end-clause-led
 returns-then-len-end-clause-led g c =
     let f = g.G.Graph.point c.args.graph.now in
-    leds_kept (g.G.Graph.Follows c.args.graph.now) (g.G.Graph.start c.args.graph.now) (map f c.loop-k.tree.nodes.keys) (map f c.spend.new.tree.nodes.keys) c.loop-k.tree.parents.items c.spend.new.tree.parents.items c.loop-k.rounds.items c.spend.ensures.points c.spend.ensures.parents c.loop-k.invariant.ways
+    leds_kept (g.G.Graph.Follows c.args.graph.now) (g.G.Graph.start c.args.graph.now) (map f c.loop-k.tree.nodes.keys) (map f c.spend.new.tree.nodes.keys) c.loop-k.tree.parents.items c.spend.new.tree.parents.items c.loop-k.rounds.items c.spend.ensures.points c.spend.ensures.parents c.loop-k.invariant.round.ways
 
 pub returns-then-len-end-clause-whole : goal.returns-then-len-end-clause-whole
 returns-then-len-end-clause-whole g c is =
@@ -88,7 +92,7 @@ returns-then-len-end-clause-whole g c is =
     let mid = map f c.spend.new.tree.nodes.keys in
     let same : length mid ≡ length old = length-map c.spend.new.tree.nodes.keys f ∙ sym c.len-in-loop-k.ensures.len ∙ c.if-len-end.true ∙ c.len-end.ensures.len ∙ sym (length-map c.loop-k.tree.nodes.keys f) in
     round_whole (g.G.Graph.Follows c.args.graph.now) (g.G.Graph.start c.args.graph.now) c.loop-k.k old mid c.loop-k.tree.parents.items c.spend.new.tree.parents.items c.loop-k.spent c.loop-k.rounds.items
-    c.loop-k.invariant c.spend.ensures.points c.spend.ensures.tree (c.spend.ensures.led c.loop-k.k c.loop-k.invariant.led) c.in_ok-spend.ensures.spread same
+    c.loop-k.invariant.round c.spend.ensures.points c.spend.ensures.tree (c.spend.ensures.led c.loop-k.k c.loop-k.invariant.round.led) c.in_ok-spend.ensures.spread same
 
 pub settle-requires-in-loop-k-clause-spread : goal.settle-requires-in-loop-k-clause-spread
 settle-requires-in-loop-k-clause-spread g c =
@@ -97,7 +101,7 @@ settle-requires-in-loop-k-clause-spread g c =
     let old = map f c.loop-k.tree.nodes.keys in
     let mid = map f c.spend.new.tree.nodes.keys in
     let end : c.len-end.result ≡ length old = c.len-end.ensures.len ∙ sym (length-map c.loop-k.tree.nodes.keys f) in
-    subst (λ n. AreSpread F false n mid) (sym end) (spread_kept F false (length old) old mid c.spend.ensures.points (omega arith) c.loop-k.invariant.free)
+    subst (λ n. AreSpread F false n mid) (sym end) (spread_kept F false (length old) old mid c.spend.ensures.points (omega arith) c.loop-k.invariant.round.free)
 
 pub settle-requires-in-loop-k-clause-within : goal.settle-requires-in-loop-k-clause-within
 settle-requires-in-loop-k-clause-within g c =
@@ -112,7 +116,7 @@ returns-in_err-settle-2-clause-rounds g c =
     let old = map f c.loop-k.tree.nodes.keys in
     let mid = map f c.spend.new.tree.nodes.keys in
     let new = map f c.settle-in-loop-k.new.tree.nodes.keys in
-    exacts_kept F start mid new c.loop-k.rounds.items c.settle-in-loop-k.ensures.points (exacts_kept F start old mid c.loop-k.rounds.items c.spend.ensures.points c.loop-k.invariant.exact)
+    exacts_kept F start mid new c.loop-k.rounds.items c.settle-in-loop-k.ensures.points (exacts_kept F start old mid c.loop-k.rounds.items c.spend.ensures.points c.loop-k.invariant.round.exact)
 
 pub returns-in_err-settle-2-clause-led : goal.returns-in_err-settle-2-clause-led
 returns-in_err-settle-2-clause-led g c =
@@ -124,7 +128,7 @@ returns-in_err-settle-2-clause-led g c =
     let new = map f c.settle-in-loop-k.new.tree.nodes.keys in
     let mids = c.spend.new.tree.parents.items in
     leds_kept F start mid new mids c.settle-in-loop-k.new.tree.parents.items c.loop-k.rounds.items c.settle-in-loop-k.ensures.points c.settle-in-loop-k.ensures.parents
-    (leds_kept F start old mid c.loop-k.tree.parents.items mids c.loop-k.rounds.items c.spend.ensures.points c.spend.ensures.parents c.loop-k.invariant.ways)
+    (leds_kept F start old mid c.loop-k.tree.parents.items mids c.loop-k.rounds.items c.spend.ensures.points c.spend.ensures.parents c.loop-k.invariant.round.ways)
 
 pub returns-in_err-push-2-clause-rounds : goal.returns-in_err-push-2-clause-rounds
 returns-in_err-push-2-clause-rounds g c =
@@ -135,7 +139,7 @@ returns-in_err-push-2-clause-rounds g c =
     let mid = map f c.spend.new.tree.nodes.keys in
     let new = map f c.settle-in-loop-k.new.tree.nodes.keys in
     subst (AreExact F start new) (sym c.in_err-push-2.ensures.items)
-    (exacts_kept F start mid new c.loop-k.rounds.items c.settle-in-loop-k.ensures.points (exacts_kept F start old mid c.loop-k.rounds.items c.spend.ensures.points c.loop-k.invariant.exact))
+    (exacts_kept F start mid new c.loop-k.rounds.items c.settle-in-loop-k.ensures.points (exacts_kept F start old mid c.loop-k.rounds.items c.spend.ensures.points c.loop-k.invariant.round.exact))
 
 pub returns-in_err-push-2-clause-led : goal.returns-in_err-push-2-clause-led
 returns-in_err-push-2-clause-led g c =
@@ -149,7 +153,7 @@ returns-in_err-push-2-clause-led g c =
     let news = c.settle-in-loop-k.new.tree.parents.items in
     subst (AreLed F new news) (sym c.in_err-push-2.ensures.items)
     (leds_kept F start mid new mids news c.loop-k.rounds.items c.settle-in-loop-k.ensures.points c.settle-in-loop-k.ensures.parents
-    (leds_kept F start old mid c.loop-k.tree.parents.items mids c.loop-k.rounds.items c.spend.ensures.points c.spend.ensures.parents c.loop-k.invariant.ways))
+    (leds_kept F start old mid c.loop-k.tree.parents.items mids c.loop-k.rounds.items c.spend.ensures.points c.spend.ensures.parents c.loop-k.invariant.round.ways))
 
 pub loop-k-preserved : goal.loop-k-preserved
 loop-k-preserved g c =
@@ -163,7 +167,8 @@ loop-k-preserved g c =
     let end : c.len-end.result ≡ length old = c.len-end.ensures.len ∙ sym (length-map c.loop-k.tree.nodes.keys f) in
     let ends : c.push-in-loop-k.new.self.items ≡ c.loop-k.rounds.items ++ length new ∷ [] =
     c.in_ok-push-2.ensures.items ∙ ap (λ n. c.loop-k.rounds.items ++ n ∷ []) (c.len-in-loop-k-2.ensures.len ∙ sym (length-map c.settle-in-loop-k.new.tree.nodes.keys f)) in
-    let led = c.settle-in-loop-k.ensures.led (c.loop-k.k + 1) (c.spend.ensures.led c.loop-k.k c.loop-k.invariant.led) in
-    subst (λ n. Round F start (c.loop-k.k + 1) new news n c.push-in-loop-k.new.self.items) (sym end)
-    (round_goes_on F start c.loop-k.k old mid new c.loop-k.tree.parents.items c.spend.new.tree.parents.items news c.loop-k.spent c.loop-k.rounds.items c.push-in-loop-k.new.self.items c.loop-k.invariant
-    c.spend.ensures.points c.spend.ensures.parents c.in_ok-spend.ensures.spread c.settle-in-loop-k.ensures.tree c.settle-in-loop-k.ensures.points c.settle-in-loop-k.ensures.parents led c.in_ok-settle-2.ensures.spread ends)
+    let led = c.settle-in-loop-k.ensures.led (c.loop-k.k + 1) (c.spend.ensures.led c.loop-k.k c.loop-k.invariant.round.led) in
+    record {
+      ready = c.settle-in-loop-k.ensures.ready;
+      round = subst (λ n. Round F start (c.loop-k.k + 1) new news n c.push-in-loop-k.new.self.items) (sym end) (round_goes_on F start c.loop-k.k old mid new c.loop-k.tree.parents.items c.spend.new.tree.parents.items news c.loop-k.spent c.loop-k.rounds.items c.push-in-loop-k.new.self.items c.loop-k.invariant.round c.spend.ensures.points c.spend.ensures.parents c.in_ok-spend.ensures.spread c.settle-in-loop-k.ensures.tree c.settle-in-loop-k.ensures.points c.settle-in-loop-k.ensures.parents led c.in_ok-settle-2.ensures.spread ends);
+    }

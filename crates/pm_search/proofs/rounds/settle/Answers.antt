@@ -22,6 +22,7 @@ loop-at-preserved g c =
     let kept : IsKept old new = Grows-map (F false p.0) (λ y. Unit {0}) old new (λ y s. tt) (c.spread.ensures.points p.0 p.1) in
     let kepts : IsKept olds news = Grows-map (λ y. y ≡ c.loop-at.at) (λ y. Unit {0}) olds news (λ y s. tt) c.spread.ensures.parents in
     record {
+      ready = c.spread.ensures.ready;
       tree = c.spread.ensures.tree;
       within = omega (arith, lt, kept.longer);
       spread = spread_next F false c.loop-at.at old new kept lt inv.spread c.in_ok-spread.ensures.spread;

@@ -11,6 +11,7 @@ loop-at-init g c =
     let f = g.G.Graph.point c.args.graph.now in
     let first = map f c.args.tree.now.nodes.keys in
     record {
+      ready = c.requires.ready;
       tree = c.requires.tree;
       within = c.requires.within;
       spread = c.requires.spread;
@@ -36,6 +37,7 @@ loop-at-preserved g c =
     let kept : IsKept old new = Grows-map (F true p.0) (λ y. Unit {0}) old new (λ y s. tt) (c.spread.ensures.points p.0 p.1) in
     let kepts : IsKept olds news = Grows-map (λ y. y ≡ c.loop-at.at) (λ y. Unit {0}) olds news (λ y s. tt) c.spread.ensures.parents in
     record {
+      ready = c.spread.ensures.ready;
       tree = c.spread.ensures.tree;
       within = omega (arith, early);
       spread = spread_next F true c.loop-at.at old new kept lt inv.spread c.in_ok-spread.ensures.spread;

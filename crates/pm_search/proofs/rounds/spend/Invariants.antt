@@ -5,6 +5,7 @@ use Rattle.pm_search.proofs.rounds.spend.Given as goal
 
 abbrev pub invariant-loop-at : goal.invariant-loop-at
 invariant-loop-at g l = record {
+  ready : g.G.Graph.IsReady l.graph l.scratch;
   tree : IsTree (g.G.Graph.Follows l.graph) (g.G.Graph.start l.graph) (map (g.G.Graph.point l.graph) l.tree.nodes.keys) l.tree.parents.items;
   within : l.at ≤ length (map (g.G.Graph.point l.graph) l.fn.tree.nodes.keys);
   spread : AreSpread (g.G.Graph.Follows l.graph) true l.at (map (g.G.Graph.point l.graph) l.tree.nodes.keys);

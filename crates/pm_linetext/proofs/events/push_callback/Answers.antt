@@ -1,6 +1,0 @@
--- The pieces, one after another.
-use Rattle.std.proofs.Common.{append_assoc}
-use Rattle.pm_linetext.proofs.events.push_callback.Goals as goal
-
-pub returns : goal.returns
-returns g c = rw (c.push_cb.ensures, c.push.ensures, c.push_device.ensures) (simp append_assoc)
