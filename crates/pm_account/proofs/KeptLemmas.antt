@@ -20,7 +20,7 @@ until_later stay from to past later =
     let parts : to - stay.since ≡ (from - stay.since) + (to - from) = omega arith in
     ap (λ ms. longer stay.status ms stay.before) parts ∙ longer_more stay.status (from - stay.since) (to - from) stay.before
 
-turned_is_ready : (stay : Stay) (s : Status) (t : ℕ) → IsReady t stay → IsReady t (turned stay s t)
+pub turned_is_ready : (stay : Stay) (s : Status) (t : ℕ) → IsReady t stay → IsReady t (turned stay s t)
 turned_is_ready stay s t ready = record {
   past = omega arith;
   whole =
@@ -28,7 +28,7 @@ turned_is_ready stay s t ready = record {
       omega (arith, longer_total, ready.whole, ready.past);
 }
 
-ready_later : (stay : Stay) (from to : ℕ) → from ≤ to → IsReady from stay → IsReady to stay
+pub ready_later : (stay : Stay) (from to : ℕ) → from ≤ to → IsReady from stay → IsReady to stay
 ready_later stay from to later ready = record { past = omega (arith, ready.past); whole = ready.whole }
 
 said_or : Option Status → Status → Status
@@ -67,7 +67,7 @@ kept_behind line h d stay late kept = go (says_status d line.event) (status_now 
     }
     go None is = record { status = kept.status ∙ sym is; ready = ready; times = times }
 
-all_kept_behind : (devices : ℕ) (line : Line) (h : History) (stays after : List Stay) → last_time h ≤ line.time → AreKept devices h stays
+pub all_kept_behind : (devices : ℕ) (line : Line) (h : History) (stays after : List Stay) → last_time h ≤ line.time → AreKept devices h stays
     → length after ≡ length stays → ((d : DevId) → d.0 < length stays → stay_at after d ≡ behind line d (stay_at stays d))
     → AreKept devices (line ∷ h) after
 all_kept_behind devices line h stays after late kept same each = record {

@@ -1,2 +1,3 @@
 pub mod TimesLemmas
 pub mod KeptLemmas
+pub mod AllKeptLemmas

@@ -8,15 +8,18 @@ ghost use Rattle.pm_model.specs.History.{History};
 ghost use Rattle.pm_model.specs.Lawful.{IsLawful, last_time};
 ghost use Rattle.pm_account.specs.Account.{IsAccount};
 ghost use Rattle.pm_account.specs.Kept.{AreKept, IsReady, until};
+ghost use Rattle.pm_account.specs.AllKept.{AreTimes, Stayed, account_of};
 ghost use Rattle.pm_account.specs.Times.{active, moving, suspended};
 
 mod shown;
 mod stay;
+mod stays;
 mod texts;
 
 use pm_base::NoMemory;
 use pm_model::{Line, Plan};
 use stay::{Stay, UNSAID, keep};
+pub use stays::Stays;
 use std::alloc::Global;
 pub use texts::times_text;
 
@@ -33,6 +36,11 @@ pub struct Times {
 /// The three times of a device add up to the time of the last line.
 pub fn times_add_up()
     ensures { (plan : Plan) (h : History) (d : DevId) → IsLawful plan h → active h d + suspended h d + moving h d ≡ last_time h }
+{}
+
+/// What is kept of all devices of a plan gives the times of each.
+pub fn stays_are_account()
+    ensures { (plan : Plan) (h : History) (s : Stayed) → AreTimes s h → length s.stays ≡ length plan.devices → IsAccount plan h (account_of s) }
 {}
 
 // What is kept of each device after these lines.

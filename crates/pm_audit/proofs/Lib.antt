@@ -3,3 +3,4 @@ pub mod Spelled
 pub mod Newlines
 pub mod Taking
 pub mod Telling
+pub mod Following

@@ -11,7 +11,6 @@ use Rattle.pm_model.specs.Text.{IsTextBehind}
 use Rattle.pm_law_texts.proofs.Formats.{line_is}
 use Rattle.pm_state.specs.Standing.{IsActor}
 use Rattle.pm_book.specs.Judging.{JudgeStandsFor, Judged}
-use Rattle.pm_book.specs.Takings.{TakerStandsFor, Takings}
 use Rattle.pm_audit.specs.Auditing.{IsRead}
 
 -- a line of a plan is by an actor of it, at a time below 2^63
@@ -45,7 +44,7 @@ pub read_text : (f : Bool) (judge : Judged) (h : List Line) (piece : List ℕ) �
     → (line : Line) → IsTextBehind f judge.plan (last_time h) line piece → ⊥
 read_text f judge h piece stands none = subst (λ n. (line : Line) → IsTextBehind f judge.plan n line piece → ⊥) stands.last_is none
 
-pub read_ok : (f : Bool) (judge : Judged) (after : Takings) (h : List Line) (line : Line) (piece : List ℕ) → JudgeStandsFor judge h → IsTextBehind f judge.plan judge.last line piece
-    → (length h < judge.plan.lines) × Permits judge.plan h line → TakerStandsFor after (line ∷ h) → IsRead f judge.plan h piece after None
-read_ok f judge after h line piece stands spelled answer taken =
+pub read_ok : (f : Bool) (judge : Judged) (After : List Line → Type 0) (h : List Line) (line : Line) (piece : List ℕ) → JudgeStandsFor judge h → IsTextBehind f judge.plan judge.last line piece
+    → (length h < judge.plan.lines) × Permits judge.plan h line → After (line ∷ h) → IsRead f judge.plan h piece After None
+read_ok f judge After h line piece stands spelled answer taken =
     (record { line = line; spelled = behind f judge h line piece stands spelled; permits = answer.1; room = answer.0 }, taken)

@@ -16,7 +16,7 @@ use Rattle.pm_model.specs.Text.{IsTextBehind}
 use Rattle.pm_law_texts.proofs.Behind.{format_kept, header_line, piece_behind}
 use Rattle.pm_law_texts.proofs.Bytes.{none_empty}
 use Rattle.pm_law_texts.proofs.Formats.{IsTextIn, only_list, stands_for, text_by_format, text_more}
-use Rattle.pm_book.specs.Takings.{TakerStandsFor, Takings}
+use Rattle.pm_audit.specs.Readings.{ReaderStandsFor, Reading}
 use Rattle.pm_audit.specs.Auditing.{IsBad, IsGood, IsRead, IsRest, IsTaken, IsToldBy, reason_of, rest_with}
 use Rattle.pm_audit.specs.declared.reading.Format.{Format}
 use Rattle.pm_audit.specs.declared.reading.Format.TheVariants as format
@@ -80,9 +80,9 @@ told_after format.Untold whole piece is told = absurd (told refl)
 told_after format.One whole piece is told = (λ none. none_empty whole piece none, is)
 told_after format.Two whole piece is told = (λ none. none_empty whole piece none, is)
 
-taken_by : (plan : Plan) (whole piece : List ℕ) (h : List Line) (f : Format) (two : Bool) (taker after : Takings) (f' : Format) (r : Option NoWhy) → IsGood plan taker f whole h → is_within_line piece ≡ true
-    → StaysTold whole piece two → two ≡ is_two f' → (f' ≡ format.Untold → ⊥) → IsRead two plan h piece after r → IsTaken plan whole h piece f' after r
-taken_by plan whole piece h f two taker after f' None good within told same some (next, judged) =
+taken_by : {A : Type 0} (S : A → List Line → Type 0) (plan : Plan) (whole piece : List ℕ) (h : List Line) (f : Format) (two : Bool) (taker after : Reading A) (f' : Format) (r : Option NoWhy) → IsGood S plan taker f whole h → is_within_line piece ≡ true
+    → StaysTold whole piece two → two ≡ is_two f' → (f' ≡ format.Untold → ⊥) → IsRead two plan h piece (ReaderStandsFor S after) r → IsTaken S plan whole h piece f' after r
+taken_by S plan whole piece h f two taker after f' None good within told same some (next, judged) =
     let text = text_more two plan whole piece next.line h (subst (λ b. IsTextIn b plan whole h) told.0 (text_by_format plan whole h good.stands)) next.spelled in (
       next.line ∷ h,
       record {
@@ -92,35 +92,35 @@ taken_by plan whole piece h f two taker after f' None good within told same some
         told = told_after f' whole piece (told.1 [] ∙ same) some;
       },
     )
-taken_by plan whole piece h f two taker after f' (Some w) good within told same some bad = λ more.
+taken_by S plan whole piece h f two taker after f' (Some w) good within told same some bad = λ more.
     why_bad plan whole piece more h two w good.lawful good.stands within told.0 (told.1 more) bad
 
 -- by what is read, in each format
-pub take_first : (plan : Plan) (whole piece : List ℕ) (h : List Line) (taker after : Takings) (r : Option NoWhy) → IsGood plan taker format.Untold whole h → is_within_line piece ≡ true → piece ≢ word
-    → IsRead false plan h piece after r → IsTaken plan whole h piece format.One after r
-take_first plan whole piece h taker after r good within other read =
-    taken_by plan whole piece h format.Untold false taker after format.One r good within (none_told whole piece good.told within other) refl (λ e. cc e) read
+pub take_first : {A : Type 0} (S : A → List Line → Type 0) (plan : Plan) (whole piece : List ℕ) (h : List Line) (taker after : Reading A) (r : Option NoWhy) → IsGood S plan taker format.Untold whole h → is_within_line piece ≡ true → piece ≢ word
+    → IsRead false plan h piece (ReaderStandsFor S after) r → IsTaken S plan whole h piece format.One after r
+take_first S plan whole piece h taker after r good within other read =
+    taken_by S plan whole piece h format.Untold false taker after format.One r good within (none_told whole piece good.told within other) refl (λ e. cc e) read
 
-pub take_one : (plan : Plan) (whole piece : List ℕ) (h : List Line) (taker after : Takings) (r : Option NoWhy) → IsGood plan taker format.One whole h → is_within_line piece ≡ true
-    → IsRead false plan h piece after r → IsTaken plan whole h piece format.One after r
-take_one plan whole piece h taker after r good within read =
-    taken_by plan whole piece h format.One false taker after format.One r good within (some_told plan whole piece h false good.stands good.told.0 good.told.1) refl (λ e. cc e) read
+pub take_one : {A : Type 0} (S : A → List Line → Type 0) (plan : Plan) (whole piece : List ℕ) (h : List Line) (taker after : Reading A) (r : Option NoWhy) → IsGood S plan taker format.One whole h → is_within_line piece ≡ true
+    → IsRead false plan h piece (ReaderStandsFor S after) r → IsTaken S plan whole h piece format.One after r
+take_one S plan whole piece h taker after r good within read =
+    taken_by S plan whole piece h format.One false taker after format.One r good within (some_told plan whole piece h false good.stands good.told.0 good.told.1) refl (λ e. cc e) read
 
-pub take_two : (plan : Plan) (whole piece : List ℕ) (h : List Line) (taker after : Takings) (r : Option NoWhy) → IsGood plan taker format.Two whole h → is_within_line piece ≡ true
-    → IsRead true plan h piece after r → IsTaken plan whole h piece format.Two after r
-take_two plan whole piece h taker after r good within read =
-    taken_by plan whole piece h format.Two true taker after format.Two r good within (some_told plan whole piece h true good.stands good.told.0 good.told.1) refl (λ e. cc e) read
+pub take_two : {A : Type 0} (S : A → List Line → Type 0) (plan : Plan) (whole piece : List ℕ) (h : List Line) (taker after : Reading A) (r : Option NoWhy) → IsGood S plan taker format.Two whole h → is_within_line piece ≡ true
+    → IsRead true plan h piece (ReaderStandsFor S after) r → IsTaken S plan whole h piece format.Two after r
+take_two S plan whole piece h taker after r good within read =
+    taken_by S plan whole piece h format.Two true taker after format.Two r good within (some_told plan whole piece h true good.stands good.told.0 good.told.1) refl (λ e. cc e) read
 
 -- the header
-took_header : (plan : Plan) (taker : Takings) → TakerStandsFor taker [] → IsGood plan taker format.Two (word ++ newline) []
-took_header plan taker judged = record { lawful = tt; taken = judged; stands = inr (refl, tt, refl); told = (λ none. cc none, refl) }
+took_header : {A : Type 0} (S : A → List Line → Type 0) (plan : Plan) (taker : Reading A) → ReaderStandsFor S taker [] → IsGood S plan taker format.Two (word ++ newline) []
+took_header S plan taker judged = record { lawful = tt; taken = judged; stands = inr (refl, tt, refl); told = (λ none. cc none, refl) }
 
-pub take_header : (plan : Plan) (whole piece : List ℕ) (h : List Line) (taker : Takings) → IsGood plan taker format.Untold whole h → piece ≡ word → IsTaken plan whole h piece format.Two taker None
-take_header plan whole piece h taker good is =
+pub take_header : {A : Type 0} (S : A → List Line → Type 0) (plan : Plan) (whole piece : List ℕ) (h : List Line) (taker : Reading A) → IsGood S plan taker format.Untold whole h → piece ≡ word → IsTaken S plan whole h piece format.Two taker None
+take_header S plan whole piece h taker good is =
     let none : whole ≡ [] = good.told in
     let empty : h ≡ [] = only_list plan [] h [] (subst (λ (w : List ℕ). StandsFor plan w h) none good.stands) (inl (refl, refl)) in
-    let Good : List ℕ → List ℕ → Type 0 = λ w p. IsGood plan taker format.Two (w ++ (p ++ newline)) [] in
-    let at_none : Good [] word = took_header plan taker (subst (λ (l : List Line). TakerStandsFor taker l) empty good.taken) in
+    let Good : List ℕ → List ℕ → Type 0 = λ w p. IsGood S plan taker format.Two (w ++ (p ++ newline)) [] in
+    let at_none : Good [] word = took_header S plan taker (subst (λ (l : List Line). ReaderStandsFor S taker l) empty good.taken) in
     ([], subst (λ w. Good w piece) (sym none) (subst (λ p. Good [] p) (sym is) at_none))
 
 -- a line that is longer than a rest that is kept
@@ -128,9 +128,9 @@ text_within : (two : Bool) (plan : Plan) (base : ℕ) (line : Line) (piece : Lis
 text_within true plan base line piece (is, later, same) = subst (λ (p : List ℕ). length p ≤ TEXT_BYTES) same (text_len plan line (line.time - base) is (omega arith))
 text_within false plan base line piece (is, same) = subst (λ (p : List ℕ). length p ≤ TEXT_BYTES) same (text_len plan line line.time is (omega arith))
 
-pub take_long : (plan : Plan) (whole line : List ℕ) (h : List Line) (f f' : Format) (taker after : Takings) → IsGood plan taker f whole h → is_within_line line ≡ true → REST_BYTES < length line
-    → IsTaken plan whole h line f' after (Some why.Text)
-take_long plan whole line h f f' taker after good within long =
+pub take_long : {A : Type 0} (S : A → List Line → Type 0) (plan : Plan) (whole line : List ℕ) (h : List Line) (f f' : Format) (taker after : Reading A) → IsGood S plan taker f whole h → is_within_line line ≡ true → REST_BYTES < length line
+    → IsTaken S plan whole h line f' after (Some why.Text)
+take_long S plan whole line h f f' taker after good within long =
     let other : line ≢ word = λ is. let same = ap length is in absurd (omega (arith, same, long)) in
     let told = stays_told plan whole line h f good.stands good.told within other in
     λ more.

@@ -1,5 +1,5 @@
 -- For which bytes an auditor stands, and what it says of them (this project's own). Lists have the newest line first.
-use Rattle.std.specs.Prelude.{ℕ, suc, ◌≡◌, ◌≢◌, ◌<◌, ◌≤◌, Bool, true, false, List, [], ◌∷◌, ◌++◌, Option, Some, None, IfNone, length, nat_le, if◌then◌else◌}
+use Rattle.std.specs.Prelude.{ℕ, suc, ◌≡◌, ◌≢◌, ◌<◌, ◌≤◌, Bool, true, false, List, [], ◌∷◌, ◌++◌, Option, Some, None, length, nat_le, if◌then◌else◌}
 use Rattle.pm_model.specs.declared.event.Line.{Line}
 use Rattle.pm_model.specs.declared.plan.Plan.{Plan}
 use Rattle.pm_model.specs.FirstBad.{StandsFor, is_format2}
@@ -10,7 +10,6 @@ use Rattle.pm_model.specs.Spelling.{newline}
 use Rattle.pm_model.specs.Text.{IsTextBehind}
 use Rattle.pm_model.specs.Verdict as verdicts
 use Rattle.pm_law_texts.specs.Next.{IsNext}
-use Rattle.pm_book.specs.Takings.{TakerStandsFor, Takings}
 use Rattle.pm_audit.specs.declared.auditor.Auditor.{Auditor}
 use Rattle.pm_audit.specs.declared.auditor.BadLine.{BadLine}
 use Rattle.pm_audit.specs.declared.auditor.Verdict.{Verdict}
@@ -20,6 +19,7 @@ use Rattle.pm_audit.specs.declared.reading.Format.TheVariants as format
 use Rattle.pm_audit.specs.declared.reading.NoWhy.{NoWhy}
 use Rattle.pm_audit.specs.declared.reading.NoWhy.TheVariants as why
 use Rattle.pm_audit.specs.declared.rest.TheConstants.{REST_BYTES}
+use Rattle.pm_audit.specs.Readings.{ReaderStandsFor, Reading}
 
 -- the reason, in the words of the definitions
 abbrev pub reason_of : NoWhy → model.NoWhy
@@ -65,56 +65,57 @@ IsBad f plan h piece why.Step = (line : Line) × IsTextBehind f plan (last_time 
 IsBad f plan h piece why.Time =
     (line : Line) × IsTextBehind f plan (last_time h) line piece × (length h < plan.lines) × IsPermittedSometime plan h line × (Permits plan h line → ⊥)
 
--- what is said of a piece behind a lawful list: nothing where it is the text of a line that may come next, and then the
--- taker stands for the list with that line, else why it is bad
-abbrev pub IsRead : Bool → Plan → List Line → List ℕ → Takings → Option NoWhy → Type 0
-IsRead f plan h piece after None = (next : IsNext f plan h piece) × TakerStandsFor after (next.line ∷ h)
-IsRead f plan h piece after (Some w) = IsBad f plan h piece w
+-- what is said of a piece behind a lawful list: nothing where it is the text of a line that may come next, and then what
+-- stands for lists stands for the one with that line, else why it is bad
+abbrev pub IsRead : Bool → Plan → List Line → List ℕ → (List Line → Type 0) → Option NoWhy → Type 0
+IsRead f plan h piece After None = (next : IsNext f plan h piece) × After (next.line ∷ h)
+IsRead f plan h piece After (Some w) = IsBad f plan h piece w
 
--- the bytes are whole lines that are the text of this lawful list, for which the taker stands; the first of them, if
+-- the bytes are whole lines that are the text of this lawful list, for which the reader stands; the first of them, if
 -- there is one, tells the format
-pub record IsGood (plan : Plan) (taker : Takings) (f : Format) (whole : List ℕ) (h : List Line) : Type 0 where
+pub record IsGood {A : Type 0} (Stands : A → List Line → Type 0) (plan : Plan) (reader : Reading A) (f : Format) (whole : List ℕ) (h : List Line) : Type 0 where
   pub lawful : IsLawful plan h
-  pub taken : TakerStandsFor taker h
+  pub taken : ReaderStandsFor Stands reader h
   pub stands : StandsFor plan whole h
   pub told : IsToldBy f whole
 
 -- what becomes of whole lines of this list with one more, of this piece: they are good still, or that line is bad for
 -- this reason, whatever bytes follow
-abbrev pub IsTaken : Plan → List ℕ → List Line → List ℕ → Format → Takings → Option NoWhy → Type 0
-IsTaken plan whole h piece f taker None = (k : List Line) × IsGood plan taker f (whole ++ (piece ++ newline)) k
-IsTaken plan whole h piece f taker (Some w) = (more : List ℕ) → IsWhy plan (whole ++ (piece ++ (newline ++ more))) (suc (length h)) (reason_of w)
+abbrev pub IsTaken : {A : Type 0} → (A → List Line → Type 0) → Plan → List ℕ → List Line → List ℕ → Format → Reading A → Option NoWhy → Type 0
+IsTaken Stands plan whole h piece f reader None = (k : List Line) × IsGood Stands plan reader f (whole ++ (piece ++ newline)) k
+IsTaken Stands plan whole h piece f reader (Some w) = (more : List ℕ) → IsWhy plan (whole ++ (piece ++ (newline ++ more))) (suc (length h)) (reason_of w)
 
 -- no whole line of the bytes is bad, and behind them is this rest, which no newline ends
-pub record IsGoodSoFar (a : Auditor) (bytes : List ℕ) : Type 0 where
+pub record IsGoodSoFar {A : Type 0} (Stands : A → List Line → Type 0) (a : Auditor A) (bytes : List ℕ) : Type 0 where
   pub whole : List ℕ
   pub list : List Line
   pub rest : List ℕ
   pub bytes_are : bytes ≡ whole ++ rest
-  pub good : IsGood a.reader.judge.plan a.reader a.format whole list
+  pub good : IsGood Stands a.reader.judge.plan a.reader a.format whole list
   pub within : is_within_line rest ≡ true
   pub kept : IsRest a.rest rest
 
-abbrev pub SaysOf : Auditor → Option BadLine → List ℕ → Type 0
-SaysOf a None bytes = IsGoodSoFar a bytes
-SaysOf a (Some bad) bytes = (more : List ℕ) → IsWhy a.reader.judge.plan (bytes ++ more) bad.line (reason_of bad.why)
+abbrev pub SaysOf : {A : Type 0} → (A → List Line → Type 0) → Auditor A → Option BadLine → List ℕ → Type 0
+SaysOf Stands a None bytes = IsGoodSoFar Stands a bytes
+SaysOf Stands a (Some bad) bytes = (more : List ℕ) → IsWhy a.reader.judge.plan (bytes ++ more) bad.line (reason_of bad.why)
 
--- An auditor stands for bytes: its taker stands for the list of their whole lines, and the rest that it keeps is theirs;
+-- An auditor stands for bytes: its reader stands for the list of their whole lines, and the rest that it keeps is theirs;
 -- or the first bad line of them is the one that it found, for that reason, whatever bytes follow.
-abbrev pub AuditorStandsFor : Auditor → List ℕ → Type 0
-AuditorStandsFor a bytes = SaysOf a a.bad bytes
+abbrev pub AuditorStandsFor : {A : Type 0} → (A → List Line → Type 0) → Auditor A → List ℕ → Type 0
+AuditorStandsFor Stands a bytes = SaysOf Stands a a.bad bytes
 
--- the bytes are the text of a lawful list, for which the taker stands: no line of theirs is bad, or lacks its newline
-pub record IsWhole (taker : Takings) (bytes : List ℕ) : Type 0 where
+-- the bytes are the text of a lawful list of the plan, for which this stands: no line of theirs is bad, or lacks its
+-- newline
+pub record IsWhole (plan : Plan) (Stands : List Line → Type 0) (bytes : List ℕ) : Type 0 where
   pub list : List Line
-  pub lawful : IsLawful taker.judge.plan list
-  pub stands : StandsFor taker.judge.plan bytes list
-  pub taken : TakerStandsFor taker list
+  pub lawful : IsLawful plan list
+  pub stands : StandsFor plan bytes list
+  pub taken : Stands list
 
 -- an auditor was fed a piece up to what is left of it
-pub record HasRead (piece left : List ℕ) (old new : Auditor) : Type 0 where
+pub record HasRead {A : Type 0} (Stands : A → List Line → Type 0) (piece left : List ℕ) (old new : Auditor A) : Type 0 where
   pub done : List ℕ
   pub split : piece ≡ done ++ left
-  pub stands : (b : List ℕ) → AuditorStandsFor old b → AuditorStandsFor new (b ++ done)
+  pub stands : (b : List ℕ) → AuditorStandsFor Stands old b → AuditorStandsFor Stands new (b ++ done)
   pub plan : new.reader.judge.plan ≡ old.reader.judge.plan
-  pub unkept : IfNone old.reader.kept (new.reader.kept ≡ None)
+  pub same : new.reader.subject ≡ old.reader.subject

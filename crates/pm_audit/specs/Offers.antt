@@ -1,5 +1,5 @@
 -- A line that may come next and is read by its text (this project's own). Lists have the newest line first.
-use Rattle.std.specs.Prelude.{ℕ, ◌≡◌, ◌<◌, ◌≤◌, ◌-◌, ◌^◌, ◌++◌, ◌∷◌, Bool, true, List, None, IfNone, if◌then◌else◌, length}
+use Rattle.std.specs.Prelude.{ℕ, ◌≡◌, ◌<◌, ◌≤◌, ◌-◌, ◌^◌, ◌++◌, ◌∷◌, Bool, true, List, None, if◌then◌else◌, length}
 use Rattle.pm_model.specs.declared.event.Line.{Line}
 use Rattle.pm_model.specs.declared.stage.Change.{Change}
 use Rattle.pm_model.specs.declared.stage.Then.{Then}
@@ -12,9 +12,9 @@ use Rattle.pm_model.specs.Text.{IsTextBehind}
 use Rattle.pm_state.specs.Standing.{IsActor}
 use Rattle.pm_book.specs.Judging.{Judged}
 use Rattle.pm_book.specs.Sometime.{Writes}
-use Rattle.pm_book.specs.Takings.{TakerStandsFor, Takings}
 use Rattle.pm_audit.specs.declared.offers.Start.{Start}
 use Rattle.pm_audit.specs.Auditing.{IsRead}
+use Rattle.pm_audit.specs.Readings.{ReaderStandsFor, Reading}
 
 -- the time from which the text of a line counts, in format 2 where that is true, behind one of time `last`
 abbrev pub base_of : Bool → ℕ → ℕ
@@ -45,9 +45,9 @@ pub record IsOffered (f : Bool) (j : Judged) (line : Line) (c : Change) (next : 
   pub writes : Writes j.plan j.world j.last line c next
 
 -- the line with which the bytes begin was taken
-pub record HasTakenFirst (f : Bool) (old new : Takings) (bytes behind : List ℕ) : Type 0 where
+pub record HasTakenFirst {A : Type 0} (Stands : A → List Line → Type 0) (f : Bool) (old new : Reading A) (bytes behind : List ℕ) : Type 0 where
   pub piece : List ℕ
   pub begins : BeginsWith bytes piece behind
-  pub read : (h : List Line) → IsLawful old.judge.plan h → TakerStandsFor old h → IsRead f old.judge.plan h piece new None
+  pub read : (h : List Line) → IsLawful old.judge.plan h → ReaderStandsFor Stands old h → IsRead f old.judge.plan h piece (ReaderStandsFor Stands new) None
   pub plan : new.judge.plan ≡ old.judge.plan
-  pub unkept : IfNone old.kept (new.kept ≡ None)
+  pub same : new.subject ≡ old.subject

@@ -1,14 +1,15 @@
 //! Makes a book of a trace.
 
-ghost use Rattle.std.specs.Prelude.{◌≡◌, List, ℕ, IfErr, IfOk};
+ghost use Rattle.std.specs.Prelude.{◌≡◌, List, ℕ, Err, Some, IfErr, IfOk, OnErr};
 ghost use Rattle.pm_audit.specs.Auditing.{AuditorStandsFor};
 ghost use Rattle.pm_audit.specs.Loading.{AreLoaded, IsRefused};
+ghost use Rattle.pm_book.specs.Takings.{TakerStandsFor};
 ghost use Rattle.pm_model.specs.FirstBad.{StandsFor};
 ghost use Rattle.pm_model.specs.Lawful.{IsLawful};
 
 use crate::auditor::{Auditor, BadLine};
 use crate::reading::NoWhy;
-use pm_book::Book;
+use pm_book::{Book, Taker};
 use pm_model::Plan;
 use std::alloc::Global;
 
@@ -25,21 +26,29 @@ pub enum LoadFault {
     NoMemory,
 }
 
-impl Auditor {
-    /// The book of the lines whose text the bytes are that were fed, where the auditor keeps lines; where the bytes
-    /// are the text of no lawful list, which line is the first bad one and why. Memory is taken for whose turn it
-    /// is.
+impl Auditor<Taker> {
+    /// The book of the lines whose text the bytes are that were fed; where the bytes are the text of no lawful list, which
+    /// line is the first bad one and why. Memory is taken for whose turn it is.
     pub fn book(self, alloc: Global) -> Result<Book, LoadFault>
-        ensures loaded { IfOk result (λ book. (b : List ℕ) → AuditorStandsFor self b → AreLoaded self.reader.judge.plan b book) }
-        ensures refused { IfErr result (λ fault. (b : List ℕ) → AuditorStandsFor self b → IsRefused self.reader.judge.plan b fault) }
+        ensures loaded { IfOk result (λ book. (b : List ℕ) → AuditorStandsFor TakerStandsFor self b → AreLoaded self.reader.judge.plan b book) }
+        ensures refused { IfErr result (λ fault. (b : List ℕ) → AuditorStandsFor TakerStandsFor self b → IsRefused self.reader.judge.plan b fault) }
     {
-        if let Some(BadLine { line, why }) = self.first_bad() {
-            return Err(LoadFault::No { line, why });
+        match self.taken() {
+            Ok(taker) => book_of(alloc, taker),
+            Err(BadLine { line, why }) => Err(LoadFault::No { line, why }),
         }
-        match self.into_reader().finish(alloc) {
-            Ok(book) => Ok(book),
-            Err(_) => Err(LoadFault::NoMemory),
-        }
+    }
+}
+
+// The book of the lines that are kept.
+fn book_of(alloc: Global, taker: Taker) -> Result<Book, LoadFault>
+    ensures plan { IfOk result (λ book. book.plan ≡ taker.judge.plan) }
+    ensures lines { IfOk result (λ book. taker.kept ≡ Some book.lines) }
+    ensures err { OnErr result (result ≡ Err LoadFault.NoMemory) }
+{
+    match taker.finish(alloc) {
+        Ok(book) => Ok(book),
+        Err(_) => Err(LoadFault::NoMemory),
     }
 }
 

@@ -1,12 +1,13 @@
 //! Reads whole lines of a trace.
 
-ghost use Rattle.std.specs.Prelude.{◌≡◌, ◌++◌, List, ℕ, IfNone, None, Some, [], true};
+ghost use Rattle.std.specs.Prelude.{◌≡◌, ◌++◌, List, ℕ, Some, [], true};
 ghost use Rattle.pm_audit.specs.Auditing.{IsGood, IsRest, IsTaken, told_of};
 ghost use Rattle.pm_model.specs.declared.event.Line.{Line as ALine};
 ghost use Rattle.pm_model.specs.NoWhy.{is_within_line};
 
 use crate::reader::Reader;
 use crate::rest::Rest;
+use crate::takers::LineTaker;
 
 /// The line with which a trace of format 2 begins.
 pub const HEADER: &[u8] = b"pm_trace 2";
@@ -47,10 +48,10 @@ pub(crate) fn told(format: Format) -> Option<bool>
 }
 
 // Takes one more whole line, without its newline, or says why it is bad.
-fn take(reader: &mut Reader, format: &mut Format, text: &[u8]) -> Option<NoWhy>
-    ensures taken { (whole : List ℕ) (h : List ALine) → is_within_line text.now ≡ true → IsGood reader.old.judge.plan reader.old format.old whole h → IsTaken reader.old.judge.plan whole h text.now format.new reader.new result }
+fn take<T: LineTaker>(reader: &mut Reader<T>, format: &mut Format, text: &[u8]) -> Option<NoWhy>
+    ensures taken { (whole : List ℕ) (h : List ALine) → is_within_line text.now ≡ true → IsGood T.StandsFor reader.old.judge.plan reader.old format.old whole h → IsTaken T.StandsFor reader.old.judge.plan whole h text.now format.new reader.new result }
     ensures plan { reader.new.judge.plan ≡ reader.old.judge.plan }
-    ensures unkept { IfNone reader.old.kept (reader.new.kept ≡ None) }
+    ensures same { reader.new.subject ≡ reader.old.subject }
 {
     match *format {
         Format::Untold => {
@@ -67,11 +68,15 @@ fn take(reader: &mut Reader, format: &mut Format, text: &[u8]) -> Option<NoWhy>
 }
 
 // Takes a whole line that is the rest, or says why it is bad.
-fn take_rest(reader: &mut Reader, format: &mut Format, rest: &Rest) -> Option<NoWhy>
-    ensures taken { (whole line : List ℕ) (h : List ALine) → IsRest rest.now line → is_within_line line ≡ true → IsGood reader.old.judge.plan reader.old format.old whole h
-        → IsTaken reader.old.judge.plan whole h line format.new reader.new result }
+fn take_rest<T: LineTaker>(
+    reader: &mut Reader<T>,
+    format: &mut Format,
+    rest: &Rest,
+) -> Option<NoWhy>
+    ensures taken { (whole line : List ℕ) (h : List ALine) → IsRest rest.now line → is_within_line line ≡ true → IsGood T.StandsFor reader.old.judge.plan reader.old format.old whole h
+        → IsTaken T.StandsFor reader.old.judge.plan whole h line format.new reader.new result }
     ensures plan { reader.new.judge.plan ≡ reader.old.judge.plan }
-    ensures unkept { IfNone reader.old.kept (reader.new.kept ≡ None) }
+    ensures same { reader.new.subject ≡ reader.old.subject }
 {
     match rest.bytes() {
         Some(text) => take(reader, format, text),
@@ -81,18 +86,18 @@ fn take_rest(reader: &mut Reader, format: &mut Format, rest: &Rest) -> Option<No
 
 /// Takes the whole line that the rest begins and this piece ends, or says why it is bad. Nothing is left of
 /// the rest.
-pub(crate) fn end_line(
-    reader: &mut Reader,
+pub(crate) fn end_line<T: LineTaker>(
+    reader: &mut Reader<T>,
     format: &mut Format,
     rest: &mut Rest,
     piece: &[u8],
 ) -> Option<NoWhy>
     requires { is_within_line piece.now ≡ true }
-    ensures taken { (whole begun : List ℕ) (h : List ALine) → IsRest rest.old begun → is_within_line begun ≡ true → IsGood reader.old.judge.plan reader.old format.old whole h
-        → IsTaken reader.old.judge.plan whole h (begun ++ piece.now) format.new reader.new result }
+    ensures taken { (whole begun : List ℕ) (h : List ALine) → IsRest rest.old begun → is_within_line begun ≡ true → IsGood T.StandsFor reader.old.judge.plan reader.old format.old whole h
+        → IsTaken T.StandsFor reader.old.judge.plan whole h (begun ++ piece.now) format.new reader.new result }
     ensures rest { rest.new ≡ Some [] }
     ensures plan { reader.new.judge.plan ≡ reader.old.judge.plan }
-    ensures unkept { IfNone reader.old.kept (reader.new.kept ≡ None) }
+    ensures same { reader.new.subject ≡ reader.old.subject }
 {
     if rest.is_empty() {
         return take(reader, format, piece);

@@ -17,6 +17,7 @@ use Rattle.pm_model.specs.History.{History}
 use Rattle.pm_model.specs.Lawful.{IsFinished, IsLawful, Permits, last_time}
 use Rattle.pm_model.specs.LineOf.{is_event_of}
 use Rattle.pm_model.specs.World.{World, move, stage_at, start, world}
+use Rattle.pm_law_turns.specs.Looks.{device_at}
 use Rattle.pm_state.specs.Standing.{IsOf, Standing, StandsWell, after_write, can_go_on}
 use Rattle.pm_state.specs.Turns.{running_due}
 use Rattle.pm_turns.specs.Turning.{Index, IsIndex, Leads}
@@ -52,11 +53,11 @@ after plan h w s line c next same may = world_after plan h w (last_time h) line 
 
 -- what a line that may be written leads to
 pub leads : (plan : Plan) (h : History) (w : World) (s : Stage) (line : Line) (c : Change) (next : Then) → IsLawful plan h → w ≡ world plan h
-    → MayWrite plan h s line c next → Leads plan h line s (after_write plan w c line next)
+    → MayWrite plan h s line c next → Leads plan h line (device_at s) (after_write plan w c line next)
 unfolding permits
 leads plan h w s line c next lawful same may = record {
   lawful = (permits plan h s line c next may, may.may.room, lawful);
-  stage_is = refl;
+  at_is = refl;
   world_is = after plan h w s line c next same may;
 }
 

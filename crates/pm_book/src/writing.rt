@@ -13,6 +13,7 @@ use crate::steps::{EndStep, Step};
 use pm_base::{ActorId, NoMemory};
 use pm_law_bounds::lines_are_of_plan;
 use pm_model::{Change, Event, Line, Move, Stage, Then};
+use pm_turns::device_at;
 
 // Whether a line with this event begins a callback.
 pub(crate) fn begins_callback(event: &Event) -> bool
@@ -71,7 +72,14 @@ impl Book {
             then,
         );
         self.lines.push(*line, begins_callback(&line.event));
-        self.turns.settle(&self.plan, &self.state, stage, line);
+        self.turns.settle(
+            &self.plan,
+            &self.state,
+            device_at(stage),
+            line.time,
+            line.actor,
+            &line.event,
+        );
         Ok(())
     }
 
@@ -94,7 +102,14 @@ impl Book {
             then,
         );
         self.lines.push_end(*line);
-        self.turns.settle(&self.plan, &self.state, stage, line);
+        self.turns.settle(
+            &self.plan,
+            &self.state,
+            device_at(stage),
+            line.time,
+            line.actor,
+            &line.event,
+        );
     }
 }
 

@@ -3,7 +3,7 @@ use Rattle.std.proofs.Common.{◌≡◌, ◌<◌, ◌≤◌, ◌↔◌, ℕ, Lis
 use Rattle.std.proofs.lemmas.Bool.{cases_lt}
 use Rattle.std.proofs.lemmas.Option.{slice_get-get_or, slice_get_within}
 use Rattle.pm_broken.specs.Breaches.{breach_at}
-use Rattle.pm_broken.specs.Found.{IsBroken, IsBrokenWithin, IsFirstOf, IsToldWithin}
+use Rattle.pm_broken.specs.Found.{AreFound, BreaksSo, IsBroken, IsBrokenWithin, IsFirst, IsFirstOf, IsToldWithin}
 use Rattle.pm_broken.specs.declared.expectation.Breach.{Breach}
 use Rattle.pm_broken.specs.declared.expectation.Expectation.{Expectation}
 use Rattle.pm_broken.specs.declared.firsts.Broken.{Broken}
@@ -13,7 +13,10 @@ use Rattle.pm_model.specs.History.{History}
 use Rattle.pm_orders.specs.declared.Pace.{Pace}
 use Rattle.pm_orders.specs.Orders.{IsOrder, disturbances, spot}
 use Rattle.pm_orders.specs.Spots.{Follows, Spot, start_spot}
+use Rattle.pm_search.specs.declared.found.Ended.{Ended}
+use Rattle.pm_search.specs.Exact.{EndWithAll}
 use Rattle.pm_search.specs.Reached.{Reached}
+use Rattle.pm_search.specs.Seen.{IsSeen}
 use Rattle.pm_search.specs.Trees.{IsTree}
 use Rattle.pm_ways.specs.Found.{AreOfAllOrders, AreOfOrders}
 use Rattle.pm_broken.proofs.Lists.{clash, in_its_round, no_later}
@@ -53,13 +56,48 @@ module _ (pace : Pace) (plan : Plan) (e : Expectation) (spots : List Spot) (roun
         let few = h.2 in
         record { order = h.0; is_order = h.1; few = omega (arith, few, told, round); breach = b.breach; breaks = ap (breach_at plan e) h.3 ∙ first.breach }
 
-  pub within : (b : Option Broken) → IsFirstOf plan e spots rounds b → ((k bound : ℕ) → slice_get rounds k ≡ Some bound → AreOfOrders pace plan k spots bound) → (k bound : ℕ) → slice_get rounds k ≡ Some bound → IsToldWithin k b ↔ IsBrokenWithin pace plan k e
-  within b first of_orders k bound at = (
+  -- of a round that is complete
+  in_round : (b : Option Broken) → IsFirstOf plan e spots rounds b → ((k bound : ℕ) → slice_get rounds k ≡ Some bound → AreOfOrders pace plan k spots bound) → (k bound : ℕ) → slice_get rounds k ≡ Some bound → IsToldWithin k b ↔ IsBrokenWithin pace plan k e
+  in_round b first of_orders k bound at = (
     λ told. broken_of k bound at b first of_orders told,
     λ broken.
         let a = (of_orders k bound at).complete broken.order broken.is_order broken.few in
         told_of k bound at b first a.place (early b first a.place (spot plan broken.order) broken.breach a.there broken.breaks) a.below,
   )
+
+  -- the first place is in a round, where the last round has all
+  pub in_a_round : (b : Broken) → IsFirst plan e spots rounds b → EndWithAll spots rounds → b.round < length rounds
+  in_a_round b first ends =
+      let last = ends.is_last in
+      let round = first.round in
+      let r = no_later rounds b.place ends.last (length spots) ends.all (slice_get_within spots b.place first.stands first.there) in
+      omega (arith, last, round, r)
+
+  -- past the last round of a search that saw all
+  broken_past : (b : Option Broken) → IsFirstOf plan e spots rounds b → ((k bound : ℕ) → slice_get rounds k ≡ Some bound → AreOfOrders pace plan k spots bound) → EndWithAll spots rounds → (k : ℕ) → length rounds ≤ k → IsToldWithin k b → IsBrokenWithin pace plan k e
+  broken_past None first of_orders ends k past told = absurd told
+  broken_past (Some b) first of_orders ends k past told =
+      let last = ends.is_last in
+      let lt = in_a_round b first ends in
+      let o = broken_of ends.last (length spots) ends.all (Some b) first of_orders (omega (arith, last, lt)) in
+      let few = o.few in
+      record { order = o.order; is_order = o.is_order; few = omega (arith, few, last, past); breach = o.breach; breaks = o.breaks }
+
+  told_past : (b : Option Broken) → IsFirstOf plan e spots rounds b → AreOfAllOrders pace plan spots → EndWithAll spots rounds → (k : ℕ) → length rounds ≤ k → IsBrokenWithin pace plan k e → IsToldWithin k b
+  told_past None first of_all ends k past broken =
+      let a = of_all.complete broken.order broken.is_order in
+      absurd (early None first a.place (spot plan broken.order) broken.breach a.there broken.breaks)
+  told_past (Some b) first of_all ends k past broken = let lt = in_a_round b first ends in omega (arith, lt, past)
+
+  -- of each number of disturbances whose orders were all seen
+  pub within : (ended : Ended) (b : Option Broken) → IsFirstOf plan e spots rounds b → AreFound pace plan spots rounds ended → (k : ℕ) → IsSeen ended rounds k → IsToldWithin k b ↔ IsBrokenWithin pace plan k e
+  within ended b first found k seen = elim (cases_lt k (length rounds)) [
+    | inl lt ↦ in_round b first found.of_orders k (get_or rounds k 0) (slice_get-get_or rounds k 0 lt)
+    | inr past ↦ elim seen [
+      | inl saw ↦ (λ told. broken_past b first found.of_orders (found.last saw) k past told, λ broken. told_past b first (found.all_orders saw) (found.last saw) k past broken)
+      | inr lt ↦ absurd (omega (arith, lt, past))
+    ]
+  ]
 
   some_broken : (b : Option Broken) → IsFirstOf plan e spots rounds b → ((i : ℕ) (s : Spot) → slice_get spots i ≡ Some s → (h : History) × IsOrder pace plan h × (spot plan h ≡ s)) → IsSome b → IsBroken pace plan e
   some_broken None first stand some = absurd (cc some)
@@ -79,11 +117,37 @@ module _ (pace : Pace) (plan : Plan) (e : Expectation) (spots : List Spot) (roun
         is_some_of b a.place (early b first a.place (spot plan broken.order) broken.breach a.there broken.breaks),
   )
 
-  pub sound : OrdersStand pace plan → (parents : List ℕ) (b : Option Broken) → IsFirstOf plan e spots rounds b → IsTree (Follows pace plan) (start_spot plan) spots parents → IsSome b → IsBroken pace plan e
-  sound orders parents b first tree some =
-      some_broken b first
-      (λ i s there.
-      let r = reached_at (Follows pace plan) (start_spot plan) spots parents tree i s there (slice_get_within spots i s there) in
-      let o = orders r.0 s r.1 in
-      (o.0, o.1, o.3))
-      some
+  -- as it is told an order breaks it: of a round that is complete, or else whichever stands there
+  pub so : OrdersStand pace plan → (parents : List ℕ) (ended : Ended) (b : Broken) → IsFirst plan e spots rounds b → AreFound pace plan spots rounds ended → IsTree (Follows pace plan) (start_spot plan) spots parents
+      → (order : History) × BreaksSo pace plan ended rounds e b.breach order
+  so orders parents ended b first found tree = elim (cases_lt b.round (length rounds)) [
+    | inl lt ↦
+        let round = first.round in
+        let r = round_of rounds b.place in
+        let there = slice_get-get_or rounds r 0 (omega (arith, lt, round)) in
+        let c = get_or rounds r 0 in
+        let h = (found.of_orders r c there).sound b.place first.stands (in_its_round rounds b.place c there) first.there in
+        let few = h.2 in (
+          h.0,
+          record {
+            is_order = h.1;
+            breaks = ap (breach_at plan e) h.3 ∙ first.breach;
+            few = λ k seen broken. let told : b.round ≤ k = (within ended (Some b) first found k seen).1 broken in omega (arith, few, told, round);
+          },
+        )
+    | inr past ↦
+        let r = reached_at (Follows pace plan) (start_spot plan) spots parents tree b.place first.stands first.there (slice_get_within spots b.place first.stands first.there) in
+        let o = orders r.0 first.stands r.1 in (
+          o.0,
+          record {
+            is_order = o.1;
+            breaks = ap (breach_at plan e) o.3 ∙ first.breach;
+            few = λ k seen broken.
+                let told : b.round ≤ k = (within ended (Some b) first found k seen).1 broken in
+                elim seen [
+                  | inl saw ↦ let lt = in_a_round b first (found.last saw) in absurd (omega (arith, lt, past))
+                  | inr lt ↦ absurd (omega (arith, lt, past, told))
+                ];
+          },
+        )
+  ]

@@ -12,6 +12,10 @@ use Rattle.pm_model.specs.History.{History}
 use Rattle.pm_orders.specs.declared.Pace.{Pace}
 use Rattle.pm_orders.specs.Orders.{IsOrder, disturbances, spot}
 use Rattle.pm_orders.specs.Spots.{Follows, Spot, start_spot}
+use Rattle.pm_search.specs.declared.found.Ended.{Ended}
+use Rattle.pm_search.specs.declared.found.Ended.TheVariants.{Whole}
+use Rattle.pm_search.specs.Exact.{EndWithAll}
+use Rattle.pm_search.specs.Seen.{IsSeen}
 use Rattle.pm_search.specs.Trees.{IsTree}
 use Rattle.pm_ways.specs.Found.{AreOfAllOrders, AreOfOrders}
 
@@ -57,13 +61,26 @@ abbrev pub IsToldWithin : ℕ → Option Broken → Type 0
 IsToldWithin k (Some b) = b.round ≤ k
 IsToldWithin k None = ⊥
 
--- Where each round has exactly the spots of the orders of at most so many disturbances, an expectation is told as broken with a number of at
--- most k, of a round that there is, exactly where some order of at most k disturbances breaks it.
+-- An order stands where it is broken so, and no more of its lines disturb than of any that breaks it: for each k of which all orders were seen, if
+-- some order of at most k disturbances breaks it, at most k of these lines disturb.
+pub record BreaksSo (pace : Pace) (plan : Plan) (ended : Ended) (rounds : List ℕ) (e : Expectation) (breach : Breach) (order : History) : Type 0 where
+  pub is_order : IsOrder pace plan order
+  pub breaks : breach_at plan e (spot plan order) ≡ Some breach
+  pub few : (k : ℕ) → IsSeen ended rounds k → IsBrokenWithin pace plan k e → disturbances plan order ≤ k
+
+-- what a search found: each round has exactly the spots of the orders of at most so many disturbances; and where it saw all, the spots are those of
+-- all orders, and the last round has them all
+pub record AreFound (pace : Pace) (plan : Plan) (spots : List Spot) (rounds : List ℕ) (ended : Ended) : Type 0 where
+  pub of_orders : (k bound : ℕ) → slice_get rounds k ≡ Some bound → AreOfOrders pace plan k spots bound
+  pub all_orders : ended ≡ Whole → AreOfAllOrders pace plan spots
+  pub last : ended ≡ Whole → EndWithAll spots rounds
+
+-- Of what a search found, an expectation is told as broken with a number of at most k, for each k of which all orders were seen, exactly where some
+-- order of at most k disturbances breaks it.
 abbrev pub FirstsDecideRounds : Type 0
 FirstsDecideRounds =
-    (pace : Pace) (plan : Plan) (e : Expectation) (spots : List Spot) (rounds : List ℕ) (b : Option Broken) → IsFirstOf plan e spots rounds b
-    → ((k bound : ℕ) → slice_get rounds k ≡ Some bound → AreOfOrders pace plan k spots bound) → (k bound : ℕ) → slice_get rounds k ≡ Some bound
-    → IsToldWithin k b ↔ IsBrokenWithin pace plan k e
+    (pace : Pace) (plan : Plan) (e : Expectation) (spots : List Spot) (rounds : List ℕ) (ended : Ended) (b : Option Broken) → IsFirstOf plan e spots rounds b
+    → AreFound pace plan spots rounds ended → (k : ℕ) → IsSeen ended rounds k → IsToldWithin k b ↔ IsBrokenWithin pace plan k e
 
 -- Where the spots are those of all orders, it is told as broken exactly where some order breaks it.
 abbrev pub FirstsDecideAll : Type 0
@@ -71,8 +88,9 @@ FirstsDecideAll =
     (pace : Pace) (plan : Plan) (e : Expectation) (spots : List Spot) (rounds : List ℕ) (b : Option Broken) → IsFirstOf plan e spots rounds b
     → AreOfAllOrders pace plan spots → IsSome b ↔ IsBroken pace plan e
 
--- What is told as broken is broken by some order, whichever spots of a search they are.
+-- What is told as broken is broken so by an order with the fewest disturbances.
 abbrev pub FirstsAreBroken : Type 0
 FirstsAreBroken =
-    (pace : Pace) (plan : Plan) (e : Expectation) (spots : List Spot) (rounds parents : List ℕ) (b : Option Broken) → IsFirstOf plan e spots rounds b
-    → IsTree (Follows pace plan) (start_spot plan) spots parents → IsSome b → IsBroken pace plan e
+    (pace : Pace) (plan : Plan) (e : Expectation) (spots : List Spot) (rounds parents : List ℕ) (ended : Ended) (b : Broken) → IsFirst plan e spots rounds b
+    → AreFound pace plan spots rounds ended → IsTree (Follows pace plan) (start_spot plan) spots parents
+    → (order : History) × BreaksSo pace plan ended rounds e b.breach order

@@ -4,8 +4,9 @@ ghost use Rattle.pm_broken.specs.Found.{FirstsAreBroken, FirstsDecideAll, Firsts
 
 use pm_orders::orders_are_ways;
 
-/// What a search tells of the first spot that breaks an expectation is exact of all orders of a plan: round by round, where its
-/// rounds are exact, and at all, where the search saw all. And some order breaks what is told as broken.
+/// What a search tells of the first spot that breaks an expectation is exact of all orders of a plan: for each number of
+/// disturbances whose orders it saw, and at all, where it saw all. And as it is told so an order with the fewest disturbances
+/// breaks it.
 pub fn firsts_decide()
     ensures rounds { FirstsDecideRounds }
     ensures all { FirstsDecideAll }

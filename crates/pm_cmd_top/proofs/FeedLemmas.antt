@@ -6,16 +6,17 @@ use Rattle.pm_audit.specs.Auditing.{AuditorStandsFor}
 use Rattle.pm_audit.specs.declared.auditor.Auditor.{Auditor}
 use Rattle.pm_base.specs.declared.limits.TheConstants.{TRACE_BYTES}
 use Rattle.pm_io.proofs.Unread.{prepend_known_append}
+use Rattle.pm_model.specs.declared.event.Line.{Line}
 use Rattle.pm_model.specs.declared.plan.Plan.{Plan}
 use Rattle.pm_model.specs.Verdict.{IsVerdict, Verdict}
 use Rattle.pm_cmd_ends.specs.Reading.{IsTooLong}
 use Rattle.pm_cmd_top.specs.Feeding.{IsFed, IsJudged, IsTold}
 
 -- an auditor that was fed one piece more
-pub fed_more : (told : Option (List ℕ)) (old new : Auditor) (count n : ℕ) (buf piece : List ℕ) (before after : Option (List ℕ))
-    → ((b : List ℕ) → AuditorStandsFor old b → AuditorStandsFor new (b ++ piece)) → piece ≡ take n buf → n ≤ length buf → before ≡ prepend_known (take n buf) after
-    → IsFed told old count before → IsFed told new (count + n) after
-fed_more told old new count n buf piece before after stands is within moved fed =
+pub fed_more : {A : Type 0} (S : A → List Line → Type 0) (told : Option (List ℕ)) (old new : Auditor A) (count n : ℕ) (buf piece : List ℕ) (before after : Option (List ℕ))
+    → ((b : List ℕ) → AuditorStandsFor S old b → AuditorStandsFor S new (b ++ piece)) → piece ≡ take n buf → n ≤ length buf → before ≡ prepend_known (take n buf) after
+    → IsFed S told old count before → IsFed S told new (count + n) after
+fed_more S told old new count n buf piece before after stands is within moved fed =
     let long : length piece ≡ n = grind (arith, ap length is, length-take, within) in
     record {
       bytes = fed.bytes ++ piece;
@@ -25,9 +26,9 @@ fed_more told old new count n buf piece before after stands is within moved fed 
     }
 
 -- before the first piece
-pub fed_nothing : (told unread : Option (List ℕ)) (auditor : Auditor) → AuditorStandsFor auditor [] → unread ≡ told → IsFed told auditor 0 unread
-fed_nothing None unread auditor stands is = record { bytes = []; stands = stands; count_is = refl; known = rw is refl }
-fed_nothing (Some bytes) unread auditor stands is = record { bytes = []; stands = stands; count_is = refl; known = rw is refl }
+pub fed_nothing : {A : Type 0} (S : A → List Line → Type 0) (told unread : Option (List ℕ)) (auditor : Auditor A) → AuditorStandsFor S auditor [] → unread ≡ told → IsFed S told auditor 0 unread
+fed_nothing S None unread auditor stands is = record { bytes = []; stands = stands; count_is = refl; known = rw is refl }
+fed_nothing S (Some bytes) unread auditor stands is = record { bytes = []; stands = stands; count_is = refl; known = rw is refl }
 
 -- at the file's end
 told_all : (told unread : Option (List ℕ)) (bytes : List ℕ) → prepend_known bytes unread ≡ told → IfSome unread (λ more. more ≡ []) → IfSome told (λ known. bytes ≡ known)
@@ -35,9 +36,9 @@ told_all told None bytes known none = subst (λ (t : Option (List ℕ)). IfSome 
 told_all told (Some more) bytes known none =
     subst (λ (t : Option (List ℕ)). IfSome t (λ k. bytes ≡ k)) known (sym (append-nil bytes) ∙ ap (λ m. bytes ++ m) (sym none))
 
-pub fed_all : (all : Bool) (told : Option (List ℕ)) (auditor : Auditor) (count : ℕ) (unread : Option (List ℕ)) → count ≤ TRACE_BYTES → IfSome unread (λ more. more ≡ []) → (IsTrue all → IsSome told)
-    → IsFed told auditor count unread → IsTold all told auditor
-fed_all all told auditor count unread few none there fed = record {
+pub fed_all : {A : Type 0} (S : A → List Line → Type 0) (all : Bool) (told : Option (List ℕ)) (auditor : Auditor A) (count : ℕ) (unread : Option (List ℕ)) → count ≤ TRACE_BYTES → IfSome unread (λ more. more ≡ []) → (IsTrue all → IsSome told)
+    → IsFed S told auditor count unread → IsTold S all told auditor
+fed_all S all told auditor count unread few none there fed = record {
   bytes = fed.bytes;
   holds = record { told_so = told_all told unread fed.bytes fed.known none; is_there = there; within = omega (arith, few, fed.count_is) };
   stands = fed.stands;
@@ -57,13 +58,13 @@ longer told None bytes limit known long = subst (λ (t : Option (List ℕ)). IfS
 longer told (Some more) bytes limit known long =
     subst (λ (t : Option (List ℕ)). IfSome t (λ k. limit < length k)) known (omega (arith, long, length-append bytes more))
 
-pub fed_too_long : (all : Bool) (told unread : Option (List ℕ)) (auditor : Auditor) (count : ℕ) → IsFed told auditor count unread → (IsTrue all → IsSome told) → TRACE_BYTES < count → IsTooLong all told TRACE_BYTES
-fed_too_long all told unread auditor count fed there long = record { longer = longer told unread fed.bytes TRACE_BYTES fed.known (omega (arith, fed.count_is, long)); is_there = there }
+pub fed_too_long : {A : Type 0} (S : A → List Line → Type 0) (all : Bool) (told unread : Option (List ℕ)) (auditor : Auditor A) (count : ℕ) → IsFed S told auditor count unread → (IsTrue all → IsSome told) → TRACE_BYTES < count → IsTooLong all told TRACE_BYTES
+fed_too_long S all told unread auditor count fed there long = record { longer = longer told unread fed.bytes TRACE_BYTES fed.known (omega (arith, fed.count_is, long)); is_there = there }
 
 -- what is said of the whole file
-pub judged_of : (all : Bool) (told : Option (List ℕ)) (auditor : Auditor) (plan : Plan) (v : Verdict) → auditor.reader.judge.plan ≡ plan → IsTold all told auditor
-    → ((b : List ℕ) → AuditorStandsFor auditor b → IsVerdict auditor.reader.judge.plan b v) → IsJudged all told plan v
-judged_of all told auditor plan v plan_is fed says = record {
+pub judged_of : {A : Type 0} (S : A → List Line → Type 0) (all : Bool) (told : Option (List ℕ)) (auditor : Auditor A) (plan : Plan) (v : Verdict) → auditor.reader.judge.plan ≡ plan → IsTold S all told auditor
+    → ((b : List ℕ) → AuditorStandsFor S auditor b → IsVerdict auditor.reader.judge.plan b v) → IsJudged all told plan v
+judged_of S all told auditor plan v plan_is fed says = record {
   bytes = fed.bytes;
   holds = fed.holds;
   is = subst (λ (q : Plan). IsVerdict q fed.bytes v) plan_is (says fed.bytes fed.stands);

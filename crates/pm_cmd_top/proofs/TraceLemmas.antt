@@ -1,15 +1,19 @@
 -- What comes of a trace.
-use Rattle.std.proofs.Common.{◌≡◌, ℕ, Bool, List, Option, Some, Ok, Err, Contains, IfErr, map, refl, slice_get, subst}
+use Rattle.std.proofs.Common.{◌≡◌, ℕ, Bool, ap, List, Option, Some, Ok, Err, Contains, IfErr, IfOk, map, refl, slice_get, subst}
 use Rattle.std.proofs.lemmas.List.Elements.{Contains-get_or}
 use Rattle.std.proofs.lemmas.Option.{get_or_from_slice_get, slice_get_within}
 use Rattle.std.specs.Prelude.{IsErrOf, Result}
-use Rattle.pm_audit.specs.Auditing.{AuditorStandsFor, reason_of}
+use Rattle.pm_audit.specs.Auditing.{AuditorStandsFor, IsWhole, reason_of}
+use Rattle.pm_audit.specs.Following.{FollowerStandsFor}
 use Rattle.pm_audit.specs.declared.auditor.Auditor.{Auditor}
+use Rattle.pm_audit.specs.declared.takers.Follower.{Follower}
 use Rattle.pm_base.specs.declared.DevId.{DevId}
 use Rattle.pm_base.specs.declared.limits.TheConstants.{TRACE_BYTES}
 use Rattle.pm_io.specs.declared.reading.FileFault.{FileFault}
 use Rattle.pm_io.specs.declared.reading.FileFault.TheVariants as file
+use Rattle.pm_model.specs.declared.event.Line.{Line}
 use Rattle.pm_model.specs.declared.plan.Plan.{Plan}
+use Rattle.pm_model.specs.FirstBad.{StandsFor}
 use Rattle.pm_model.specs.History.{History}
 use Rattle.pm_model.specs.Lawful.{IsLawful}
 use Rattle.pm_model.specs.Verdict.{No, Verdict, YesFinished, YesOpen}
@@ -23,6 +27,7 @@ use Rattle.pm_cmd_ends.specs.declared.ending.Fault.{Fault}
 use Rattle.pm_cmd_ends.specs.declared.ending.Fault.TheVariants as fault
 use Rattle.pm_cmd_top.specs.TraceCommands.{OfAudit, OfDevice, OfWhy, is_finished, is_open, named, verdict_work}
 use Rattle.pm_cmd_top.specs.Feeding.{IsJudged, IsTold}
+use Rattle.pm_cmd_top.specs.Following.{IsFollowed}
 use Rattle.pm_cmd_top.specs.Traces.{IsLoaded, IsNoBook, IsTraceUnread, IsUnloaded, OfTrace, bad, stands, too_many, trace_fault}
 
 -- a trace that isn't read whole
@@ -79,10 +84,10 @@ no_book all told plan bytes Unread fault.WriteFailed holds none = absurd none
 no_book all told plan bytes Unread fault.AtLimit holds none = absurd none
 no_book all told plan bytes Unread fault.NoMemory holds none = tt
 
-pub unloaded_of : {B : Type 0} (all : Bool) (told : Option (List ℕ)) (plan : Plan) (auditor : Auditor) (Unread : Type 0) (r : Result B Fault) → auditor.reader.judge.plan ≡ plan → IsTold all told auditor
-    → IfErr r (λ f. (b : List ℕ) → AuditorStandsFor auditor b → IsNoBook auditor.reader.judge.plan b f) → IfErr r (IsUnloaded all told plan Unread)
-unloaded_of all told plan auditor Unread (Ok book) same fed none = tt
-unloaded_of all told plan auditor Unread (Err f) same fed none =
+pub unloaded_of : {A B : Type 0} (S : A → List Line → Type 0) (all : Bool) (told : Option (List ℕ)) (plan : Plan) (auditor : Auditor A) (Unread : Type 0) (r : Result B Fault) → auditor.reader.judge.plan ≡ plan → IsTold S all told auditor
+    → IfErr r (λ f. (b : List ℕ) → AuditorStandsFor S auditor b → IsNoBook auditor.reader.judge.plan b f) → IfErr r (IsUnloaded all told plan Unread)
+unloaded_of S all told plan auditor Unread (Ok book) same fed none = tt
+unloaded_of S all told plan auditor Unread (Err f) same fed none =
     no_book all told plan fed.bytes Unread f fed.holds (subst (λ (p : Plan). IsNoBook p fed.bytes f) same (none fed.bytes fed.stands))
 
 -- a trace that stands for no list, or isn't read
@@ -111,3 +116,24 @@ came_named all told name plan d Unread out work has came =
 pub named_here : (names : List (List ℕ)) (place : ℕ) (name : List ℕ) → slice_get names place ≡ Some name → Contains names name
 named_here names place name is =
     subst (Contains names) (get_or_from_slice_get names place name name is) (Contains-get_or names place name (slice_get_within names place name is))
+
+-- what followed the lines of the trace
+pub followed_of : {K : Type 0} (Keeps : K → List Line → Type 0) (all : Bool) (told : Option (List ℕ)) (plan : Plan) (auditor : Auditor (Follower K)) (r : Result (Follower K) Fault) → auditor.reader.judge.plan ≡ plan
+    → IsTold (FollowerStandsFor Keeps) all told auditor
+    → IfOk r (λ f. (b : List ℕ) → AuditorStandsFor (FollowerStandsFor Keeps) auditor b → IsWhole auditor.reader.judge.plan (FollowerStandsFor Keeps f) b) → IfOk r (λ f. IsFollowed Keeps all told plan f.judge f.keeper)
+followed_of Keeps all told plan auditor (Err e) same fed whole = tt
+followed_of Keeps all told plan auditor (Ok f) same fed whole =
+    let its = whole fed.bytes fed.stands in
+    record {
+      list = its.list;
+      loaded = record {
+        bytes = fed.bytes;
+        holds = fed.holds;
+        lawful = subst (λ (p : Plan). IsLawful p its.list) same its.lawful;
+        stands_for = subst (λ (p : Plan). StandsFor p fed.bytes its.list) same its.stands;
+      };
+      following = its.taken;
+    }
+
+pub same_device : (d e : DevId) → d.0 ≡ e.0 → d ≡ e
+same_device d e same = ap (λ (n : ℕ). let x : DevId = record { 0 = n } in x) same

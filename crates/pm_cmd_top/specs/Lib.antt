@@ -5,4 +5,5 @@ pub mod Counts
 pub mod Started
 pub mod TraceCommands
 pub mod Feeding
+pub mod Following
 pub mod Traces

@@ -9,7 +9,7 @@ ghost use Rattle.pm_cmd_top.specs.Feeding.{IsFed, IsJudged, IsTold};
 ghost use Rattle.pm_cmd_top.specs.Traces.{IsTraceUnread};
 
 use crate::trace_fault::trace_fault;
-use pm_audit::{Auditor, Verdict};
+use pm_audit::{Auditor, LineTaker, Verdict};
 use pm_base::{Failed, PIECE_BYTES, TRACE_BYTES};
 use pm_cmd_ends::Fault;
 use pm_io::{FileFault, Files};
@@ -41,15 +41,16 @@ pub(crate) fn judge_trace<F: Files>(
 
 /// Feeds the auditor the bytes of the trace's file to its end, or says why it can't. The memory for a piece is
 /// taken before the file is started.
-pub(crate) fn feed_trace<F: Files>(
+pub(crate) fn feed_trace<F: Files, T: LineTaker>(
     alloc: Global,
     files: &mut F,
     trace: &str,
-    auditor: &mut Auditor,
+    auditor: &mut Auditor<T>,
 ) -> Result<(), Fault>
-    requires unfed { AuditorStandsFor auditor.old [] }
-    ensures told { OnOk result (IsTold F.tells_all (F.told files.old trace.now) auditor.new) }
+    requires unfed { AuditorStandsFor T.StandsFor auditor.old [] }
+    ensures told { OnOk result (IsTold T.StandsFor F.tells_all (F.told files.old trace.now) auditor.new) }
     ensures plan { auditor.new.reader.judge.plan ≡ auditor.old.reader.judge.plan }
+    ensures same { auditor.new.reader.subject ≡ auditor.old.reader.subject }
     ensures unread { IfErr result (IsTraceUnread F.tells_all (F.told files.old trace.now)
         (Rose (F.faults files.old) (F.faults files.new))) }
     ensures calm { ¬ IsErrOf result Fault.ReadFailed → F.faults files.new ≡ F.faults files.old }
@@ -63,16 +64,17 @@ pub(crate) fn feed_trace<F: Files>(
 
 /// Feeds the auditor the bytes of the trace's file, in pieces, to its end. It is too long where one byte
 /// more than a trace may have was read.
-fn read_trace<F: Files>(
+fn read_trace<F: Files, T: LineTaker>(
     files: &mut F,
     trace: &str,
     piece: &mut [u8],
-    auditor: &mut Auditor,
+    auditor: &mut Auditor<T>,
 ) -> Result<(), FileFault>
     requires piece { length piece.old ≡ PIECE_BYTES }
-    requires unfed { AuditorStandsFor auditor.old [] }
-    ensures told { OnOk result (IsTold F.tells_all (F.told files.old trace.now) auditor.new) }
+    requires unfed { AuditorStandsFor T.StandsFor auditor.old [] }
+    ensures told { OnOk result (IsTold T.StandsFor F.tells_all (F.told files.old trace.now) auditor.new) }
     ensures plan { auditor.new.reader.judge.plan ≡ auditor.old.reader.judge.plan }
+    ensures same { auditor.new.reader.subject ≡ auditor.old.reader.subject }
     ensures too_long { IsErrOf result FileFault.TooLong → IsTooLong F.tells_all (F.told files.old trace.now) TRACE_BYTES }
     ensures failed { IsErrOf result FileFault.Failed → Rose (F.faults files.old) (F.faults files.new) }
     ensures calm { ¬ IsErrOf result FileFault.Failed → F.faults files.new ≡ F.faults files.old }
@@ -93,21 +95,22 @@ fn read_trace<F: Files>(
 
 /// Reads the next piece of the started file, feeds it to the auditor and answers how many bytes it has. 0
 /// is the end of the file.
-fn feed_piece<F: Files>(
+fn feed_piece<F: Files, T: LineTaker>(
     files: &mut F,
     piece: &mut [u8],
-    auditor: &mut Auditor,
+    auditor: &mut Auditor<T>,
 ) -> Result<usize, Failed>
     requires started { F.is_started files.old ≡ true }
     requires room { 0 < length piece.old }
     requires in_range { F.place files.old + length piece.old < 2 ^ 64 }
 
     ensures within { IfOk result (λ n. n ≤ length piece.old) }
-    ensures fed { IfOk result (λ n. (told : Option (List ℕ)) (count : ℕ) → IsFed told auditor.old count (F.unread files.old)
-        → IsFed told auditor.new (count + n) (F.unread files.new)) }
+    ensures fed { IfOk result (λ n. (told : Option (List ℕ)) (count : ℕ) → IsFed T.StandsFor told auditor.old count (F.unread files.old)
+        → IsFed T.StandsFor told auditor.new (count + n) (F.unread files.new)) }
     ensures end { IfOk result (λ n. n ≡ 0 → IfSome (F.unread files.new) (λ more. more ≡ [])) }
     ensures moves { IfOk result (λ n. F.place files.new ≡ F.place files.old + n) }
     ensures plan { auditor.new.reader.judge.plan ≡ auditor.old.reader.judge.plan }
+    ensures same { auditor.new.reader.subject ≡ auditor.old.reader.subject }
     ensures failed { OnErr result (Rose (F.faults files.old) (F.faults files.new)) }
 
     ensures still_started { F.is_started files.new ≡ true }

@@ -11,6 +11,7 @@ mod counts;
 mod desks;
 mod dispatch;
 mod feeding;
+mod following;
 mod laws;
 mod lists;
 mod locks;

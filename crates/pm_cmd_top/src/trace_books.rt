@@ -3,12 +3,13 @@
 ghost use Rattle.std.specs.Prelude.{◌≡◌, List, ℕ, IfErr, IfOk, IsErrOf};
 ghost use Rattle.pm_audit.specs.Auditing.{AuditorStandsFor};
 ghost use Rattle.pm_audit.specs.Loading.{AreLoaded};
+ghost use Rattle.pm_book.specs.Takings.{TakerStandsFor};
 ghost use Rattle.pm_io.specs.Faults.{Rose};
 ghost use Rattle.pm_cmd_top.specs.Traces.{IsLoaded, IsNoBook, IsUnloaded};
 
 use crate::feeding::feed_trace;
 use pm_audit::{Auditor, LoadFault};
-use pm_book::Book;
+use pm_book::{Book, Taker};
 use pm_cmd_ends::Fault;
 use pm_io::Files;
 use pm_model::Plan;
@@ -39,9 +40,9 @@ pub(crate) fn load_book<F: Files>(
 }
 
 /// The book of the lines whose text the bytes are that the auditor was fed.
-fn book_of(alloc: Global, auditor: Auditor) -> Result<Book, Fault>
-    ensures loaded { IfOk result (λ book. (b : List ℕ) → AuditorStandsFor auditor b → AreLoaded auditor.reader.judge.plan b book) }
-    ensures refused { IfErr result (λ fault. (b : List ℕ) → AuditorStandsFor auditor b → IsNoBook auditor.reader.judge.plan b fault) }
+fn book_of(alloc: Global, auditor: Auditor<Taker>) -> Result<Book, Fault>
+    ensures loaded { IfOk result (λ book. (b : List ℕ) → AuditorStandsFor TakerStandsFor auditor b → AreLoaded auditor.reader.judge.plan b book) }
+    ensures refused { IfErr result (λ fault. (b : List ℕ) → AuditorStandsFor TakerStandsFor auditor b → IsNoBook auditor.reader.judge.plan b fault) }
 {
     match auditor.book(alloc) {
         Ok(book) => Ok(book),

@@ -3,29 +3,33 @@
 ghost use Rattle.std.specs.Prelude.{◌≡◌, ◌≢◌, ◌≤◌, ◌<◌, ◌⊎◌, Contains, IsErrOf, OnErr, OnOk, length, map};
 ghost use Rattle.std.specs.Io.KnownBytes.{append_known};
 ghost use Rattle.std.specs.List.{flat_map};
+ghost use Rattle.pm_audit.specs.Following.{FollowerStandsFor};
 ghost use Rattle.pm_io.specs.Asks.{AskedOnly};
 ghost use Rattle.pm_io.specs.Faults.{Rose};
 ghost use Rattle.pm_io.specs.Sink.{TookPrefix};
+ghost use Rattle.pm_model.specs.History.{History};
 ghost use Rattle.pm_model.specs.Text.{names_of};
 ghost use Rattle.pm_cmd_ends.specs.Coming.{Came};
 ghost use Rattle.pm_cmd_ends.specs.Ending.{Answered, taking};
 ghost use Rattle.pm_cmd_ends.specs.Reading.{OfPlan};
 ghost use Rattle.pm_cmd_ends.specs.Told.{IsNoPlan, LacksDevice};
 ghost use Rattle.pm_cmd_top.specs.TraceCommands.{OfDevice, OfWhy, WhyEnds};
+ghost use Rattle.pm_why.specs.Kept.{TellsOf};
 ghost use Rattle.pm_why.specs.Texts.{reason_line, reasons_text};
 
-use crate::trace_books::load_book;
+use crate::following::follow_trace;
+use pm_audit::Follower;
 use pm_base::{DevId, Failed};
-use pm_book::Book;
 use pm_cmd_ends::{Fault, finish, load};
 use pm_io::{Files, Sink, write_whole};
 use pm_model::Plan;
-use pm_why::{Reason, free_text, reason_text, reasons};
+use pm_why::{Gets, Reason, free_text, reason_text, reasons};
 use std::alloc::Global;
 
 /// Runs `why PLAN TRACE DEVICE`: reads the plan, finds the device by its name, reads the trace, and writes to
 /// `out` everything that keeps the device from suspending after its last line, a reason per line. A message
-/// goes to `err`, and the answer is the status that the program ends with.
+/// goes to `err`, and the answer is the status that the program ends with. Of the lines only the device's open gets
+/// are kept.
 pub fn why_top<F: Files, O: Sink, E: Sink>(
     alloc: Global,
     plan: &str,
@@ -101,18 +105,21 @@ fn why_of<F: Files, O: Sink>(
         (taking O.taken O.faults out.old out.new) }
     ensures calm { ¬ IsErrOf result Fault.ReadFailed → F.faults files.new ≡ F.faults files.old }
 {
-    let book = load_book(alloc, plan, trace, files)?;
-    write_why(alloc, &book, dev, out)
+    let gets = Gets::start(alloc, dev);
+    let followed = follow_trace(alloc, plan, trace, files, gets)?;
+    write_why(alloc, followed, out)
 }
 
-/// Writes what keeps the device from suspending after the list of a book.
-fn write_why<O: Sink>(alloc: Global, book: &Book, dev: DevId, out: &mut O) -> Result<(), Fault>
-    requires { dev.0 < length book.now.plan.devices }
-    ensures { Came (WhyEnds book.now.plan dev book.now.lines) result ⊥
-        (taking O.taken O.faults out.old out.new) }
+/// Writes what keeps the device from suspending after the lines of which its gets are kept.
+fn write_why<O: Sink>(alloc: Global, followed: Follower<Gets>, out: &mut O) -> Result<(), Fault>
+    requires { followed.keeper.dev.0 < length followed.judge.plan.devices }
+    ensures { (h : History) → FollowerStandsFor TellsOf followed h
+        → Came (WhyEnds followed.judge.plan followed.keeper.dev h) result ⊥ (taking O.taken O.faults out.old out.new) }
 {
-    let reasons = reasons(alloc, book, dev)?;
-    write_reasons(out, book.plan(), &reasons)?;
+    let (judge, gets) = followed.into_parts();
+    let (plan, state) = judge.into_parts();
+    let reasons = reasons(alloc, &plan, state.parts(), &gets)?;
+    write_reasons(out, &plan, &reasons)?;
     Ok(())
 }
 

@@ -1,36 +1,18 @@
 //! The pieces of the text, each of which is appended to what stands before it.
 
-ghost use Rattle.std.specs.Prelude.{◌≡◌, ◌++◌, IfOk, OnOk, decimal};
+ghost use Rattle.std.specs.Prelude.{◌≡◌, ◌++◌, IfOk, OnOk};
 ghost use Rattle.pm_broken.specs.declared.expectation.Expectation.TheVariants as expectation;
 ghost use Rattle.pm_expect_orders.specs.Texts.{beyond_text, breach_told, fewest_text, holds_text, holds_within, name_of, within_text};
 ghost use Rattle.pm_model.specs.Text.{names_of};
-ghost use Rattle.pm_orders_text.specs.Absent.{limit_words};
 ghost use Rattle.pm_orders_text.specs.Reached.{last_round};
-ghost use Rattle.pm_orders_text.specs.Texts.{after_text};
 
-use itoa::Buffer;
 use pm_base::NoMemory;
 use pm_broken::{Breach, Expectation};
 use pm_expect::{Answer, End, Use};
 use pm_expecttext::{answer_name, answer_told, end_name, end_told, use_name, use_told};
 use pm_model::{Items, Plan};
-use pm_orders_text::Reach;
+use pm_orders_text::{Reach, push, push_after, push_number};
 use std::alloc::Global;
-
-/// Appends bytes.
-pub fn push(text: &mut Vec<u8>, piece: &[u8]) -> Result<(), NoMemory>
-    ensures { OnOk result (text.new.items ≡ text.old.items ++ piece.now) }
-{
-    text.extend_from_slice(piece)?;
-    Ok(())
-}
-
-/// Appends a number in decimal.
-pub fn push_number(text: &mut Vec<u8>, number: usize) -> Result<(), NoMemory>
-    ensures { OnOk result (text.new.items ≡ text.old.items ++ decimal number) }
-{
-    push(text, Buffer::new().format(number).as_bytes())
-}
 
 // How an expectation is called.
 fn name_of(alloc: Global, plan: &Plan, expectation: &Expectation) -> Result<Items<u8>, NoMemory>
@@ -126,17 +108,6 @@ pub fn push_breach(
     push(text, told.as_slice())
 }
 
-// Appends a number of disturbances, where it isn't 0.
-fn push_after(text: &mut Vec<u8>, round: usize) -> Result<(), NoMemory>
-    ensures { OnOk result (text.new.items ≡ text.old.items ++ after_text round) }
-{
-    if round == 0 {
-        return Ok(());
-    }
-    push(text, b" after ")?;
-    push_number(text, round)
-}
-
 // Appends that there are more disturbances than the last complete round has, if one is complete.
 fn push_beyond(text: &mut Vec<u8>, rounds: usize) -> Result<(), NoMemory>
     ensures { OnOk result (text.new.items ≡ text.old.items ++ beyond_text (last_round rounds)) }
@@ -186,15 +157,5 @@ pub fn push_holds(text: &mut Vec<u8>, reach: Reach) -> Result<(), NoMemory>
         Reach::Within(round) => push_holds_within(text, round),
         Reach::Limit(Some(round)) => push_holds_within(text, round),
         Reach::Limit(None) => push(text, b"no round is complete"),
-    }
-}
-
-/// Appends that a limit came first, where one did.
-pub fn push_limit(text: &mut Vec<u8>, reach: Reach) -> Result<(), NoMemory>
-    ensures { OnOk result (text.new.items ≡ text.old.items ++ limit_words reach) }
-{
-    match reach {
-        Reach::All | Reach::Within(_) => Ok(()),
-        Reach::Limit(_) => push(text, b"; a limit came first"),
     }
 }

@@ -5,13 +5,11 @@ ghost use Rattle.pm_expect_orders.specs.Texts.{judged_line, judged_lines, no_exp
 ghost use Rattle.pm_model.specs.Text.{names_of};
 
 use crate::judging::Judged;
-use crate::pieces::{
-    push, push_breach, push_fewest, push_holds, push_limit, push_name, push_number,
-};
+use crate::pieces::{push_breach, push_fewest, push_holds, push_name};
 use pm_base::NoMemory;
 use pm_broken::{Broken, Expectation};
 use pm_model::Plan;
-use pm_orders_text::Reach;
+use pm_orders_text::{Reach, push, push_limit, push_number};
 use std::alloc::Global;
 
 // Appends what orders make of an expectation.

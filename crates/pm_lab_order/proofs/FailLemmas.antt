@@ -1,10 +1,11 @@
 -- What `order .. fails INDEX` comes to.
-use Rattle.std.proofs.Common.{ℕ, ◌≡◌, ◌<◌, ◌≤◌, ◌-◌, ◌∙◌, Bool, List, Option, Some, None, Ok, Err, Vec, Global, IsSome, ap, get_or, length, map, reverse, slice_get, subst, sym, arith}
+use Rattle.std.proofs.Common.{ℕ, ◌≡◌, ◌<◌, ◌≤◌, ◌-◌, ◌∙◌, Bool, List, Option, Some, None, Ok, Err, Vec, Global, IsSome, ap, get_or, length, map, reverse, slice_get, subst, sym, inl, inr, arith}
 use Rattle.std.proofs.lemmas.Option.{slice_get-get_or, slice_get_within}
 use Rattle.pm_broken.specs.Breaches.{breach_at}
 use Rattle.pm_broken.specs.Found.{FirstsDecideAll, FirstsDecideRounds, IsFirst, IsFirstOf, all_of}
 use Rattle.pm_broken.specs.declared.expectation.Expectation.{Expectation}
 use Rattle.pm_broken.specs.declared.firsts.Broken.{Broken}
+use Rattle.pm_broken.proofs.Deciding.{in_a_round as in_any_round}
 use Rattle.pm_broken.proofs.Lists.{in_its_round, some_is}
 use Rattle.pm_cmd_ends.specs.Ending.{Taking, TookNothing}
 use Rattle.pm_cmd_ends.specs.Reading.{IsRead}
@@ -24,6 +25,7 @@ use Rattle.pm_lab_order.specs.declared.stop.Stop.TheVariants as stop
 use Rattle.pm_lab_order.proofs.WorkLemmas.{came_further}
 use Rattle.pm_lab_orders.specs.Found.{IsFound, IsLedThrough}
 use Rattle.pm_lab_orders.specs.Orders.{pace_of, reach}
+use Rattle.pm_lab_orders.proofs.ExpectLemmas.{are_found}
 use Rattle.pm_lab_orders.proofs.OrdersLemmas.{reach_is}
 use Rattle.pm_lab_words.specs.declared.request.Bounds.{Bounds}
 use Rattle.pm_listed.specs.Listing.{round_of}
@@ -35,6 +37,7 @@ use Rattle.pm_orders.specs.Spots.{Spot}
 use Rattle.pm_orders_text.specs.Reached.{reach_of}
 use Rattle.pm_orders_text.specs.declared.reach.Reach.{Reach}
 use Rattle.pm_outcomes.specs.declared.finding.Outcomes.{Outcomes}
+use Rattle.pm_search.specs.Seen.{IsSeen}
 use Rattle.pm_spot.specs.SpotOf.{spot_of}
 use Rattle.pm_ways.specs.Found.{IsTooFar}
 use Rattle.pm_ways.specs.Runs.{IsAsLed, IsOrderTo}
@@ -90,7 +93,7 @@ module _ (bounds : Bounds) (plan : Plan) (all : Outcomes) (e : Expectation) (f :
   -- where no spot breaks it no order does
   no_order : FirstsDecideAll → IsFirstOf plan e (map spot_of all.found.tree.nodes.keys) all.found.rounds.items None → IsUnbroken bounds plan f.found e
   no_order whole none = record {
-    within = λ k bound there broken. (rounds (pace_of bounds) plan e f.found.spots f.found.rounds None (found_first None none) f.found.of_orders k bound there).1 broken;
+    within = λ k seen broken. (rounds (pace_of bounds) plan e f.found.spots f.found.rounds f.found.ended None (found_first None none) (are_found bounds plan f.found) k seen).1 broken;
     of_all = λ is broken.
         let some : IsSome {T = Broken} None = (whole (pace_of bounds) plan e f.found.spots f.found.rounds None (found_first None none) (f.found.all_orders is)).1 broken in
         cc some;
@@ -103,18 +106,27 @@ module _ (bounds : Bounds) (plan : Plan) (all : Outcomes) (e : Expectation) (f :
       subst (λ (t : List ℕ). BreakEnds bounds plan e (none_ending known t)) (sym text_is)
       (subst (λ (r : Reach). BreakEnds bounds plan e (none_ending r (unbroken_line plan r e))) (sym same) (unbroken f.found (no_order whole none)))
 
-  -- an order that leads to the first spot has as few disturbances as any that breaks it
-  fewest_of : (b : Broken) (lines : List Line) (pace : Pace) → IsFirst plan e (map spot_of all.found.tree.nodes.keys) all.found.rounds.items b → IsLedThrough bounds plan all → pace ≡ pace_of bounds
-      → IsAsLed pace plan (map spot_of all.found.tree.nodes.keys) all.found.tree.parents.items b.place lines → (k : ℕ) → b.round ≤ k → k < length all.found.rounds.items → disturbances plan (reverse lines) ≤ k
-  fewest_of b lines pace first led is as_led k told within =
+  -- an order that leads to the first spot has no more disturbances than its round
+  few_of : (b : Broken) (lines : List Line) (pace : Pace) → IsFirst plan e (map spot_of all.found.tree.nodes.keys) all.found.rounds.items b → IsLedThrough bounds plan all → pace ≡ pace_of bounds
+      → IsAsLed pace plan (map spot_of all.found.tree.nodes.keys) all.found.tree.parents.items b.place lines → b.round < length all.found.rounds.items → disturbances plan (reverse lines) ≤ b.round
+  few_of b lines pace first led is as_led within =
       let ends = all.found.rounds.items in
       let r = round_of ends b.place in
       let round = first.round in
-      let there = slice_get-get_or ends r 0 (omega (arith, told, within, round)) in
+      let there = slice_get-get_or ends r 0 (omega (arith, within, round)) in
       let c = get_or ends r 0 in
       let led_by : IsAsLed (pace_of bounds) plan (map spot_of all.found.tree.nodes.keys) all.found.tree.parents.items b.place lines = subst (λ (p : Pace). IsAsLed p plan (map spot_of all.found.tree.nodes.keys) all.found.tree.parents.items b.place lines) is as_led in
       let few = led_by r (led.led r c b.place there (in_its_round ends b.place c there)) in
-      omega (arith, few, told, round)
+      omega (arith, few, round)
+
+  -- which is a complete one, where all orders were seen of a number with which it is told
+  in_a_round : (b : Broken) → IsFirst plan e (map spot_of all.found.tree.nodes.keys) all.found.rounds.items b → (k : ℕ) → IsSeen f.found.ended f.found.rounds k → b.round ≤ k → b.round < length all.found.rounds.items
+  in_a_round b first k seen told =
+      let same : length f.found.rounds ≡ length all.found.rounds.items = ap (λ (r : List ℕ). length r) f.rounds in
+      elim seen [
+        | inl saw ↦ let lt = in_any_round (pace_of bounds) plan e f.found.spots f.found.rounds b (found_first (Some b) first) (f.found.last saw) in omega (arith, lt, same)
+        | inr lt ↦ omega (arith, lt, same, told)
+      ]
 
   pub way_is : (b : Broken) (lines : List Line) (pace : Pace) → IsFirst plan e (map spot_of all.found.tree.nodes.keys) all.found.rounds.items b → IsLedThrough bounds plan all → pace ≡ pace_of bounds
       → IsOrderTo pace plan (map spot_of all.found.tree.nodes.keys) b.place lines → IsAsLed pace plan (map spot_of all.found.tree.nodes.keys) all.found.tree.parents.items b.place lines → IsWayBreaking bounds plan e lines
@@ -124,14 +136,15 @@ module _ (bounds : Bounds) (plan : Plan) (all : Outcomes) (e : Expectation) (f :
         found = f.found;
         lawful = to.lawful;
         fewest = record {
-          is_order = subst (λ (p : Pace). IsOrder p plan (reverse lines)) is to.order;
           breach = b.breach;
-          breaks = ap (breach_at plan e) (sym stands) ∙ first.breach;
-          few = λ k bound in_rounds had.
-              let told = (rounds (pace_of bounds) plan e f.found.spots f.found.rounds (Some b) (found_first (Some b) first) f.found.of_orders k bound in_rounds).1 had in
-              let inside = slice_get_within f.found.rounds k bound in_rounds in
-              let same : length f.found.rounds ≡ length all.found.rounds.items = ap (λ (r : List ℕ). length r) f.rounds in
-              fewest_of b lines pace first led is as_led k told (omega (arith, inside, same));
+          so = record {
+            is_order = subst (λ (p : Pace). IsOrder p plan (reverse lines)) is to.order;
+            breaks = ap (breach_at plan e) (sym stands) ∙ first.breach;
+            few = λ k seen broken.
+                let told : b.round ≤ k = (rounds (pace_of bounds) plan e f.found.spots f.found.rounds f.found.ended (Some b) (found_first (Some b) first) (are_found bounds plan f.found) k seen).1 broken in
+                let few = few_of b lines pace first led is as_led (in_a_round b first k seen told) in
+                omega (arith, few, told);
+          };
         };
       }
 

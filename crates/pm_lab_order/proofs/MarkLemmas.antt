@@ -1,5 +1,5 @@
 -- Which marks are listed, and by how many disturbances.
-use Rattle.std.proofs.Common.{ℕ, ◌≡◌, ◌<◌, ◌≤◌, List, Some, length, reverse, slice_get, sym, subst, ap, ◌∙◌, inl, inr, arith}
+use Rattle.std.proofs.Common.{ℕ, ◌≡◌, ◌<◌, ◌≤◌, List, Some, length, reverse, slice_get, sym, subst, ap, ◌∙◌, arith}
 use Rattle.std.proofs.lemmas.Option.{slice_get_within}
 use Rattle.pm_apart.specs.Homes.{IsHomePart}
 use Rattle.pm_sought.specs.Listed.{HasItNot, IsMarkAt}
@@ -62,8 +62,8 @@ not_at outcomes mark index o none there is = none index o (slice_get_within outc
 -- so no order has it
 pub has_none : (bounds : Bounds) (plan : Plan) (all : Outcomes) (mark : Mark) (f : IsFound bounds plan all) → HasItNot all.marks.items mark (length all.marks.items) → IsInNone bounds plan f.found (mark_of mark)
 has_none bounds plan all mark f none = record {
-  within = λ k bound there had.
-      let l : IsListedWithin f.found.marks k (mark_of mark) = (f.found.exact k bound there).complete (mark_of mark) had in
+  within = λ k seen had.
+      let l : IsListedWithin f.found.marks k (mark_of mark) = (f.found.exact k seen).complete (mark_of mark) had in
       not_at f.found.marks mark l.index l.outcome none_found l.there l.mark;
   of_all = λ whole had.
       let l : IsListed f.found.marks (mark_of mark) = (f.found.whole whole).complete (mark_of mark) had in
@@ -86,14 +86,13 @@ pub fewest : (bounds : Bounds) (plan : Plan) (all : Outcomes) (mark : Mark) (pla
 fewest bounds plan all mark place lines f at w = record {
   is_order = w.order;
   has = subst (λ (m : Mark). HasMark plan (spot plan (reverse lines)) (mark_of m)) at.is w.has;
-  few = λ k bound in_rounds had.
-      let l : IsListedWithin f.found.marks k (mark_of mark) = (f.found.exact k bound in_rounds).complete (mark_of mark) had in
+  few = λ k seen had.
+      let l : IsListedWithin f.found.marks k (mark_of mark) = (f.found.exact k seen).complete (mark_of mark) had in
       let same : l.index ≡ place = f.found.once l.index place l.outcome at.outcome l.there there (same_mark l.outcome.mark mark l.mark ∙ sym at.is) in
       let is : l.outcome ≡ at.outcome = some_is l.outcome at.outcome (sym l.there ∙ (ap (slice_get f.found.marks) same ∙ there)) in
       let round : l.outcome.round ≡ at.outcome.round = ap (λ (o : Outcome). o.round) is in
-      let within = slice_get_within f.found.rounds k bound in_rounds in
-      few_of k (l.outcome.round) l.few round within;
-  of_round = elim (f.found.of_rounds place at.outcome there) [ inl whole ↦ inl whole | inr within ↦ inr (below within) ];
+      few_of k (l.outcome.round) l.few round;
+  of_round = let few = w.few (omega (arith, inside, rounds_are)) in omega (arith, inside, few);
 }
   where
     there : slice_get f.found.marks place ≡ Some at.outcome
@@ -102,14 +101,12 @@ fewest bounds plan all mark place lines f at w = record {
     rounds_are : length f.found.rounds ≡ length all.found.rounds.items
     rounds_are = ap (λ (r : List ℕ). length r) f.rounds
 
-    below : at.outcome.round < length f.found.rounds → disturbances plan (reverse lines) < length f.found.rounds
-    below within =
-        let few = w.few (omega (arith, within, rounds_are)) in
-        omega (arith, within, few)
+    inside : at.outcome.round < length f.found.rounds
+    inside = f.found.of_rounds place at.outcome there
 
-    few_of : (k round : ℕ) → round ≤ k → round ≡ at.outcome.round → k < length f.found.rounds → disturbances plan (reverse lines) ≤ k
-    few_of k round le is within =
-        let few = w.few (omega (arith, within, rounds_are, le, is)) in
+    few_of : (k round : ℕ) → round ≤ k → round ≡ at.outcome.round → disturbances plan (reverse lines) ≤ k
+    few_of k round le is =
+        let few = w.few (omega (arith, inside, rounds_are)) in
         omega (arith, few, le, is)
 
 -- the lines of a witness are a way to the mark

@@ -1,7 +1,6 @@
 -- What `order .. fails INDEX` may come to (this project's own).
-use Rattle.std.specs.Prelude.{ℕ, ◌≡◌, ◌≤◌, ◌-◌, ⊤, List, Some, None, Ok, Err, length, reverse, slice_get}
-use Rattle.pm_broken.specs.Breaches.{breach_at}
-use Rattle.pm_broken.specs.Found.{IsBroken, IsBrokenWithin, all_of}
+use Rattle.std.specs.Prelude.{ℕ, ◌≡◌, ◌-◌, ⊤, List, Some, None, Ok, Err, length, reverse, slice_get}
+use Rattle.pm_broken.specs.Found.{BreaksSo, IsBroken, IsBrokenWithin, all_of}
 use Rattle.pm_broken.specs.declared.expectation.Breach.{Breach}
 use Rattle.pm_broken.specs.declared.expectation.Expectation.{Expectation}
 use Rattle.pm_cmd_ends.specs.Ending.{Taking}
@@ -23,19 +22,16 @@ use Rattle.pm_model.specs.FirstBad.{AreLinesOf}
 use Rattle.pm_model.specs.History.{History}
 use Rattle.pm_model.specs.Lawful.{IsLawful}
 use Rattle.pm_model.specs.Text.{text}
-use Rattle.pm_orders.specs.Orders.{IsOrder, disturbances, spot}
 use Rattle.pm_search.specs.declared.found.Ended.TheVariants.{Whole}
+use Rattle.pm_search.specs.Seen.{IsSeen}
 use Rattle.pm_serial.specs.declared.running.End.{End}
 use Rattle.pm_ways.specs.Found.{IsTooFar}
 use Rattle.pm_witness.specs.Going.{GoesOnFrom}
 
--- An order of the plan at the pace stands where the expectation is broken, and no more of its lines disturb than of any that does, of those of the
--- complete rounds: for each k whose round is complete, if some order of at most k disturbances breaks it, at most k of these lines disturb.
+-- An order of the plan at the pace stands where the expectation is broken, and no more of its lines disturb than of any that does.
 pub record BreaksFewest (bounds : Bounds) (plan : Plan) (found : OrdersFound bounds plan) (e : Expectation) (order : History) : Type 0 where
-  pub is_order : IsOrder (pace_of bounds) plan order
   pub breach : Breach
-  pub breaks : breach_at plan e (spot plan order) ≡ Some breach
-  pub few : (k bound : ℕ) → slice_get found.rounds k ≡ Some bound → IsBrokenWithin (pace_of bounds) plan k e → disturbances plan order ≤ k
+  pub so : BreaksSo (pace_of bounds) plan found.ended found.rounds e breach order
 
 -- Lines, in order, are a lawful run of the plan, of which each has a text. It begins with such an order, from which one thread goes on
 -- with it, and ends so.
@@ -46,9 +42,9 @@ pub record IsBreaking (bounds : Bounds) (plan : Plan) (found : OrdersFound bound
   pub fewest : BreaksFewest bounds plan found e order
   pub goes_on : GoesOnFrom plan order (reverse lines) ended
 
--- no order breaks it: none of at most k disturbances, for each k whose round is complete; and where the search saw all, none at all
+-- no order breaks it: none of at most k disturbances, for each k of which all orders were seen; and where the search saw all, none at all
 pub record IsUnbroken (bounds : Bounds) (plan : Plan) (found : OrdersFound bounds plan) (e : Expectation) : Type 0 where
-  pub within : (k bound : ℕ) → slice_get found.rounds k ≡ Some bound → ¬ IsBrokenWithin (pace_of bounds) plan k e
+  pub within : (k : ℕ) → IsSeen found.ended found.rounds k → ¬ IsBrokenWithin (pace_of bounds) plan k e
   pub of_all : found.ended ≡ Whole → ¬ IsBroken (pace_of bounds) plan e
 
 -- Of an expectation: this is the text of a run that breaks it; or no order does, of those that were gone through; or the way to where one does

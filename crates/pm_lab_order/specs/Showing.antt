@@ -1,5 +1,5 @@
 -- Runs that show a mark, and marks that no order shows (this project's own).
-use Rattle.std.specs.Prelude.{ℕ, ◌≡◌, ◌<◌, ◌≤◌, ◌⊎◌, List, Some, length, reverse, slice_get}
+use Rattle.std.specs.Prelude.{ℕ, ◌≡◌, ◌<◌, ◌≤◌, List, length, reverse}
 use Rattle.pm_apart.specs.Homes.{IsHomePart, home}
 use Rattle.pm_lab_orders.specs.Orders.{OrdersFound, pace_of}
 use Rattle.pm_lab_words.specs.declared.request.Bounds.{Bounds}
@@ -16,17 +16,18 @@ use Rattle.pm_orders.specs.Marks.{HasMark, Mark}
 use Rattle.pm_orders.specs.Orders.{IsOrder, disturbances, spot}
 use Rattle.pm_outcomes.specs.Had.{IsHad, IsHadWithin}
 use Rattle.pm_search.specs.declared.found.Ended.TheVariants.{Whole}
+use Rattle.pm_search.specs.Seen.{IsSeen}
 use Rattle.pm_serial.specs.declared.running.End.{End}
 use Rattle.pm_witness.specs.Going.{GoesOnFrom}
 
--- An order of the plan at the pace has the mark, and no more of its lines disturb than of any that has it, of those of the complete
--- rounds: for each k whose round is complete, if some order of at most k disturbances has the mark, at most k of these lines disturb.
--- Where the search didn't see all orders, the order is one of a complete round.
+-- An order of the plan at the pace has the mark, and no more of its lines disturb than of any that has it: for each k of which all
+-- orders were seen, if some order of at most k disturbances has the mark, at most k of these lines disturb. The order is one of a
+-- complete round.
 pub record IsFewest (bounds : Bounds) (plan : Plan) (found : OrdersFound bounds plan) (m : Mark) (order : History) : Type 0 where
   pub is_order : IsOrder (pace_of bounds) plan order
   pub has : HasMark plan (spot plan order) m
-  pub few : (k bound : ℕ) → slice_get found.rounds k ≡ Some bound → IsHadWithin (pace_of bounds) plan k m → disturbances plan order ≤ k
-  pub of_round : (found.ended ≡ Whole) ⊎ (disturbances plan order < length found.rounds)
+  pub few : (k : ℕ) → IsSeen found.ended found.rounds k → IsHadWithin (pace_of bounds) plan k m → disturbances plan order ≤ k
+  pub of_round : disturbances plan order < length found.rounds
 
 -- Lines, in order, are a lawful run of the plan, of which each has a text. It begins with such an order of the part of the mark's island, after
 -- which the island stands in the plan as in the part; from there one thread goes on with the whole plan, and ends so.
@@ -38,7 +39,7 @@ pub record IsShowing (bounds : Bounds) (plan : Plan) (mark : Kept) (part : Plan)
   pub stands : StandAlike plan at.numbering.island (home at.numbering.island mark) (world plan order) (world part order)
   pub goes_on : GoesOnFrom plan order (reverse lines) e
 
--- no order has the mark: none of at most k disturbances, for each k whose round is complete; and where the search saw all, none at all
+-- no order has the mark: none of at most k disturbances, for each k of which all orders were seen; and where the search saw all, none at all
 pub record IsInNone (bounds : Bounds) (plan : Plan) (found : OrdersFound bounds plan) (m : Mark) : Type 0 where
-  pub within : (k bound : ℕ) → slice_get found.rounds k ≡ Some bound → ¬ IsHadWithin (pace_of bounds) plan k m
+  pub within : (k : ℕ) → IsSeen found.ended found.rounds k → ¬ IsHadWithin (pace_of bounds) plan k m
   pub of_all : found.ended ≡ Whole → ¬ IsHad (pace_of bounds) plan m

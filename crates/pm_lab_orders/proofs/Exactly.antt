@@ -24,6 +24,7 @@ use Rattle.pm_orders_text.specs.declared.reach.Reach.TheVariants.{All, Limit, Wi
 use Rattle.pm_outcomes.specs.Had.{AreExact, IsHad, IsHadWithin, IsListed, IsListedWithin}
 use Rattle.pm_search.specs.declared.found.Ended.{Ended}
 use Rattle.pm_search.specs.declared.found.Ended.TheVariants.{Rounds, Stopped, Whole}
+use Rattle.pm_search.specs.Seen.{IsSeen}
 
 -- a list has a thing
 pub data IsIn {A : Type 0} (x : A) : List A → Type 0 where
@@ -189,12 +190,12 @@ module _ (bounds : Bounds) (plan : Plan) (found : IslandsFound bounds plan) wher
       let o = at_in l.outcome (outcomes_in found.islands) (of_own one m l.outcome there at l.mark (in_at one.found.marks l.index l.outcome l.there)) in
       record { index = o.0; outcome = l.outcome; there = o.1; mark = l.mark; few = l.few }
 
-  pub within : (one : IslandFound bounds plan found.numbering.island) (m : Mark) (k bound : ℕ) → Contains found.islands one → home found.numbering.island m ≡ one.number → slice_get one.found.rounds k ≡ Some bound
+  pub within : (one : IslandFound bounds plan found.numbering.island) (m : Mark) (k : ℕ) → Contains found.islands one → home found.numbering.island m ≡ one.number → IsSeen one.found.ended one.found.rounds k
       → IsListedWithin (outcomes_in found.islands) k (mark_of m) ↔ IsHadWithin (pace_of bounds) one.part k (mark_of m)
-  within one m k bound has at round =
+  within one m k has at seen =
       let place = at_of found.islands one has in
       let there = in_at found.islands place.0 one place.1 in
-      let exact = one.found.exact k bound round in
+      let exact = one.found.exact k seen in
       (λ l. exact.sound (mark_of m) (listed_here one m k there at l), λ had. listed_there one m k there at (exact.complete (mark_of m) had))
 
   pub of_all : (one : IslandFound bounds plan found.numbering.island) (m : Mark) → Contains found.islands one → home found.numbering.island m ≡ one.number → one.found.ended ≡ Whole
@@ -250,7 +251,7 @@ named_round k (Stopped stop) zero is = absurd is
 named_round k (Stopped stop) (suc n) is = inr (omega (arith, is))
 
 pub rounds : (bounds : Bounds) (plan : Plan) (found : IslandsFound bounds plan) (one : IslandFound bounds plan found.numbering.island) (k : ℕ) → Contains found.islands one → IsNamed k (reach_in found.islands)
-    → (one.found.ended ≡ Whole) ⊎ (k < length one.found.rounds)
+    → IsSeen one.found.ended one.found.rounds k
 rounds bounds plan found one k has is =
     let place = at_of found.islands one has in
     let there = in_at found.islands place.0 one place.1 in

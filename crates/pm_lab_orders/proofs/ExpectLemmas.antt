@@ -1,7 +1,8 @@
 -- What `orders --expect` comes to.
 use Rattle.std.proofs.Common.{◌≡◌, ◌++◌, ◌∙◌, ℕ, Bool, List, All, Option, IsSome, ap, length, map, subst, sym}
 use Rattle.std.proofs.lemmas.List.Elements.{All-weaker}
-use Rattle.pm_broken.specs.Found.{FirstsAreBroken, FirstsDecideAll, FirstsDecideRounds, IsFirstOf}
+use Rattle.pm_broken.specs.Found.{AreFound, FirstsAreBroken, FirstsDecideAll, FirstsDecideRounds, IsFirstOf}
+use Rattle.pm_broken.specs.declared.firsts.Broken.{Broken}
 use Rattle.pm_cmd_ends.specs.Reading.{IsRead}
 use Rattle.pm_expect_orders.specs.Judged.{IsJudgedFirst}
 use Rattle.pm_expect_orders.specs.Texts.{judged_lines}
@@ -9,30 +10,41 @@ use Rattle.pm_expect_orders.specs.declared.judging.Judged.{Judged}
 use Rattle.pm_lab_ends.specs.Ending.{OfThis}
 use Rattle.pm_lab_orders.specs.Expect.{ExpectUnread, IsDecided, of_expect, of_plan}
 use Rattle.pm_lab_orders.specs.Found.{IsFound, IsLedThrough}
-use Rattle.pm_lab_orders.specs.Orders.{pace_of, reach}
+use Rattle.pm_lab_orders.specs.Orders.{OrdersFound, pace_of, reach}
 use Rattle.pm_lab_orders.proofs.OrdersLemmas.{reach_is, told_is}
 use Rattle.pm_lab_words.specs.declared.request.Bounds.{Bounds}
 use Rattle.pm_model.specs.declared.plan.Plan.{Plan}
-use Rattle.pm_orders.specs.Spots.{Spot}
+use Rattle.pm_orders.specs.Spots.{Follows, Spot, start_spot}
 use Rattle.pm_orders_text.specs.Reached.{reach_of}
 use Rattle.pm_orders_text.specs.Texts.{told}
 use Rattle.pm_orders_text.specs.declared.reach.Reach.{Reach}
 use Rattle.pm_outcomes.specs.declared.finding.Outcomes.{Outcomes}
+use Rattle.pm_search.specs.Trees.{IsTree}
 use Rattle.pm_spot.specs.SpotOf.{spot_of}
+
+-- what was found of a plan's orders, as the laws on first spots have it
+pub are_found : (bounds : Bounds) (plan : Plan) (found : OrdersFound bounds plan) → AreFound (pace_of bounds) plan found.spots found.rounds found.ended
+are_found bounds plan found = record { of_orders = found.of_orders; all_orders = found.all_orders; last = found.last }
 
 module _ (bounds : Bounds) (plan : Plan) (all : Outcomes) (f : IsFound bounds plan all) (led : IsLedThrough bounds plan all) (rounds : FirstsDecideRounds) (whole : FirstsDecideAll) (sound : FirstsAreBroken) where
   -- the first spot that breaks an expectation decides it
   decided : (j : Judged) → IsFirstOf plan j.expectation (map spot_of all.found.tree.nodes.keys) all.found.rounds.items j.broken → IsDecided bounds plan f.found j
   decided j first = record {
-    within = λ k bound there. rounds (pace_of bounds) plan j.expectation f.found.spots f.found.rounds j.broken found_first f.found.of_orders k bound there;
+    within = λ k seen. rounds (pace_of bounds) plan j.expectation f.found.spots f.found.rounds f.found.ended j.broken found_first (are_found bounds plan f.found) k seen;
     of_all = λ is. whole (pace_of bounds) plan j.expectation f.found.spots f.found.rounds j.broken found_first (f.found.all_orders is);
-    sound = λ some. sound (pace_of bounds) plan j.expectation (map spot_of all.found.tree.nodes.keys) all.found.rounds.items all.found.tree.parents.items j.broken first led.tree some;
+    told_so = λ b is.
+        sound (pace_of bounds) plan j.expectation f.found.spots f.found.rounds f.found.parents f.found.ended b (subst (λ (o : Option Broken). IsFirstOf plan j.expectation f.found.spots f.found.rounds o) is found_first) (are_found bounds plan f.found) tree;
   }
     where
       found_first : IsFirstOf plan j.expectation f.found.spots f.found.rounds j.broken
       found_first =
           subst (λ (s : List Spot). IsFirstOf plan j.expectation s f.found.rounds j.broken) (sym f.spots)
           (subst (λ (r : List ℕ). IsFirstOf plan j.expectation (map spot_of all.found.tree.nodes.keys) r j.broken) (sym f.rounds) first)
+
+      tree : IsTree (Follows (pace_of bounds) plan) (start_spot plan) f.found.spots f.found.parents
+      tree =
+          subst (λ (s : List Spot). IsTree (Follows (pace_of bounds) plan) (start_spot plan) s f.found.parents) (sym f.spots)
+          (subst (λ (p : List ℕ). IsTree (Follows (pace_of bounds) plan) (start_spot plan) (map spot_of all.found.tree.nodes.keys) p) (sym f.parents) led.tree)
 
   -- and so all of them
   pub all_decided : (judged : List Judged) → All (IsJudgedFirst plan (map spot_of all.found.tree.nodes.keys) all.found.rounds.items) judged → All (IsDecided bounds plan f.found) judged

@@ -1,6 +1,7 @@
 -- What `orders --expect` may come to (this project's own).
-use Rattle.std.specs.Prelude.{◌≡◌, ◌↔◌, ℕ, Bool, List, ◌++◌, All, Option, Some, IsSome, length, map, slice_get}
-use Rattle.pm_broken.specs.Found.{IsBroken, IsBrokenWithin, IsToldWithin, all_of}
+use Rattle.std.specs.Prelude.{◌≡◌, ◌↔◌, ℕ, Bool, List, ◌++◌, All, Option, Some, IsSome, length, map}
+use Rattle.pm_broken.specs.Found.{BreaksSo, IsBroken, IsBrokenWithin, IsToldWithin, all_of}
+use Rattle.pm_broken.specs.declared.firsts.Broken.{Broken}
 use Rattle.pm_cmd_ends.specs.Reading.{IsRead}
 use Rattle.pm_expect.specs.declared.expectation.Expectations.{Expectations}
 use Rattle.pm_expect_orders.specs.Judged.{HasLine, what_of}
@@ -12,16 +13,18 @@ use Rattle.pm_lab_orders.specs.Orders.{OrdersFound, pace_of, reach}
 use Rattle.pm_lab_orders.specs.OrdersOutcome.{outcome_of_orders}
 use Rattle.pm_lab_words.specs.declared.request.Bounds.{Bounds}
 use Rattle.pm_model.specs.declared.plan.Plan.{Plan}
+use Rattle.pm_model.specs.History.{History}
 use Rattle.pm_orders_text.specs.Texts.{told}
 use Rattle.pm_search.specs.declared.found.Ended.TheVariants.{Whole}
+use Rattle.pm_search.specs.Seen.{IsSeen}
 
--- What was found decides an expectation: for each k whose round is complete it is told as broken with a number of at most k exactly where some
--- order of at most k disturbances breaks it; where the search saw all, it is told as broken exactly where some order breaks it; and where it is
--- told so, some order does.
+-- What was found decides an expectation: for each k of which all orders were seen it is told as broken with a number of at most k exactly where some
+-- order of at most k disturbances breaks it; where the search saw all, it is told as broken exactly where some order breaks it; and what is told of
+-- it is how an order breaks it that has the fewest disturbances.
 pub record IsDecided (bounds : Bounds) (plan : Plan) (found : OrdersFound bounds plan) (j : Judged) : Type 0 where
-  pub within : (k bound : ℕ) → slice_get found.rounds k ≡ Some bound → IsToldWithin k j.broken ↔ IsBrokenWithin (pace_of bounds) plan k j.expectation
+  pub within : (k : ℕ) → IsSeen found.ended found.rounds k → IsToldWithin k j.broken ↔ IsBrokenWithin (pace_of bounds) plan k j.expectation
   pub of_all : found.ended ≡ Whole → IsSome j.broken ↔ IsBroken (pace_of bounds) plan j.expectation
-  pub sound : IsSome j.broken → IsBroken (pace_of bounds) plan j.expectation
+  pub told_so : (b : Broken) → j.broken ≡ Some b → (order : History) × BreaksSo (pace_of bounds) plan found.ended found.rounds j.expectation b.breach order
 
 -- `orders PLAN --expect FILE`, over the file's text and what it expects: a line for each expectation, with a line of the file, and behind
 -- them the text of `orders`

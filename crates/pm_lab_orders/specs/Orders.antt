@@ -22,26 +22,30 @@ use Rattle.pm_outcomes.specs.Had.{AreExact, AreExactWithin, AreOfRounds, IsListe
 use Rattle.pm_search.specs.declared.found.Ended.{Ended}
 use Rattle.pm_search.specs.declared.found.Ended.TheVariants.{Rounds, Stopped, Whole}
 use Rattle.pm_search.specs.declared.graph.Stop.TheVariants.{Full, NoMemory as WantsMemory, TooFar}
+use Rattle.pm_search.specs.Exact.{EndWithAll}
+use Rattle.pm_search.specs.Seen.{IsSeen}
 use Rattle.pm_ways.specs.Found.{AreOfAllOrders, AreOfOrders, IsTooFar}
 
 abbrev pub pace_of : Bounds → Pace
 pace_of bounds = if bounds.late then Late else Prompt
 
--- What was found of a plan's orders within bounds: marks, and the spots at which orders stand, in so many rounds. For each k whose
--- round is complete the marks are exact of orders of at most k disturbances, and the spots of the round are theirs; where the search
--- saw all, of all orders. The rounds are for 0 to so many disturbances as the bounds say, unless there is no more to see, or a limit
--- came first: as many spots as the bounds say, or a way to a spot with as many lines as the plan allows.
+-- What was found of a plan's orders within bounds: marks, and the spots at which orders stand, in so many rounds. For each k of which
+-- all orders were seen the marks are exact of orders of at most k disturbances, and the spots of a round that is complete are those of
+-- its orders; where the search saw all, of all orders, and the last round has all spots. Each mark has the number of a complete round.
+-- The rounds are for 0 to so many disturbances as the bounds say, unless there is no more to see, or a limit came first: as many spots
+-- as the bounds say, or a way to a spot with as many lines as the plan allows.
 pub record OrdersFound (bounds : Bounds) (plan : Plan) : Type 0 where
   pub marks : List Outcome
   pub rounds : List ℕ
   pub spots : List Spot
   pub parents : List ℕ
   pub ended : Ended
-  pub exact : (k bound : ℕ) → slice_get rounds k ≡ Some bound → AreExactWithin (pace_of bounds) plan k marks
+  pub exact : (k : ℕ) → IsSeen ended rounds k → AreExactWithin (pace_of bounds) plan k marks
   pub of_orders : (k bound : ℕ) → slice_get rounds k ≡ Some bound → AreOfOrders (pace_of bounds) plan k spots bound
   pub whole : ended ≡ Whole → AreExact (pace_of bounds) plan marks
   pub all_orders : ended ≡ Whole → AreOfAllOrders (pace_of bounds) plan spots
-  pub of_rounds : AreOfRounds ended rounds marks
+  pub last : ended ≡ Whole → EndWithAll spots rounds
+  pub of_rounds : AreOfRounds rounds marks
   pub once : IsListedOnce marks
   pub complete : ended ≡ Rounds → length rounds ≡ bounds.most + 1
   pub full : ended ≡ Stopped Full → bounds.spots ≤ length spots

@@ -1,6 +1,6 @@
 //! `orders PLAN --expect FILE`: what the orders of a plan make of what its author expects.
 
-ghost use Rattle.std.specs.Prelude.{◌≡◌, ◌++◌, IfOk, OnOk, length};
+ghost use Rattle.std.specs.Prelude.{◌≡◌, ◌++◌, IfOk, length};
 ghost use Rattle.pm_cmd_ends.specs.Ending.{taking};
 ghost use Rattle.pm_expect_orders.specs.Texts.{judged_lines};
 ghost use Rattle.pm_io.specs.Asks.{AskedOnly};
@@ -22,7 +22,7 @@ use pm_lab_ends::{Fault, Outcome, finish, load, write_text};
 use pm_lab_find::{Read, expectations, tell_unread};
 use pm_lab_words::Bounds;
 use pm_model::Plan;
-use pm_orders_text::{orders_text, reach_of};
+use pm_orders_text::{orders_text, push, reach_of};
 use pm_outcomes::Outcomes;
 use std::alloc::Global;
 
@@ -95,14 +95,6 @@ fn expect_text(
     let shown = orders_text(alloc, plan, all, differ)?;
     push(&mut text, shown.as_slice())?;
     Ok(text)
-}
-
-/// Appends bytes.
-fn push(text: &mut Vec<u8>, piece: &[u8]) -> Result<(), NoMemory>
-    ensures { OnOk result (text.new.items ≡ text.old.items ++ piece.now) }
-{
-    text.extend_from_slice(piece)?;
-    Ok(())
 }
 
 /// Writes what the orders make of expectations, and what they show. Everything that takes memory comes before the first

@@ -1,6 +1,6 @@
 //! What the outcomes of a plan's islands tell together.
 
-ghost use Rattle.std.specs.Prelude.{ℕ, ◌≡◌, ◌<◌, ◌↔◌, ◌⊎◌, Some, length, slice_get};
+ghost use Rattle.std.specs.Prelude.{ℕ, ◌≡◌, ◌↔◌};
 ghost use Rattle.std.specs.List.{Contains};
 ghost use Rattle.pm_apart.specs.Homes.{home};
 ghost use Rattle.pm_lab_orders.specs.Orders.{IsNamed, IsOfPlan, IslandFound, IslandsFound, outcomes_in, pace_of, reach_in};
@@ -10,14 +10,15 @@ ghost use Rattle.pm_listed.specs.Shown.{mark_of};
 ghost use Rattle.pm_model.specs.declared.plan.Plan.{Plan as APlan};
 ghost use Rattle.pm_outcomes.specs.Had.{IsHad, IsHadWithin, IsListed, IsListedWithin};
 ghost use Rattle.pm_search.specs.declared.found.Ended.TheVariants.{Whole};
+ghost use Rattle.pm_search.specs.Seen.{IsSeen};
 
 /// Of what was found of a plan's islands: each mark of the plan is at home on one of them. It is listed with a number of
-/// at most k, where that round of its island is complete, exactly where some order of the island's part with at most k
-/// disturbances has it; and where the search saw all of the island, exactly where any order of the part has it. The rounds
-/// that the last line names are complete for each island of which not all was seen.
+/// at most k, for each k of which all orders of its island were seen, exactly where some order of the island's part with at
+/// most k disturbances has it; and where the search saw all of the island, exactly where any order of the part has it. Of the
+/// numbers that the last line names all orders of each island were seen.
 pub fn islands_are_exact()
     ensures homes { (bounds : TheBounds) (plan : APlan) (found : IslandsFound bounds plan) (m : AMark) → IsOfPlan plan m → (one : IslandFound bounds plan found.numbering.island) × Contains found.islands one × (home found.numbering.island m ≡ one.number) }
-    ensures within { (bounds : TheBounds) (plan : APlan) (found : IslandsFound bounds plan) (one : IslandFound bounds plan found.numbering.island) (m : AMark) (k bound : ℕ) → Contains found.islands one → home found.numbering.island m ≡ one.number → slice_get one.found.rounds k ≡ Some bound → IsListedWithin (outcomes_in found.islands) k (mark_of m) ↔ IsHadWithin (pace_of bounds) one.part k (mark_of m) }
+    ensures within { (bounds : TheBounds) (plan : APlan) (found : IslandsFound bounds plan) (one : IslandFound bounds plan found.numbering.island) (m : AMark) (k : ℕ) → Contains found.islands one → home found.numbering.island m ≡ one.number → IsSeen one.found.ended one.found.rounds k → IsListedWithin (outcomes_in found.islands) k (mark_of m) ↔ IsHadWithin (pace_of bounds) one.part k (mark_of m) }
     ensures of_all { (bounds : TheBounds) (plan : APlan) (found : IslandsFound bounds plan) (one : IslandFound bounds plan found.numbering.island) (m : AMark) → Contains found.islands one → home found.numbering.island m ≡ one.number → one.found.ended ≡ Whole → IsListed (outcomes_in found.islands) (mark_of m) ↔ IsHad (pace_of bounds) one.part (mark_of m) }
-    ensures rounds { (bounds : TheBounds) (plan : APlan) (found : IslandsFound bounds plan) (one : IslandFound bounds plan found.numbering.island) (k : ℕ) → Contains found.islands one → IsNamed k (reach_in found.islands) → (one.found.ended ≡ Whole) ⊎ (k < length one.found.rounds) }
+    ensures rounds { (bounds : TheBounds) (plan : APlan) (found : IslandsFound bounds plan) (one : IslandFound bounds plan found.numbering.island) (k : ℕ) → Contains found.islands one → IsNamed k (reach_in found.islands) → IsSeen one.found.ended one.found.rounds k }
 {}

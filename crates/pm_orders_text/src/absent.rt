@@ -24,8 +24,8 @@ fn push_subject(text: &mut Vec<u8>, plan: &Plan, mark: &Mark) -> Result<(), NoMe
     }
 }
 
-// Appends that a limit came first, where one did.
-fn push_limit(text: &mut Vec<u8>, reach: Reach) -> Result<(), NoMemory>
+/// Appends that a limit came first, where one did.
+pub fn push_limit(text: &mut Vec<u8>, reach: Reach) -> Result<(), NoMemory>
     ensures { OnOk result (text.new.items ≡ text.old.items ++ limit_words reach) }
 {
     match reach {

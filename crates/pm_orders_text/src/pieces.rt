@@ -78,8 +78,8 @@ pub fn push_value(text: &mut Vec<u8>, mark: &Mark) -> Result<(), NoMemory>
     }
 }
 
-// Appends a number of disturbances, where it isn't 0.
-fn push_after(text: &mut Vec<u8>, round: usize) -> Result<(), NoMemory>
+/// Appends a number of disturbances, where it isn't 0.
+pub fn push_after(text: &mut Vec<u8>, round: usize) -> Result<(), NoMemory>
     ensures { OnOk result (text.new.items ≡ text.old.items ++ after_text round) }
 {
     if round == 0 {

@@ -15,6 +15,10 @@ use Rattle.pm_orders.specs.declared.Pace.{Pace}
 use Rattle.pm_orders.specs.Marks.{HasMark, Mark as Shown}
 use Rattle.pm_orders.specs.Orders.{spot}
 use Rattle.pm_orders.specs.Spots.{Spot}
+use Rattle.pm_search.specs.declared.found.Ended.{Ended}
+use Rattle.pm_search.specs.declared.found.Ended.TheVariants.{Whole}
+use Rattle.pm_search.specs.Exact.{EndWithAll}
+use Rattle.pm_search.specs.Seen.{IsSeen}
 use Rattle.pm_ways.specs.Found.{AreOfAllOrders, AreOfOrders}
 use Rattle.pm_outcomes.specs.Had.{AreExact, AreExactWithin, AreShown, IsShownAt}
 use Rattle.pm_outcomes.specs.Seen.{AreFirstsBefore}
@@ -120,10 +124,21 @@ module _ (plan : Plan) (spots : List Spot) (rounds : List ℕ) (whole : Bool) (f
     in_round = λ i o bound there at. let c = comes i o there in in_its_round rounds o.place bound (subst (λ k. slice_get rounds k ≡ Some bound) c.round at);
   }
 
-  pub numbers_count : (i : ℕ) (o : Outcome) → slice_get outcomes i ≡ Some o → (whole ≡ true) ⊎ (o.round < length rounds)
-  numbers_count i o there = let c = comes i o there in subst (λ r. (whole ≡ true) ⊎ (r < length rounds)) (sym c.round) c.counts
+  -- each has the number of a round, where the last round of a whole search has all spots
+  pub in_rounds : (whole ≡ true → EndWithAll spots rounds) → (i : ℕ) (o : Outcome) → slice_get outcomes i ≡ Some o → o.round < length rounds
+  in_rounds ends i o there =
+      let c = comes i o there in
+      let same = c.round in
+      elim c.counts [
+        | inl is ↦
+            let e = ends is in
+            let last = e.is_last in
+            let round = no_later rounds o.place e.last (length spots) e.all (slice_get_within spots o.place c.shown.where_it_stands c.shown.there) in
+            omega (arith, same, last, round)
+        | inr lt ↦ omega (arith, same, lt)
+      ]
 
-  pub exact_within : (pace : Pace) → ((k bound : ℕ) → slice_get rounds k ≡ Some bound → AreOfOrders pace plan k spots bound) → (k bound : ℕ) → slice_get rounds k ≡ Some bound → AreExactWithin pace plan k outcomes
+  exact_within : (pace : Pace) → ((k bound : ℕ) → slice_get rounds k ≡ Some bound → AreOfOrders pace plan k spots bound) → (k bound : ℕ) → slice_get rounds k ≡ Some bound → AreExactWithin pace plan k outcomes
   exact_within pace of_orders k bound at = record {
     sound = λ m l.
         let c = comes l.index l.outcome l.there in
@@ -161,3 +176,30 @@ module _ (plan : Plan) (spots : List Spot) (rounds : List ℕ) (whole : Bool) (f
         let t = g.told (inl is) in
         record { index = t.0; outcome = t.1; there = t.2; mark = t.3 };
   }
+
+  -- past the last round of a whole search
+  exact_beyond : (pace : Pace) → ((k bound : ℕ) → slice_get rounds k ≡ Some bound → AreOfOrders pace plan k spots bound) → whole ≡ true → AreOfAllOrders pace plan spots → EndWithAll spots rounds → (k : ℕ) → length rounds ≤ k → AreExactWithin pace plan k outcomes
+  exact_beyond pace of_orders is all e k past =
+      let last = e.is_last in
+      record {
+        sound = λ m l.
+            let lt = in_rounds (λ w. e) l.index l.outcome l.there in
+            let h = (exact_within pace of_orders e.last (length spots) e.all).sound m (record { index = l.index; outcome = l.outcome; there = l.there; mark = l.mark; few = omega (arith, lt, last) }) in
+            let few = h.few in
+            record { order = h.order; is_order = h.is_order; few = omega (arith, few, last, past); has = h.has };
+        complete = λ m h.
+            let l = (exact pace is all).complete m (record { order = h.order; is_order = h.is_order; has = h.has }) in
+            let lt = in_rounds (λ w. e) l.index l.outcome l.there in
+            record { index = l.index; outcome = l.outcome; there = l.there; mark = l.mark; few = omega (arith, lt, past) };
+      }
+
+  -- and so for each number of disturbances whose orders were all seen
+  pub exact_seen : (pace : Pace) (ended : Ended) → ((k bound : ℕ) → slice_get rounds k ≡ Some bound → AreOfOrders pace plan k spots bound) → (ended ≡ Whole → whole ≡ true) → (ended ≡ Whole → AreOfAllOrders pace plan spots)
+      → (ended ≡ Whole → EndWithAll spots rounds) → (k : ℕ) → IsSeen ended rounds k → AreExactWithin pace plan k outcomes
+  exact_seen pace ended of_orders is all ends k seen = elim (cases_lt k (length rounds)) [
+    | inl lt ↦ exact_within pace of_orders k (get_or rounds k 0) (slice_get-get_or rounds k 0 lt)
+    | inr past ↦ elim seen [
+      | inl saw ↦ exact_beyond pace of_orders (is saw) (all saw) (ends saw) k past
+      | inr lt ↦ absurd (omega (arith, lt, past))
+    ]
+  ]

@@ -1,5 +1,5 @@
 -- What the orders of a plan show, and what a list tells of it (this project's own).
-use Rattle.std.specs.Prelude.{ℕ, ◌≡◌, ◌<◌, ◌≤◌, ◌⊎◌, List, Some, length, reverse, slice_get}
+use Rattle.std.specs.Prelude.{ℕ, ◌≡◌, ◌<◌, ◌≤◌, List, Some, length, reverse, slice_get}
 use Rattle.pm_listed.specs.declared.marks.Outcome.{Outcome}
 use Rattle.pm_listed.specs.Shown.{mark_of}
 use Rattle.pm_model.specs.declared.event.Line.{Line}
@@ -10,8 +10,6 @@ use Rattle.pm_orders.specs.declared.Pace.{Pace}
 use Rattle.pm_orders.specs.Marks.{HasMark, Mark}
 use Rattle.pm_orders.specs.Orders.{IsOrder, disturbances, spot}
 use Rattle.pm_orders.specs.Spots.{Spot}
-use Rattle.pm_search.specs.declared.found.Ended.{Ended}
-use Rattle.pm_search.specs.declared.found.Ended.TheVariants.{Whole}
 
 -- some order of whose lines at most k disturb has the mark
 pub record IsHadWithin (pace : Pace) (plan : Plan) (k : ℕ) (m : Mark) : Type 0 where
@@ -51,9 +49,9 @@ pub record AreExact (pace : Pace) (plan : Plan) (outcomes : List Outcome) : Type
   pub sound : (m : Mark) → IsListed outcomes m → IsHad pace plan m
   pub complete : (m : Mark) → IsHad pace plan m → IsListed outcomes m
 
--- the number of each outcome is that of a complete round, unless the search was whole
-abbrev pub AreOfRounds : Ended → List ℕ → List Outcome → Type 0
-AreOfRounds ended rounds outcomes = (i : ℕ) (o : Outcome) → slice_get outcomes i ≡ Some o → (ended ≡ Whole) ⊎ (o.round < length rounds)
+-- the number of each outcome is that of a complete round
+abbrev pub AreOfRounds : List ℕ → List Outcome → Type 0
+AreOfRounds rounds outcomes = (i : ℕ) (o : Outcome) → slice_get outcomes i ≡ Some o → o.round < length rounds
 
 -- no mark is listed twice
 abbrev pub IsListedOnce : List Outcome → Type 0

@@ -7,6 +7,8 @@ ghost use Rattle.pm_orders.specs.Spots.{Follows, start_spot};
 ghost use Rattle.pm_outcomes.specs.Had.{AreExact, AreExactWithin, AreOfRounds, AreShown, IsListedOnce};
 ghost use Rattle.pm_search.specs.declared.found.Ended.TheVariants.{Rounds, Stopped, Whole};
 ghost use Rattle.pm_search.specs.declared.graph.Stop.TheVariants.{Full, NoMemory as WantsMemory, TooFar};
+ghost use Rattle.pm_search.specs.Exact.{EndWithAll};
+ghost use Rattle.pm_search.specs.Seen.{IsSeen};
 ghost use Rattle.pm_search.specs.Trees.{AreLed, IsTree};
 ghost use Rattle.pm_spot.specs.SpotOf.{spot_of};
 ghost use Rattle.pm_ways.specs.Found.{AreOfAllOrders, AreOfOrders, IsTooFar};
@@ -51,12 +53,13 @@ pub fn all_outcomes(
     most: usize,
     limit: usize,
 ) -> Result<Outcomes, NoMemory>
-    // For each number of disturbances whose round is complete, and for all orders where it is whole.
-    ensures rounds { IfOk result (λ all. (k bound : ℕ) → slice_get all.found.rounds.items k ≡ Some bound → AreExactWithin pace plan.now k all.marks.items) }
+    // For each number of disturbances whose orders were all seen, and for all orders where it is whole.
+    ensures rounds { IfOk result (λ all. (k : ℕ) → IsSeen all.found.ended all.found.rounds.items k → AreExactWithin pace plan.now k all.marks.items) }
     ensures whole { IfOk result (λ all. all.found.ended ≡ Ended.Whole → AreExact pace plan.now all.marks.items) }
     ensures orders { IfOk result (λ all. (k bound : ℕ) → slice_get all.found.rounds.items k ≡ Some bound → AreOfOrders pace plan.now k (map spot_of all.found.tree.nodes.keys) bound) }
     ensures all_orders { IfOk result (λ all. all.found.ended ≡ Ended.Whole → AreOfAllOrders pace plan.now (map spot_of all.found.tree.nodes.keys)) }
-    ensures of_rounds { IfOk result (λ all. AreOfRounds all.found.ended all.found.rounds.items all.marks.items) }
+    ensures last { IfOk result (λ all. all.found.ended ≡ Ended.Whole → EndWithAll (map spot_of all.found.tree.nodes.keys) all.found.rounds.items) }
+    ensures of_rounds { IfOk result (λ all. AreOfRounds all.found.rounds.items all.marks.items) }
     ensures once { IfOk result (λ all. IsListedOnce all.marks.items) }
     ensures in_order { IfOk result (λ all. IsSorted by_text all.marks.items) }
 

@@ -1,13 +1,13 @@
 -- From points that are spread to all that is reached.
 use Rattle.std.proofs.Common.{◌≡◌, ℕ, zero, suc, ◌+◌, ◌<◌, ◌≤◌, Bool, true, false, List, [], ◌∷◌, ◌++◌, Some, length, slice_get, refl, sym, ◌∙◌, ap, subst, inl, inr, arith, below_more, length-append}
-use Rattle.pm_search.specs.Exact.{AreExact, IsAmong, IsExact, IsWhole}
+use Rattle.pm_search.specs.Exact.{AreExact, EndWithAll, IsAmong, IsExact, IsWhole}
 use Rattle.pm_search.specs.Growing.{AreSpread, Grows, IsKept, IsLed, IsSpread}
 use Rattle.pm_search.specs.Reached.{Reached, ReachedWithin}
 use Rattle.pm_search.specs.Reached.Reached.{begins, goes_on, spends}
 use Rattle.pm_search.specs.Trees.{AreLed, IsLedWithin, IsTree}
 use Rattle.pm_search.specs.Trees.IsLedTo.{starts}
 use Rattle.pm_search.proofs.Leading.{reached_within, within_kept}
-use Rattle.pm_search.proofs.Lists.{Grows-back, Grows-trans, IsAmong-grows, slice_get-push, some_within}
+use Rattle.pm_search.proofs.Lists.{Grows-back, Grows-trans, IsAmong-grows, slice_get-mid, slice_get-push, some_within}
 
 module _ {P : Type 0} (Follows : Bool → P → P → Type 0) where
   pub spread_kept : (b : Bool) (count : ℕ) (old new : List P) → IsKept old new → count ≤ length old → AreSpread Follows b count old → AreSpread Follows b count new
@@ -90,6 +90,7 @@ module _ {P : Type 0} (Follows : Bool → P → P → Type 0) (start : P) where
     pub dear : AreSpread Follows true spent points
     pub last : IsExact Follows start k points (length points)
     pub count : length ends ≡ k + 1
+    pub end : slice_get ends k ≡ Some (length points)
     pub exact : AreExact Follows start points ends
     pub ways : AreLed Follows points parents ends
 
@@ -121,6 +122,7 @@ module _ {P : Type 0} (Follows : Bool → P → P → Type 0) (start : P) where
         dear = λ i lt. absurd (omega (arith, lt));
         last = here;
         count = let one : length (length points ∷ []) ≡ 1 = refl in omega (arith, one, ap length e);
+        end = ap (λ l. slice_get l 0) e;
         exact = λ k bound h. alone here k bound (subst (λ l. slice_get l k ≡ Some bound) e h);
         ways = λ k bound i h lt. ways k bound i (subst (λ l. slice_get l k ≡ Some bound) e h) lt;
       }
@@ -151,6 +153,7 @@ module _ {P : Type 0} (Follows : Bool → P → P → Type 0) (start : P) where
         dear = dear';
         last = here;
         count = omega (arith, ap length e, length-append ends (length new ∷ []), r.count);
+        end = ap (λ l. slice_get l (k + 1)) e ∙ subst (λ n. slice_get (ends ++ length new ∷ []) n ≡ Some (length new)) r.count (slice_get-mid ends [] (length new));
         exact = subst (AreExact Follows start new) (sym e) (one_exact (k + 1) old new ends g r.count r.exact here);
         ways = subst (AreLed Follows new news) (sym e) (one_led (k + 1) old new olds news ends g h r.count r.ways led);
       }
@@ -165,6 +168,10 @@ module _ {P : Type 0} (Follows : Bool → P → P → Type 0) (start : P) where
         sound = λ i p h. let w = reached_within Follows start mid mids (k + 1) t led i p h in (w.spent, w.reached);
         complete = λ p reached. everything mid (subst (λ n. AreSpread Follows false n mid) (sym same) free) (subst (λ n. AreSpread Follows true n mid) (sym same) dear) first reached.1;
       }
+
+  -- and the last round has all
+  pub round_ends : (k : ℕ) (old mid : List P) (olds : List ℕ) (spent : ℕ) (ends : List ℕ) → Round k old olds spent ends → length mid ≡ length old → EndWithAll mid ends
+  round_ends k old mid olds spent ends r same = record { last = k; is_last = r.count; all = r.end ∙ ap Some (sym same) }
 
   -- the start alone
   pub led_first : IsLed Follows 0 (start ∷ []) (0 ∷ [])

@@ -1,5 +1,5 @@
 -- Lists that have exactly the points that are reached (this project's own).
-use Rattle.std.specs.Prelude.{ℕ, ◌≡◌, ◌<◌, ◌≤◌, Bool, List, Some, length, slice_get}
+use Rattle.std.specs.Prelude.{ℕ, ◌≡◌, ◌<◌, ◌≤◌, ◌+◌, Bool, List, Some, length, slice_get}
 use Rattle.pm_search.specs.Reached.{Reached, ReachedWithin}
 
 -- the first so many of a list have this one
@@ -12,6 +12,12 @@ pub record IsAmong {P : Type 0} (points : List P) (bound : ℕ) (p : P) : Type 0
 pub record HasExactly {P : Type 0} (Test : P → Type 0) (points : List P) : Type 0 where
   pub sound : (i : ℕ) (p : P) → slice_get points i ≡ Some p → Test p
   pub complete : (p : P) → Test p → IsAmong points (length points) p
+
+-- the last number of the list is that of all points
+pub record EndWithAll {P : Type 0} (points : List P) (rounds : List ℕ) : Type 0 where
+  pub last : ℕ
+  pub is_last : length rounds ≡ last + 1
+  pub all : slice_get rounds last ≡ Some (length points)
 
 module _ {P : Type 0} (Follows : Bool → P → P → Type 0) (start : P) where
   -- the first so many points are exactly those that are reached by steps of which at most k spend

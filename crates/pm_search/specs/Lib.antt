@@ -1,5 +1,6 @@
 pub mod Reached
 pub mod Exact
+pub mod Seen
 pub mod Trees
 pub mod Growing
 pub mod Doubling

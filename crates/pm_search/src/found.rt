@@ -3,7 +3,7 @@
 ghost use Rattle.std.specs.Prelude.{◌≡◌, ◌≤◌, ◌+◌, [], ℕ, true, false, Err, Ok, length, map};
 ghost use Rattle.pm_search.specs.declared.graph.Stop.TheVariants.{Full, NoMemory, TooFar};
 ghost use Rattle.pm_search.specs.declared.found.Ended.TheVariants.{Rounds, Stopped, Whole};
-ghost use Rattle.pm_search.specs.Exact.{AreExact, IsWhole};
+ghost use Rattle.pm_search.specs.Exact.{AreExact, EndWithAll, IsWhole};
 ghost use Rattle.pm_search.specs.Trees.{AreLed, IsTree};
 
 use crate::graph::{Graph, Stop};
@@ -53,6 +53,7 @@ fn find<N: Eq + Hash + Drop, G: Graph<N>>(
     ensures rounds { AreExact (G.Follows graph.now) (G.start graph.now) (map (G.point graph.now) tree.new.nodes.keys) rounds.new.items }
     ensures led { AreLed (G.Follows graph.now) (map (G.point graph.now) tree.new.nodes.keys) tree.new.parents.items rounds.new.items }
     ensures whole { result ≡ Ok true → IsWhole (G.Follows graph.now) (G.start graph.now) (map (G.point graph.now) tree.new.nodes.keys) }
+    ensures last { result ≡ Ok true → EndWithAll (map (G.point graph.now) tree.new.nodes.keys) rounds.new.items }
     ensures complete { result ≡ Ok false → length rounds.new.items ≡ most + 1 }
     ensures full { result ≡ Err Stop.Full → limit ≤ length tree.new.nodes.keys }
     ensures too_far { result ≡ Err Stop.TooFar → (at : ℕ) × G.IsTooFar graph.now (map (G.point graph.now) tree.new.nodes.keys) tree.new.parents.items at }
@@ -92,8 +93,9 @@ pub fn search<N: Eq + Hash + Drop, G: Graph<N>>(
     ensures rounds { AreExact (G.Follows graph.now) (G.start graph.now) (map (G.point graph.now) result.tree.nodes.keys) result.rounds.items }
     ensures led { AreLed (G.Follows graph.now) (map (G.point graph.now) result.tree.nodes.keys) result.tree.parents.items result.rounds.items }
 
-    // How it ended.
+    // How it ended. Where it is whole, its last round has all.
     ensures whole { result.ended ≡ Ended.Whole → IsWhole (G.Follows graph.now) (G.start graph.now) (map (G.point graph.now) result.tree.nodes.keys) }
+    ensures last { result.ended ≡ Ended.Whole → EndWithAll (map (G.point graph.now) result.tree.nodes.keys) result.rounds.items }
     ensures complete { result.ended ≡ Ended.Rounds → length result.rounds.items ≡ most + 1 }
     ensures full { result.ended ≡ Ended.Stopped Stop.Full → limit ≤ length result.tree.nodes.keys }
     ensures too_far { result.ended ≡ Ended.Stopped Stop.TooFar → (at : ℕ) × G.IsTooFar graph.now (map (G.point graph.now) result.tree.nodes.keys) result.tree.parents.items at }

@@ -1,5 +1,5 @@
 -- The lines of a run on one thread come one by one.
-use Rattle.std.proofs.Common.{◌≡◌, ◌∙◌, ◌+◌, ◌++◌, ◌*◌, ◌-◌, ◌<◌, ◌≤◌, ◌^◌, ◌⊎◌, ℕ, zero, suc, Bool, true, false, List, [], ◌∷◌, Option, None, Some, length, reverse, slice_get, ap, append-nil, append_assoc, arith, lit<, refl, subst, sym}
+use Rattle.std.proofs.Common.{◌≡◌, ◌∙◌, ◌+◌, ◌++◌, ◌*◌, ◌-◌, ◌<◌, ◌≤◌, ◌^◌, ◌⊎◌, ℕ, zero, suc, Bool, true, false, List, [], ◌∷◌, Option, None, Some, IsSome, is_some, length, reverse, slice_get, ap, append-nil, append_assoc, arith, lit<, refl, subst, sym}
 use Rattle.std.specs.Option.{option_and_then, option_map_or}
 use Rattle.std.proofs.lemmas.Bool.{false_from_ne_true}
 use Rattle.std.proofs.lemmas.List.{length-append, length-reverse, reverse-append, reverse-reverse}
@@ -152,12 +152,11 @@ pub in_time : (plan : Plan) (h : History) → HasTime plan h → last_time h < 2
 in_time plan h has = let end : 2 ^ 62 < 2 ^ 63 = lit< tt in omega (arith, has, end)
 
 -- it stands at a stage
-pub no_stage : (plan : Plan) (came : ℕ) (state : Standing) (turns : Index) (turn : ActorId × ℕ) → (k : IsAfter plan came state turns) → IsDue plan k.list turn → stage_at plan state.world turn.0 ≡ None → ⊥
-no_stage plan came state turns turn k due none =
+pub some_stage : (plan : Plan) (came : ℕ) (state : Standing) (turns : Index) (turn : ActorId × ℕ) → (k : IsAfter plan came state turns) → IsDue plan k.list turn → IsSome (stage_at plan state.world turn.0)
+some_stage plan came state turns turn k due =
     let there = its_stage plan k.list turn due in
-    let same : stage_at plan (world plan k.list) turn.0 ≡ None = subst (λ (w : World). stage_at plan w turn.0 ≡ None) k.world_is none in
-    let clash : Some there.0 ≡ None = sym there.1 ∙ same in
-    cc clash
+    let here : stage_at plan state.world turn.0 ≡ Some there.0 = subst (λ (w : World). stage_at plan w turn.0 ≡ Some there.0) (sym k.world_is) there.1 in
+    ap (λ (o : Option Stage). is_some o) here
 
 -- its move there writes
 pub no_move : (plan : Plan) (came : ℕ) (state : Standing) (turns : Index) (turn : ActorId × ℕ) (s : Stage) (m : Move) → (k : IsAfter plan came state turns) → IsDue plan k.list turn

@@ -1,23 +1,25 @@
 //! The lines of a run on one thread, one by one.
 
-ghost use Rattle.std.specs.Prelude.{◌≡◌, ◌+◌, ◌<◌, length, reverse, slice_get, true, IfNone, IfOk, IfSome};
+ghost use Rattle.std.specs.Prelude.{◌≡◌, ◌+◌, ◌<◌, ◌^◌, length, reverse, slice_get, true, IfNone, IfOk, IfSome, IsSome, Some};
 ghost use Rattle.std.specs.List.{list_all};
+ghost use Rattle.pm_law_turns.specs.Looks.{device_at};
 ghost use Rattle.pm_model.specs.declared.plan.Plan.{Plan as APlan};
 ghost use Rattle.pm_model.specs.Lawful.{IsLawful};
 ghost use Rattle.pm_model.specs.LineOf.{is_line_of};
 ghost use Rattle.pm_model.specs.Serial.{serial};
-ghost use Rattle.pm_serial.specs.Coming.{IsAfter};
+ghost use Rattle.pm_serial.specs.Coming.{IsAfter, Moves};
 ghost use Rattle.pm_serial.specs.Ends.{IsSerialEnd};
-ghost use Rattle.pm_state.specs.Standing.{IsActor};
+ghost use Rattle.pm_model.specs.World.{move, stage_at};
+ghost use Rattle.pm_state.specs.Standing.{IsActor, IsOf, StandsWell, can_go_on};
 
 use crate::{End, fresh_books_have_time};
-use pm_base::{ActorId, NoMemory};
+use pm_base::{ActorId, DevId, NoMemory};
 use pm_book::{all_stand_well, each_line_fits, each_line_is_taken};
 use pm_law_bounds::{due_moments, lines_are_of_plan};
 use pm_law_turns::{serial_ends, serial_stops};
-use pm_model::{Line, Move, Plan};
+use pm_model::{Line, Move, Plan, Stage};
 use pm_state::State;
-use pm_turns::Turns;
+use pm_turns::{Turns, device_at};
 use std::alloc::Global;
 use std::marker::Model;
 
@@ -41,6 +43,41 @@ impl<'p> Model for SerialLines<'p> {
     ghost invariant = { λ l. IsAfter l.plan.now l.came l.state l.turns };
 }
 
+// Puts in `out` what the actor may do at this stage, at which it stands, and answers the stage's device.
+#[inline(always)]
+fn move_at(plan: &Plan, state: &State, stage: &Stage, time: u64, out: &mut Move) -> Option<DevId>
+    requires is_of { IsOf plan.now state.now }
+    requires stands { can_go_on plan.now state.now.world.views stage.now ≡ true }
+    requires in_time { time < 2 ^ 63 }
+    ensures moves { Some out.new ≡ move plan.now state.now.world.views stage.now time }
+    ensures at { result ≡ device_at stage.now }
+{
+    state.write_next(plan, stage, time, out);
+    device_at(stage)
+}
+
+// Puts in `out` what the actor may do at the stage where it stands, and answers the stage's device. Mostly the stage is
+// open, and then it is read where it is kept.
+#[inline(always)]
+fn move_of(plan: &Plan, state: &State, actor: ActorId, time: u64, out: &mut Move) -> Option<DevId>
+    requires is_of { IsOf plan.now state.now }
+    requires in_range { IsActor plan.now actor }
+    requires stands { IsSome (stage_at plan.now state.now.world actor) }
+    requires well { StandsWell plan.now state.now.world actor }
+    requires in_time { time < 2 ^ 63 }
+    ensures { Moves plan.now state.now.world actor time out.new result }
+{
+    match state.top(plan, actor) {
+        Some(stage) => move_at(plan, state, stage, time, out),
+        None => {
+            let Some(start) = state.ready(plan, actor) else {
+                unreachable!();
+            };
+            move_at(plan, state, &start, time, out)
+        }
+    }
+}
+
 // Writes the next line, if there is one: by the actor whose turn it is.
 fn write_next(plan: &Plan, state: &mut State, turns: &mut Turns, _came: u32) -> Option<Line>
     requires after { IsAfter plan.now _came state.old turns.old }
@@ -54,22 +91,18 @@ fn write_next(plan: &Plan, state: &mut State, turns: &mut Turns, _came: u32) -> 
     each_line_fits();
     due_moments();
     let (actor, time) = turns.next()?;
-    let Some(stage) = state.stage_at(plan, actor) else {
-        unreachable!();
-    };
     let mut next = Move::Late(time);
-    state.write_next(plan, &stage, time, &mut next);
+    let at = move_of(plan, state, actor, time, &mut next);
     let Move::Write(event, change, then) = &next else {
         unreachable!();
     };
-    let line = Line {
+    state.go(plan, time, actor, event, change, then);
+    turns.settle(plan, state, at, time, actor, event);
+    Some(Line {
         time,
         actor,
         event: *event,
-    };
-    state.go(plan, time, actor, &line.event, change, then);
-    turns.settle(plan, state, &stage, &line);
-    Some(line)
+    })
 }
 
 impl<'p> SerialLines<'p> {

@@ -2,7 +2,7 @@
 
 ghost use Rattle.std.specs.Prelude.{◌<◌};
 
-use pm_audit::{Auditor, LoadFault, NoWhy, Verdict, load_trace};
+use pm_audit::{Auditor, LineTaker, LoadFault, NoWhy, Verdict, load_trace};
 use pm_book::Book;
 use pm_planread::{PlanFault, read_plan};
 use std::alloc::Global;
@@ -301,32 +301,38 @@ pm_trace 2
     },
 ];
 
-/// An auditor of the plan, which keeps lines where that is asked for.
-fn auditor(alloc: Global, plan: &[u8], keeps: bool) -> Result<Auditor, PlanFault> {
-    let plan = read_plan(alloc, plan)?;
-    let started = if keeps {
-        Auditor::keeping(alloc, plan)
-    } else {
-        Auditor::new(alloc, plan)
-    };
-    match started {
-        Ok(auditor) => Ok(auditor),
+/// Feeds the text in pieces of this length.
+fn feed<T: LineTaker>(auditor: &mut Auditor<T>, text: &str, len: usize)
+    requires { 0 < len }
+{
+    for piece in text.as_bytes().chunks(len) {
+        auditor.feed(piece);
+    }
+}
+
+/// What is said of a text that is fed in pieces of this length, where nothing is kept of it.
+fn said_of_pieces(alloc: Global, case: &Said, len: usize) -> Result<Verdict, PlanFault>
+    requires { 0 < len }
+{
+    match Auditor::new(alloc, read_plan(alloc, case.plan)?) {
+        Ok(mut auditor) => {
+            feed(&mut auditor, case.text, len);
+            Ok(auditor.end())
+        }
         Err((_plan, error)) => Err(error.into()),
     }
 }
 
-/// What is said of a text that is fed in pieces of this length, where a book is made of it or none.
-fn said_of_pieces(alloc: Global, case: &Said, len: usize, keeps: bool) -> Result<Verdict, PlanFault>
+/// What is said of it where a book is made of it.
+fn said_of_book(alloc: Global, case: &Said, len: usize) -> Result<Verdict, PlanFault>
     requires { 0 < len }
 {
-    let mut auditor = auditor(alloc, case.plan, keeps)?;
-    for piece in case.text.as_bytes().chunks(len) {
-        auditor.feed(piece);
-    }
-    if keeps {
-        said_of(auditor.book(alloc))
-    } else {
-        Ok(auditor.end())
+    match Auditor::keeping(alloc, read_plan(alloc, case.plan)?) {
+        Ok(mut auditor) => {
+            feed(&mut auditor, case.text, len);
+            said_of(auditor.book(alloc))
+        }
+        Err((_plan, error)) => Err(error.into()),
     }
 }
 
@@ -348,8 +354,8 @@ pub fn is_said(alloc: Global, case: &Said) -> Result<bool, PlanFault> {
     let text = case.text.as_bytes();
     for len in [text.len(), 7, 1] {
         let len = len.max(1);
-        if said_of_pieces(alloc, case, len, false)? != case.verdict
-            || said_of_pieces(alloc, case, len, true)? != case.verdict
+        if said_of_pieces(alloc, case, len)? != case.verdict
+            || said_of_book(alloc, case, len)? != case.verdict
         {
             return Ok(false);
         }

@@ -1,5 +1,4 @@
 mod Lists
-mod Backward
 mod IdleStageAlike
 mod SuspendStageAlike
 mod PurposeAlike

@@ -1,9 +1,8 @@
 //! Where an order stands, read out of the state of its run.
 
-ghost use Rattle.std.specs.Prelude.{◌≡◌, ◌<◌, ◌++◌, IfOk, OnOk, length, map, reverse};
+ghost use Rattle.std.specs.Prelude.{◌≡◌, IfOk, map};
 ghost use Rattle.pm_law_counts.specs.Sizes.{HasEntries};
-ghost use Rattle.pm_model.specs.World.{place};
-ghost use Rattle.pm_state.specs.Standing.{IsActor, IsOf};
+ghost use Rattle.pm_state.specs.Standing.{IsOf};
 ghost use Rattle.pm_spot.specs.SpotOf.{spot_of};
 
 use crate::spot::Spot;
@@ -81,33 +80,13 @@ fn links_present(alloc: Global, plan: &Plan, state: &State) -> Result<Vec<bool>,
     Ok(out)
 }
 
-// The open stages of an actor, the one that writes next first.
-#[tactic(auto, using(crate::proofs::Backward::reverse_more))]
-fn stages_of(
-    alloc: Global,
-    plan: &Plan,
-    state: &State,
-    actor: ActorId,
-) -> Result<Vec<Stage>, AllocError>
-    requires is_of { IsOf plan.now state.now }
-    requires in_range { IsActor plan.now actor }
-    ensures { IfOk result (λ stages. stages.items ≡ place state.now.world actor) }
-{
-    let open = state.open(plan, actor);
-    let mut stages = Vec::with_capacity(alloc, open.len())?;
-    for back in 0..open.len() {
-        stages.push(open[open.len() - 1 - back])?;
-    }
-    Ok(stages)
-}
-
 fn caller_places(alloc: Global, plan: &Plan, state: &State) -> Result<Vec<Vec<Stage>>, AllocError>
     requires is_of { IsOf plan.now state.now }
     ensures { IfOk result (λ out. map (λ v. v.items) out.items ≡ state.now.world.caller_places) }
 {
     let mut out = Vec::with_capacity(alloc, plan.callers.len())?;
     for caller in 0..plan.callers.len() {
-        let stages = stages_of(alloc, plan, state, ActorId::Caller(caller as u32))?;
+        let stages = state.open(alloc, plan, ActorId::Caller(caller as u32))?;
         out.push(stages)?;
     }
     Ok(out)
@@ -119,7 +98,7 @@ fn work_places(alloc: Global, plan: &Plan, state: &State) -> Result<Vec<Vec<Stag
 {
     let mut out = Vec::with_capacity(alloc, plan.devices.len())?;
     for dev in 0..plan.devices.len() {
-        let stages = stages_of(alloc, plan, state, ActorId::Work(dev as u32))?;
+        let stages = state.open(alloc, plan, ActorId::Work(dev as u32))?;
         out.push(stages)?;
     }
     Ok(out)
@@ -131,7 +110,7 @@ fn timer_places(alloc: Global, plan: &Plan, state: &State) -> Result<Vec<Vec<Sta
 {
     let mut out = Vec::with_capacity(alloc, plan.devices.len())?;
     for dev in 0..plan.devices.len() {
-        let stages = stages_of(alloc, plan, state, ActorId::Timer(dev as u32))?;
+        let stages = state.open(alloc, plan, ActorId::Timer(dev as u32))?;
         out.push(stages)?;
     }
     Ok(out)

@@ -1,12 +1,17 @@
 -- The stages of many places, by the place of one.
-use Rattle.std.proofs.Common.{ℕ, zero, suc, ◌≡◌, ◌∙◌, ◌<◌, ◌≤◌, ◌+◌, ◌++◌, Bool, List, [], ◌∷◌, drop, length, map, replicate, slice_index_or, slice_set, take, ap, refl, subst, sym, arith}
+use Rattle.std.proofs.Common.{ℕ, zero, suc, ◌≡◌, ◌∙◌, ◌<◌, ◌≤◌, ◌+◌, ◌++◌, Bool, List, [], ◌∷◌, Option, Some, None, drop, length, map, replicate, reverse, slice_index_or, slice_set, take, ap, refl, subst, sym, arith}
 use Rattle.std.specs.List.{list_all}
 use Rattle.std.proofs.lemmas.List.Folds.{list_all-map}
 use Rattle.std.proofs.lemmas.List.{get_or-map, length-map, map-set, take_more, take_more_set}
 use Rattle.pm_model.specs.declared.stage.Stage.{Stage}
 use Rattle.pm_model.specs.declared.stage.Then.{Then}
 use Rattle.pm_model.specs.Handing.{after_then}
-use Rattle.pm_state.specs.Places.{HasRoom, Stack}
+use Rattle.pm_state.specs.Places.{HasRoom, IsStack, Stack, stages_over}
+
+-- under the top stand those below it
+pub below_top : (top : Option Stage) (below : List Stage) → IsStack top below → drop 1 (stages_over top below) ≡ reverse below
+below_top None below is = sym (ap (λ (l : List Stage). reverse l) is)
+below_top (Some s) below is = refl
 
 pub stack_at : (stacks : List Stack) (i : ℕ) (d : Stack) → i < length stacks → slice_index_or (map (λ (q : Stack). q.stages) stacks) i [] ≡ (slice_index_or stacks i d).stages
 stack_at stacks i d lt = get_or-map (λ (q : Stack). q.stages) stacks i d [] lt

@@ -1,6 +1,6 @@
 //! The places of some actors.
 
-ghost use Rattle.std.specs.Prelude.{◌≡◌, ◌<◌, ◌≤◌, [], drop, length, map, replicate, reverse, slice_index_or, slice_set, IfOk, None};
+ghost use Rattle.std.specs.Prelude.{◌≡◌, ◌<◌, ◌≤◌, [], drop, length, map, replicate, slice_index_or, slice_set, IfOk, None};
 ghost use Rattle.std.specs.List.{list_all};
 ghost use Rattle.std.specs.Option.{option_copied};
 ghost use Rattle.pm_model.specs.Handing.{after_then};
@@ -11,7 +11,7 @@ ghost use Rattle.pm_state.specs.Places.{HasRoom};
 use crate::place::Place;
 use pm_base::NoMemory;
 use pm_model::{Stage, Then};
-use std::alloc::Global;
+use std::alloc::{AllocError, Global};
 use std::marker::Model;
 
 /// The open stages of some actors, each the one that writes next first, and for how many each of their
@@ -65,6 +65,7 @@ impl Places {
 
     /// The stage of an actor that writes next; `None` comes exactly where no stage is open at its place.
     #[tactic(auto, using(crate::proofs::StackLemmas::stack_at))]
+    #[inline(always)]
     pub fn top(&self, actor: usize) -> Option<&Stage>
         requires { actor < length self.now.stages }
         ensures { option_copied result ≡ top None (slice_index_or self.now.stages actor []) }
@@ -72,13 +73,13 @@ impl Places {
         self.places[actor].top()
     }
 
-    /// The open stages of an actor, of which the one that writes next is the last.
+    /// A copy of the open stages of an actor, the one that writes next first.
     #[tactic(auto, using(crate::proofs::StackLemmas::stack_at))]
-    pub fn stages(&self, actor: usize) -> &[Stage]
+    pub fn copied(&self, alloc: Global, actor: usize) -> Result<Vec<Stage>, AllocError>
         requires { actor < length self.now.stages }
-        ensures { reverse result.now ≡ slice_index_or self.now.stages actor [] }
+        ensures { IfOk result (λ stages. stages.items ≡ slice_index_or self.now.stages actor []) }
     {
-        self.places[actor].stages()
+        self.places[actor].copied(alloc)
     }
 
     /// Whether no stage is open at any place.
@@ -91,6 +92,7 @@ impl Places {
     /// What comes after the line of an actor's top stage takes its place; a code is handed down. Where
     /// no stage is open, what comes after the line begins the stack. It takes no memory.
     #[tactic(auto, using(crate::proofs::StackLemmas::stack_at))]
+    #[inline(always)]
     pub fn go(&mut self, actor: usize, then: &Then)
         requires in_range { actor < length self.old.stages }
         requires room { length (after_then then.now (drop 1 (slice_index_or self.old.stages actor []))) ≤ self.old.room }

@@ -1,6 +1,6 @@
 //! The state of a run, and at which stage each actor stands.
 
-ghost use Rattle.std.specs.Prelude.{◌≡◌, ◌<◌, map, length, option_map, reverse, slice_get, IfOk, None};
+ghost use Rattle.std.specs.Prelude.{◌≡◌, ◌<◌, map, length, option_map, slice_get, IfOk, None};
 ghost use Rattle.std.specs.Option.{option_and_then, option_copied};
 ghost use Rattle.pm_model.specs.World.{due, place, ready, stage_at, start, top};
 ghost use Rattle.pm_state.specs.Standing.{IsActor, IsOf, counters};
@@ -94,16 +94,16 @@ impl State {
         })
     }
 
-    /// The open stages of an actor, of which the one that writes next is the last.
-    pub fn open(&self, plan: &Plan, actor: ActorId) -> &[Stage]
+    /// A copy of the open stages of an actor, the one that writes next first.
+    pub fn open(&self, alloc: Global, plan: &Plan, actor: ActorId) -> Result<Vec<Stage>, AllocError>
         requires is_of { IsOf plan.now self.now }
         requires in_range { IsActor plan.now actor }
-        ensures { reverse result.now ≡ place self.now.world actor }
+        ensures { IfOk result (λ stages. stages.items ≡ place self.now.world actor) }
     {
         match actor {
-            ActorId::Caller(caller) => self.callers.stages(caller as usize),
-            ActorId::Work(device) => self.works.stages(device as usize),
-            ActorId::Timer(device) => self.timers.stages(device as usize),
+            ActorId::Caller(caller) => self.callers.copied(alloc, caller as usize),
+            ActorId::Work(device) => self.works.copied(alloc, device as usize),
+            ActorId::Timer(device) => self.timers.copied(alloc, device as usize),
         }
     }
 
@@ -123,6 +123,7 @@ impl State {
 
     /// The stage of an actor that is open and writes next; `None` comes exactly where its place is
     /// empty. It takes no memory.
+    #[inline(always)]
     pub fn top(&self, plan: &Plan, actor: ActorId) -> Option<&Stage>
         requires is_of { IsOf plan.now self.now }
         requires in_range { IsActor plan.now actor }
@@ -135,8 +136,8 @@ impl State {
         }
     }
 
-    // What an actor with an empty place has to start.
-    fn ready(&self, plan: &Plan, actor: ActorId) -> Option<Stage>
+    /// What an actor with an empty place has to start. It takes no memory.
+    pub fn ready(&self, plan: &Plan, actor: ActorId) -> Option<Stage>
         requires is_of { IsOf plan.now self.now }
         requires in_range { IsActor plan.now actor }
         ensures { result ≡ ready plan.now self.now.world actor }

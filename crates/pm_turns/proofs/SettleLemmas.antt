@@ -71,17 +71,17 @@ near_of x h a d waiting touched = go (is_actor a (Work d.0)) (is_actor a (Timer 
 
 -- what was done to an index x after a line: noted, its writer asked anew, and all others near the device of its stage and
 -- near the device of its event
-pub record Done (wake : ActorId → Option ℕ) (line : Line) (s : Stage) (x x1 x2 x3 x4 : Index) (of : Option DevId) : Type 0 where
+pub record Done (wake : ActorId → Option ℕ) (line : Line) (dev : Option DevId) (x x1 x2 x3 x4 : Index) (of : Option DevId) : Type 0 where
   pub noted : Noted x x1 line
   pub asks : Asks wake x1.rows x2.rows
   pub right : moment_by x2.rows line.actor ≡ wake line.actor
   pub queues : x2.queues ≡ x1.queues
-  pub at : TouchedAny wake x2 x3 (device_at s) line.actor
+  pub at : TouchedAny wake x2 x3 dev line.actor
   pub after : TouchedAny wake x3 x4 of line.actor
-  pub other : (of ≡ device_in line.event) ⊎ (device_in line.event ≡ device_at s)
+  pub other : (of ≡ device_in line.event) ⊎ (device_in line.event ≡ dev)
 
 module _ (plan : Plan) (h : History) (line : Line) (lawful : IsLawful plan (line ∷ h)) (x x1 x2 x3 x4 : Index) (of : Option DevId)
-    (is : IsIndex plan h x) (done : Done (wakes plan (world plan (line ∷ h))) line lawful.0.stage x x1 x2 x3 x4 of) where
+    (is : IsIndex plan h x) (done : Done (wakes plan (world plan (line ∷ h))) line (device_at lawful.0.stage) x x1 x2 x3 x4 of) where
   abbrev wake : ActorId → Option ℕ
   wake = wakes plan (world plan (line ∷ h))
 
@@ -176,9 +176,9 @@ module _ (plan : Plan) (h : History) (line : Line) (lawful : IsLawful plan (line
     waiting = waits;
   }
 
-pub settles_by : (plan : Plan) (h : History) (line : Line) (s : Stage) (w : World) (x x1 x2 x3 x4 : Index) (of : Option DevId) → Done (wakes plan w) line s x x1 x2 x3 x4 of
-    → Leads plan h line s w → IsIndex plan h x → IsIndex plan (line ∷ h) x4
-settles_by plan h line s w x x1 x2 x3 x4 of done leads is =
+pub settles_by : (plan : Plan) (h : History) (line : Line) (at : Option DevId) (w : World) (x x1 x2 x3 x4 : Index) (of : Option DevId) → Done (wakes plan w) line at x x1 x2 x3 x4 of
+    → Leads plan h line at w → IsIndex plan h x → IsIndex plan (line ∷ h) x4
+settles_by plan h line at w x x1 x2 x3 x4 of done leads is =
     settled_index plan h line leads.lawful x x1 x2 x3 x4 of is
-    (subst (λ y. Done (wakes plan (world plan (line ∷ h))) line y x x1 x2 x3 x4 of) (sym leads.stage_is)
-    (subst (λ (u : World). Done (wakes plan u) line s x x1 x2 x3 x4 of) leads.world_is done))
+    (subst (λ y. Done (wakes plan (world plan (line ∷ h))) line y x x1 x2 x3 x4 of) (sym leads.at_is)
+    (subst (λ (u : World). Done (wakes plan u) line at x x1 x2 x3 x4 of) leads.world_is done))

@@ -6,11 +6,11 @@ use Rattle.pm_base.specs.declared.DevId.{DevId}
 use Rattle.pm_index.specs.Marks.{is_marked}
 use Rattle.pm_model.specs.declared.event.Line.{Line}
 use Rattle.pm_model.specs.declared.plan.Plan.{Plan}
-use Rattle.pm_model.specs.declared.stage.Stage.{Stage}
 use Rattle.pm_model.specs.History.{History}
 use Rattle.pm_model.specs.Lawful.{IsLawful, last_time}
 use Rattle.pm_model.specs.Serial.{seat}
 use Rattle.pm_model.specs.World.{World, place, world}
+use Rattle.pm_law_turns.specs.Looks.{device_at}
 use Rattle.pm_law_turns.specs.Told.{is_actor, told_wait, top_looks, wait_in}
 use Rattle.pm_law_turns.specs.Wakes.{wakes}
 use Rattle.pm_turns.specs.Seats.{Asks, IsSeated, Seating, moment_by, place_of, seat_after}
@@ -72,10 +72,10 @@ pub record Noted (x x' : Index) (line : Line) : Type 0 where
   pub others : (a : ActorId) (d : DevId) → IsSeated x.rows a → is_actor a line.actor ≡ false → is_listed x d a ≡ true → is_listed x' d a ≡ true
   pub joined : (d : DevId) → wait_in line.event ≡ Some d → d.0 < x.rows.devices → is_listed x' d line.actor ≡ true
 
--- the line was written at this stage, and led to this world
-pub record Leads (plan : Plan) (h : History) (line : Line) (stage : Stage) (w : World) : Type 0 where
+-- the line was written at a stage of this device, if it has one, and led to this world
+pub record Leads (plan : Plan) (h : History) (line : Line) (at : Option DevId) (w : World) : Type 0 where
   pub lawful : IsLawful plan (line ∷ h)
-  pub stage_is : lawful.0.stage ≡ stage
+  pub at_is : device_at lawful.0.stage ≡ at
   pub world_is : w ≡ world plan (line ∷ h)
 
 -- the search begins after the last writer, each seat has the moment of its actor, and whoever waits for a device is

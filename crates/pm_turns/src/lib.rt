@@ -9,3 +9,4 @@ mod waiting;
 mod waking;
 
 pub use turns::Turns;
+pub use waiting::device_at;

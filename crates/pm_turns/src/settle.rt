@@ -2,6 +2,7 @@
 
 ghost use Rattle.std.specs.Prelude.{◌≡◌, ◌+◌, ◌*◌, ◌<◌, ◌≤◌, ◌^◌, ◌∷◌, ◌⊎◌, false, IfNone, IfSome};
 ghost use Rattle.pm_index.specs.Marks.{NoneMarked};
+ghost use Rattle.pm_model.specs.declared.event.Line.{Line as ALine};
 ghost use Rattle.pm_model.specs.History.{History};
 ghost use Rattle.pm_law_turns.specs.Told.{is_actor};
 ghost use Rattle.pm_state.specs.Standing.{AllStandWell, IsActor, IsOf};
@@ -10,9 +11,9 @@ ghost use Rattle.pm_turns.specs.Seats.{Asks, IsSeated, actor_at, moment_by};
 ghost use Rattle.pm_turns.specs.Turning.{AreOf, IsIndex, Leads, Looked, Touched, TouchedAny, queue};
 
 use crate::turns::Turns;
-use crate::waiting::{device_at, device_in};
+use crate::waiting::device_in;
 use pm_base::{ActorId, DevId};
-use pm_model::{Line, Plan, Stage};
+use pm_model::{Event, Plan};
 use pm_state::State;
 
 // Whether it is the same actor.
@@ -167,22 +168,28 @@ impl Turns {
         }
     }
 
-    /// Takes note of a line that was written at this stage and led to this state. It takes no memory,
-    /// and looks anew at the line's writer, at the work item and the timer of the device of the stage
-    /// and of the device of the event, and at those who wait for these devices.
+    /// Takes note of a line by its parts, which was written at a stage of this device, if it has one, and led to
+    /// this state. It takes no memory, and looks anew at the line's writer, at the work item and the timer of the
+    /// device of the stage and of the device of the event, and at those who wait for these devices.
     #[inline(always)]
-    pub fn settle(&mut self, plan: &Plan, state: &State, stage: &Stage, line: &Line)
+    pub fn settle(
+        &mut self,
+        plan: &Plan,
+        state: &State,
+        at: Option<DevId>,
+        time: u64,
+        actor: ActorId,
+        event: &Event,
+    )
         requires is_of { IsOf plan.now state.now }
         requires stand { AllStandWell plan.now state.now.world }
         requires seats { AreOf plan.now self.old.rows }
-        requires in_range { IsActor plan.now line.now.actor }
-        requires in_time { line.now.time < 2 ^ 63 }
-        ensures { (h : History) → Leads plan.now h line.now stage.now state.now.world → IsIndex plan.now h self.old → IsIndex plan.now (line.now ∷ h) self.new }
+        requires in_range { IsActor plan.now actor }
+        requires in_time { time < 2 ^ 63 }
+        ensures { let line : ALine = record { time = time; actor = actor; event = event.now } in (h : History) → Leads plan.now h line at state.now.world → IsIndex plan.now h self.old → IsIndex plan.now (line ∷ h) self.new }
     {
-        let at = device_at(stage);
-        let of = other_than(device_in(&line.event), at);
-        let actor = line.actor;
-        self.note(at, line);
+        let of = other_than(device_in(event), at);
+        self.note(at, time, actor, event);
         self.refresh(plan, state, actor);
         self.touch_any(plan, state, at, actor);
         self.touch_seldom(plan, state, of, actor);

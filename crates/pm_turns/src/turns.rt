@@ -162,7 +162,7 @@ impl Turns {
         let Some(line) = newest(lines) else {
             return;
         };
-        self.write_down(line);
+        self.write_down(line.actor, line.time);
     }
 
     /// The turns after the lines of a run, which led to this state: each actor is looked at. All memory is

@@ -12,11 +12,11 @@ ghost use Rattle.pm_turns.specs.Turning.{Noted, queue};
 
 use crate::turns::Turns;
 use pm_base::{ActorId, DevId};
-use pm_model::{ControlStage, Event, HelperStage, Line, Plan, ResumeStage, Stage, SuspendStage};
+use pm_model::{ControlStage, Event, HelperStage, Plan, ResumeStage, Stage, SuspendStage};
 use pm_state::{State, device_of};
 
-// The device that a line at this stage may change; a call line only names one.
-pub(crate) fn device_at(stage: &Stage) -> Option<DevId>
+/// The device that a line at this stage may change; a call line only names one.
+pub fn device_at(stage: &Stage) -> Option<DevId>
     ensures { result ≡ device_at stage.now }
 {
     match stage {
@@ -141,24 +141,25 @@ impl Turns {
 
     // Takes note of the writer and the time of a line.
     #[inline(always)]
-    pub(crate) fn write_down(&mut self, line: &Line)
-        requires seated { IsSeated self.old.rows line.now.actor }
-        requires in_time { line.now.time < 2 ^ 63 }
-        ensures { self.new ≡ record self.old { rows = record self.old.rows { seat = seat_after self.old.rows line.now.actor; time = line.now.time } } }
+    pub(crate) fn write_down(&mut self, actor: ActorId, time: u64)
+        requires seated { IsSeated self.old.rows actor }
+        requires in_time { time < 2 ^ 63 }
+        ensures { self.new ≡ record self.old { rows = record self.old.rows { seat = seat_after self.old.rows actor; time = time } } }
     {
-        self.rows.note(line.actor, line.time);
+        self.rows.note(actor, time);
     }
 
-    // Takes note of a line that was written at a stage of this device, if it has one.
+    // Takes note of a line of this actor at this moment with this event, that was written at a stage of this device, if
+    // it has one.
     #[inline(always)]
-    pub(crate) fn note(&mut self, at: Option<DevId>, line: &Line)
-        requires seated { IsSeated self.old.rows line.now.actor }
-        requires in_time { line.now.time < 2 ^ 63 }
-        ensures { Noted self.old self.new line.now }
+    pub(crate) fn note(&mut self, at: Option<DevId>, time: u64, actor: ActorId, event: &Event)
+        requires seated { IsSeated self.old.rows actor }
+        requires in_time { time < 2 ^ 63 }
+        ensures { Noted self.old self.new (record { time = time; actor = actor; event = event.now }) }
     {
-        let seat = self.rows.place(line.actor);
+        let seat = self.rows.place(actor);
         self.leave_at(at, seat);
-        self.join_in(&line.event, seat);
-        self.write_down(line);
+        self.join_in(event, seat);
+        self.write_down(actor, time);
     }
 }

@@ -4,6 +4,7 @@ ghost use Rattle.std.specs.Prelude.{ℕ, ◌≡◌, ◌≤◌, ◌+◌, IfOk, So
 ghost use Rattle.pm_orders.specs.Spots.{Follows, start_spot};
 ghost use Rattle.pm_search.specs.declared.found.Ended.TheVariants.{Rounds, Stopped, Whole};
 ghost use Rattle.pm_search.specs.declared.graph.Stop.TheVariants.{Full, NoMemory as WantsMemory, TooFar};
+ghost use Rattle.pm_search.specs.Exact.{EndWithAll};
 ghost use Rattle.pm_search.specs.Trees.{AreLed, IsTree};
 ghost use Rattle.pm_spot.specs.SpotOf.{spot_of};
 ghost use Rattle.pm_ways.specs.Found.{AreOfAllOrders, AreOfOrders, IsTooFar};
@@ -35,8 +36,9 @@ pub fn all_orders(
     ensures tree { IfOk result (λ found. IsTree (Follows pace plan.now) (start_spot plan.now) (map spot_of found.tree.nodes.keys) found.tree.parents.items) }
     ensures led { IfOk result (λ found. AreLed (Follows pace plan.now) (map spot_of found.tree.nodes.keys) found.tree.parents.items found.rounds.items) }
 
-    // How it ended.
+    // How it ended. Where it is whole, its last round has all.
     ensures whole { IfOk result (λ found. found.ended ≡ Ended.Whole → AreOfAllOrders pace plan.now (map spot_of found.tree.nodes.keys)) }
+    ensures last { IfOk result (λ found. found.ended ≡ Ended.Whole → EndWithAll (map spot_of found.tree.nodes.keys) found.rounds.items) }
     ensures complete { IfOk result (λ found. found.ended ≡ Ended.Rounds → length found.rounds.items ≡ most + 1) }
     ensures full { IfOk result (λ found. found.ended ≡ Ended.Stopped Stop.Full → limit ≤ length found.tree.nodes.keys) }
     ensures too_far { IfOk result (λ found. found.ended ≡ Ended.Stopped Stop.TooFar → (at : ℕ) × IsTooFar plan.now found.tree.parents.items at) }

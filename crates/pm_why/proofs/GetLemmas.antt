@@ -1,8 +1,8 @@
 -- The open gets and the children, as they are gathered.
-use Rattle.std.proofs.Common.{ℕ, zero, suc, ◌≡◌, ◌+◌, ◌<◌, ◌≤◌, ◌^◌, Bool, true, false, not, List, [], ◌∷◌, ◌++◌, Some, None, length, map, nat_lt, reverse, slice_index_or, take, append_assoc, if◌then◌else◌, ap, refl, sym, ◌∙◌, arith}
+use Rattle.std.proofs.Common.{ℕ, zero, suc, ◌≡◌, ◌+◌, ◌<◌, ◌≤◌, Bool, true, false, not, List, [], ◌∷◌, ◌++◌, Option, Some, None, IfSome, length, map, nat_lt, slice_index_or, take, append_assoc, if◌then◌else◌, ap, refl, sym, ◌∙◌, arith}
 use Rattle.std.specs.List.{enumerate_from, filter, position, position_or_len, remove}
 use Rattle.std.proofs.lemmas.Bool.{ltb-false}
-use Rattle.std.proofs.lemmas.List.{length-map, length-reverse, length-take-le, map-append, reverse-append, take_all, take_more}
+use Rattle.std.proofs.lemmas.List.{length-map, map-append, take_all, take_more}
 use Rattle.std.proofs.lemmas.List.Elements.{filter-append}
 use Rattle.std.proofs.lemmas.List.FromFn.{length-enumerate_from}
 use Rattle.pm_base.specs.declared.DevId.{DevId}
@@ -11,12 +11,13 @@ use Rattle.pm_model.specs.declared.event.Line.{Line}
 use Rattle.pm_model.specs.declared.plan.Plan.{Plan}
 use Rattle.pm_model.specs.declared.rows.DeviceRow.{DeviceRow}
 use Rattle.pm_model.specs.Counted.{only_if}
-use Rattle.pm_model.specs.Lawful.{IsLawful}
+use Rattle.pm_model.specs.History.{History}
 use Rattle.pm_model.specs.Views.{Views, device}
-use Rattle.pm_law_bounds.proofs.Limits.{lines_bounded}
 use Rattle.pm_why.specs.declared.gets.Count.{Count}
+use Rattle.pm_why.specs.declared.gets.Found.{Found}
 use Rattle.pm_why.specs.declared.Reason.{Reason}
 use Rattle.pm_why.specs.declared.Reason.TheVariants as reason
+use Rattle.pm_why.specs.Kept.{GoesOn, IsTold}
 use Rattle.pm_why.specs.OpenGets.{is_for, open_after, open_gets, without_earliest}
 use Rattle.pm_why.specs.Reasons.{child_reasons, counted_children, devices_of, error_line, is_child, stores_error, when}
 
@@ -100,31 +101,22 @@ children_end plan v d n before all past heeds is =
     ∙ ap (λ l. before ++ map reason.Child (filter (is_child plan v d) l)) (take_all n (devices_of plan) (omega (arith, devices_len plan)))
     ∙ ap (λ b. before ++ (if b then [] else map reason.Child (counted_children plan v d))) (sym heeds)
 
--- a lawful list has fewer lines than a u32 counts
-pub few_lines : (plan : Plan) (h lines : List Line) → reverse lines ≡ h → IsLawful plan h → length lines < 2 ^ 32
-few_lines plan h lines same lawful = omega (arith, lines_bounded plan h lawful, length-reverse lines, ap length same)
-
 -- one line more is read
-reverse_more : (lines : List Line) (i : ℕ) (e : Line) → i < length lines → reverse (take (i + 1) lines) ≡ slice_index_or lines i e ∷ reverse (take i lines)
-reverse_more lines i e within = ap reverse (take_more lines i e within) ∙ reverse-append (take i lines) (slice_index_or lines i e ∷ [])
+gets_more : (d : DevId) (n : ℕ) (line : Line) (h : History) (old new : List Count) → n ≡ length h + 1 → old ≡ open_gets h d → new ≡ open_after d n line.event old → new ≡ open_gets (line ∷ h) d
+gets_more d n line h old new number was is = is ∙ ap (open_after d n line.event) was ∙ ap (λ k. open_after d k line.event (open_gets h d)) number
 
-numbered_line : (lines : List Line) (i : ℕ) → i < length lines → length (reverse (take i lines)) ≡ i
-numbered_line lines i within = length-reverse (take i lines) ∙ length-take-le i lines (omega arith)
-
-pub gets_step : (d : DevId) (lines : List Line) (i : ℕ) (e : Line) (before after : List Count) → i < length lines → before ≡ open_gets (reverse (take i lines)) d
-    → after ≡ open_after d (i + 1) (let line : Line = slice_index_or lines i e in line.event) before → after ≡ open_gets (reverse (take (i + 1) lines)) d
-gets_step d lines i e before after within was is =
-    is
-    ∙ ap (open_after d (i + 1) (let line : Line = slice_index_or lines i e in line.event)) was
-    ∙ ap (λ n. open_after d (n + 1) (let line : Line = slice_index_or lines i e in line.event) (open_gets (reverse (take i lines)) d)) (sym (numbered_line lines i within))
-    ∙ ap (λ h. open_gets h d) (sym (reverse_more lines i e within))
-
-pub error_step : (d : DevId) (lines : List Line) (i : ℕ) (e : Line) (b : Bool) (before after : ℕ) → i < length lines → before ≡ error_line (reverse (take i lines)) d
-    → b ≡ stores_error d (let line : Line = slice_index_or lines i e in line.event) → after ≡ (if b then i + 1 else before) → after ≡ error_line (reverse (take (i + 1) lines)) d
-error_step d lines i e b before after within was stores is =
-    is ∙ chosen (stores_error d (let line : Line = slice_index_or lines i e in line.event)) stores ∙ ap (λ h. error_line h d) (sym (reverse_more lines i e within))
+error_more : (d : DevId) (n : ℕ) (line : Line) (h : History) (old new : ℕ) → n ≡ length h + 1 → old ≡ error_line h d → new ≡ (if stores_error d line.event then n else old) → new ≡ error_line (line ∷ h) d
+error_more d n line h old new number was is = is ∙ chosen (stores_error d line.event)
   where
-    chosen : (s : Bool) → b ≡ s
-        → (if b then i + 1 else before) ≡ (elim (only_if s (length (reverse (take i lines)) + 1)) as (λ _. ℕ) [ Some n ↦ n | None ↦ error_line (reverse (take i lines)) d ])
-    chosen true same = rw same (ap (λ n. n + 1) (sym (numbered_line lines i within)))
-    chosen false same = rw same was
+    chosen : (s : Bool) → (if s then n else old) ≡ (elim (only_if s (length h + 1)) as (λ _. ℕ) [ Some n ↦ n | None ↦ error_line h d ])
+    chosen true = number
+    chosen false = was
+
+pub tells_more : (d : DevId) (n : ℕ) (line : Line) (h : History) (old new : Option Found) → n ≡ length h + 1 → GoesOn d n line.event old new → IfSome old (IsTold h d) → IfSome new (IsTold (line ∷ h) d)
+tells_more d n line h None None number more told = tt
+tells_more d n line h (Some old) None number more told = tt
+tells_more d n line h None (Some new) number more told = absurd more
+tells_more d n line h (Some old) (Some new) number more told = record {
+  gets = gets_more d n line h old.gets.items new.gets.items number told.gets more.gets;
+  error = error_more d n line h old.error_line new.error_line number told.error more.error;
+}

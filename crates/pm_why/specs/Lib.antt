@@ -1,3 +1,4 @@
 pub mod OpenGets
 pub mod Reasons
+pub mod Kept
 pub mod Texts

@@ -1,12 +1,11 @@
 //! What the lines tell of a device: its gets that nothing has closed, and the line that stored its error.
 
-ghost use Rattle.std.specs.Prelude.{◌≡◌, ◌<◌, ◌^◌, IfOk, OnOk, length, position, reverse};
-ghost use Rattle.pm_why.specs.OpenGets.{is_for, is_why, open_after, open_gets, without, without_earliest};
-ghost use Rattle.pm_why.specs.Reasons.{error_line, stores_error};
+ghost use Rattle.std.specs.Prelude.{◌≡◌, OnOk, if◌then◌else◌, position};
+ghost use Rattle.pm_why.specs.OpenGets.{is_for, is_why, open_after, without, without_earliest};
+ghost use Rattle.pm_why.specs.Reasons.{stores_error};
 
 use pm_base::{Cb, DevId, EAGAIN, EBUSY, NoMemory, Why};
-use pm_model::{Event, Line, Word};
-use std::alloc::Global;
+use pm_model::{Event, Word};
 
 /// A count on a device that wasn't given back: for what it was taken, and by which line.
 #[derive(Clone, Copy, Debug, PartialEq, Eq)]
@@ -62,7 +61,7 @@ fn close_all(gets: &mut Vec<Count>, why: Why)
 }
 
 // What a line with this number makes of the open gets.
-fn follow(gets: &mut Vec<Count>, dev: DevId, line: u32, event: &Event) -> Result<(), NoMemory>
+fn follow_gets(gets: &mut Vec<Count>, dev: DevId, line: u32, event: &Event) -> Result<(), NoMemory>
     ensures { OnOk result (gets.new.items ≡ open_after dev line event.now gets.old.items) }
 {
     match *event {
@@ -98,21 +97,14 @@ fn stores_error(dev: DevId, event: &Event) -> bool
     }
 }
 
-/// Reads the lines once. Fails where memory runs out.
-pub fn search(alloc: Global, lines: &[Line], dev: DevId) -> Result<Found, NoMemory>
-    requires { length lines.now < 2 ^ 32 }
-    ensures gets { IfOk result (λ found. found.gets.items ≡ open_gets (reverse lines.now) dev) }
-    ensures error { IfOk result (λ found. found.error_line ≡ error_line (reverse lines.now) dev) }
+/// What a line with this number makes of what the lines tell of a device. Fails where memory runs out.
+pub fn follow(found: &mut Found, dev: DevId, line: u32, event: &Event) -> Result<(), NoMemory>
+    ensures gets { OnOk result (found.new.gets.items ≡ open_after dev line event.now found.old.gets.items) }
+    ensures error { OnOk result (found.new.error_line ≡ (if stores_error dev event.now then line else found.old.error_line)) }
 {
-    let mut gets = Vec::new(alloc);
-    let mut error_line = 0;
-    let mut number = 0;
-    for line in lines {
-        number += 1;
-        follow(&mut gets, dev, number, &line.event)?;
-        if stores_error(dev, &line.event) {
-            error_line = number;
-        }
+    follow_gets(&mut found.gets, dev, line, event)?;
+    if stores_error(dev, event) {
+        found.error_line = line;
     }
-    Ok(Found { gets, error_line })
+    Ok(())
 }

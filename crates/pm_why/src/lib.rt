@@ -1,24 +1,27 @@
 //! What keeps a device from suspending.
 #![tactic(auto)]
 
-ghost use Rattle.std.specs.Prelude.{◌≡◌, ◌<◌, ◌^◌, ◌&&◌, ◌++◌, IfOk, OnOk, length, map, not, reverse};
+ghost use Rattle.std.specs.Prelude.{◌≡◌, ◌<◌, ◌&&◌, ◌++◌, IfOk, OnOk, length, map, not};
 ghost use Rattle.pm_device.specs.Parts.{IsFor};
 ghost use Rattle.pm_model.specs.Derived.{asks_resume, has_error, is_active, is_disabled, is_suspending};
+ghost use Rattle.pm_model.specs.History.{History};
 ghost use Rattle.pm_model.specs.Views.{device, pending_of};
 ghost use Rattle.pm_why.specs.declared.Reason.TheVariants as reason;
-ghost use Rattle.pm_why.specs.Reasons.{child_reasons, is_child, reasons, reasons_on, when};
+ghost use Rattle.pm_why.specs.Kept.{IsTold, TellsOf};
+ghost use Rattle.pm_why.specs.Reasons.{child_reasons, is_child, reasons_on, when};
 
 mod gets;
+mod kept;
 mod laws;
 mod shown;
 mod texts;
 
-use gets::{Count, search};
+use gets::{Count, Found};
+pub use kept::Gets;
 pub use laws::{counts_are_usage, free_devices_suspend, puts_close_gets};
 use pm_base::{DevId, NoMemory, Req, Status, Why};
-use pm_book::Book;
 use pm_device::{Parts, parent};
-use pm_model::{Line, Plan};
+use pm_model::Plan;
 use std::alloc::Global;
 pub use texts::{free_text, reason_text};
 
@@ -134,20 +137,18 @@ fn push_last(all: &mut Vec<Reason>, parts: &Parts, dev: DevId) -> Result<(), NoM
     push_if(all, !parts.is_active(dev), Reason::State(status))
 }
 
-// What keeps a device from suspending after these lines, whose counters these are.
+// What keeps a device from suspending, by what the lines tell of it and the counters after them.
 fn reasons_of(
     alloc: Global,
     plan: &Plan,
     parts: &Parts,
-    lines: &[Line],
+    found: &Found,
     dev: DevId,
 ) -> Result<Vec<Reason>, NoMemory>
     requires made_for { IsFor plan.now parts.now.shape }
-    requires few { length lines.now < 2 ^ 32 }
     requires in_range { dev.0 < length plan.now.devices }
-    ensures { IfOk result (λ all. all.items ≡ reasons_on plan.now parts.now.views (reverse lines.now) dev) }
+    ensures { IfOk result (λ all. (h : History) → IsTold h dev found.now → all.items ≡ reasons_on plan.now parts.now.views h dev) }
 {
-    let found = search(alloc, lines, dev)?;
     let mut all = Vec::new(alloc);
     push_first(&mut all, parts, dev, found.error_line)?;
     push_counts(&mut all, &found.gets)?;
@@ -156,12 +157,21 @@ fn reasons_of(
     Ok(all)
 }
 
-/// Everything that keeps a device from suspending after the lines of the book, in this order: its error, its depth, the
-/// counts on it by their lines, its children by their places, a deferred resume, a request and its status. It reads
-/// the lines once, and looks at each device once. Fails where memory runs out.
-pub fn reasons(alloc: Global, book: &Book, dev: DevId) -> Result<Vec<Reason>, NoMemory>
-    requires { dev.0 < length book.now.plan.devices }
-    ensures { IfOk result (λ all. all.items ≡ reasons book.now.plan book.now.lines dev) }
+/// Everything that keeps a device from suspending after lines of which this is kept, and whose counters these are, in
+/// this order: its error, its depth, the counts on it by their lines, its children by their places, a deferred resume, a
+/// request and its status. It looks at each device once. Fails where memory runs out, or ran out while lines came.
+pub fn reasons(
+    alloc: Global,
+    plan: &Plan,
+    parts: &Parts,
+    gets: &Gets,
+) -> Result<Vec<Reason>, NoMemory>
+    requires made_for { IsFor plan.now parts.now.shape }
+    requires in_range { gets.now.dev.0 < length plan.now.devices }
+    ensures { IfOk result (λ all. (h : History) → TellsOf gets.now h → all.items ≡ reasons_on plan.now parts.now.views h gets.now.dev) }
 {
-    reasons_of(alloc, book.plan(), book.parts(), book.lines(), dev)
+    match &gets.found {
+        Some(found) => reasons_of(alloc, plan, parts, found, gets.dev),
+        None => Err(NoMemory),
+    }
 }

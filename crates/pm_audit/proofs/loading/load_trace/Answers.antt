@@ -13,3 +13,7 @@ pub returns-in-Ok-clause-stands : goal.returns-in-Ok-clause-stands
 returns-in-Ok-clause-stands c =
     IfOk-weaker c.book.result _ _ (λ book loaded.
     subst (λ plan. StandsFor plan c.args.bytes.now book.lines) (c.feed.ensures.plan ∙ c.in-Ok.ensures.plan) (loaded c.args.bytes.now (c.feed.ensures.stands [] c.in-Ok.ensures.stands)).stands) c.book.ensures.loaded
+
+pub returns-in-Ok-clause-plan : goal.returns-in-Ok-clause-plan
+returns-in-Ok-clause-plan c =
+    IfOk-weaker c.book.result _ _ (λ book loaded. (loaded c.args.bytes.now (c.feed.ensures.stands [] c.in-Ok.ensures.stands)).plan_is ∙ c.feed.ensures.plan ∙ c.in-Ok.ensures.plan) c.book.ensures.loaded

@@ -9,9 +9,10 @@ invariant-loop-count g l = record {
   place : g.F.Files.place l.files ≡ l.count;
   within : l.count ≤ TRACE_BYTES + 1;
   piece : length l.piece ≡ PIECE_BYTES;
-  fed : IsFed (g.F.Files.told l.fn.files l.trace) l.auditor l.count (g.F.Files.unread l.files);
+  fed : IsFed g.T.LineTaker.StandsFor (g.F.Files.told l.fn.files l.trace) l.auditor l.count (g.F.Files.unread l.files);
   there : IsTrue g.F.Files.tells_all → IsSome (g.F.Files.told l.fn.files l.trace);
   plan : l.auditor.reader.judge.plan ≡ l.fn.auditor.reader.judge.plan;
+  same : l.auditor.reader.subject ≡ l.fn.auditor.reader.subject;
   calm : g.F.Files.faults l.files ≡ g.F.Files.faults l.fn.files;
   never_falls : g.F.Files.faults l.fn.files ≤ g.F.Files.faults l.files;
 }

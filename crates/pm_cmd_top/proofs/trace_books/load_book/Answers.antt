@@ -1,4 +1,5 @@
 use Rattle.std.proofs.Common.{◌∙◌}
+use Rattle.pm_book.specs.Takings.{TakerStandsFor}
 use Rattle.pm_io.specs.Faults.{Rose}
 use Rattle.pm_cmd_top.proofs.TraceLemmas.{unloaded_of}
 use Rattle.pm_cmd_top.proofs.trace_books.load_book.Goals as goal
@@ -6,5 +7,5 @@ use Rattle.pm_cmd_top.proofs.trace_books.load_book.Goals as goal
 pub returns-in-Ok-feed_trace-clause-unloaded : goal.returns-in-Ok-feed_trace-clause-unloaded
 returns-in-Ok-feed_trace-clause-unloaded g c =
     let files = g.F.Files in
-    unloaded_of files.tells_all (files.told c.args.files.now c.args.trace.now) c.args.plan c.feed_trace.new.auditor (Rose (files.faults c.args.files.now) (files.faults c.feed_trace.new.files)) c.book_of.result
+    unloaded_of TakerStandsFor files.tells_all (files.told c.args.files.now c.args.trace.now) c.args.plan c.feed_trace.new.auditor (Rose (files.faults c.args.files.now) (files.faults c.feed_trace.new.files)) c.book_of.result
     (c.feed_trace.ensures.plan ∙ c.in-Ok.ensures.plan) c.in-Ok-feed_trace.ensures.told c.book_of.ensures.refused

@@ -7,7 +7,7 @@ use Rattle.pm_lab_order.proofs.failing.write_broken.Goals as goal
 pub go_on-requires-clause-near : goal.go_on-requires-clause-near
 go_on-requires-clause-near g c =
     let way = c.requires.way in
-    c.orders_are_near.ensures (pace_of c.args._bounds) c.args.plan (reverse c.args.lines.now) way.fewest.is_order way.lawful
+    c.orders_are_near.ensures (pace_of c.args._bounds) c.args.plan (reverse c.args.lines.now) way.fewest.so.is_order way.lawful
 
 pub returns : goal.returns
 returns g c =

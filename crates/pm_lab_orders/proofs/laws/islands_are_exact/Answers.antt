@@ -5,7 +5,7 @@ pub returns-clause-homes : goal.returns-clause-homes
 returns-clause-homes c = λ bounds plan found m of_plan. proof.homes bounds plan found m of_plan
 
 pub returns-clause-within : goal.returns-clause-within
-returns-clause-within c = λ bounds plan found one m k bound has at round. proof.within bounds plan found one m k bound has at round
+returns-clause-within c = λ bounds plan found one m k has at seen. proof.within bounds plan found one m k has at seen
 
 pub returns-clause-of_all : goal.returns-clause-of_all
 returns-clause-of_all c = λ bounds plan found one m has at whole. proof.of_all bounds plan found one m has at whole

@@ -1,9 +1,9 @@
-use Rattle.std.proofs.Common.{map, sym, subst, inl, inr}
+use Rattle.std.proofs.Common.{map, sym, subst}
 use Rattle.std.proofs.lemmas.List.{length-map}
 use Rattle.pm_listed.specs.Listing.{AreListed}
 use Rattle.pm_spot.specs.SpotOf.{spot_of}
 use Rattle.pm_outcomes.specs.Seen.{AreFirstsBefore}
-use Rattle.pm_outcomes.proofs.Telling.{exact, exact_within, numbers_count, shown_exactly}
+use Rattle.pm_outcomes.proofs.Telling.{exact, exact_seen, in_rounds, shown_exactly}
 use Rattle.pm_outcomes.proofs.Once.{listed_once}
 use Rattle.pm_outcomes.proofs.finding.all_outcomes.Goals as goal
 
@@ -13,7 +13,8 @@ returns-clause-rounds c =
     let firsts = c.in_ok-firsts.firsts.entries.entries in
     let before = subst (λ n. AreFirstsBefore c.args.plan.now (map spot_of keys) n firsts) (sym (length-map keys spot_of)) c.in_ok-firsts.ensures in
     let listed = subst (λ r. AreListed firsts r c.is_whole.result c.in_ok-marks.marks.items) c.as_slice.ensures.value c.in_ok-marks.ensures in
-    exact_within c.args.plan.now (map spot_of keys) c.in_ok-found.found.rounds.items c.is_whole.result firsts c.in_ok-marks.marks.items before listed c.args.pace c.in_ok-found.ensures.rounds
+    exact_seen c.args.plan.now (map spot_of keys) c.in_ok-found.found.rounds.items c.is_whole.result firsts c.in_ok-marks.marks.items before listed c.args.pace c.in_ok-found.found.ended c.in_ok-found.ensures.rounds c.is_whole.ensures.whole c.in_ok-found.ensures.whole
+    c.in_ok-found.ensures.last
 
 pub returns-clause-whole : goal.returns-clause-whole
 returns-clause-whole c = λ is.
@@ -41,5 +42,4 @@ returns-clause-of_rounds c = λ i o there.
     let firsts = c.in_ok-firsts.firsts.entries.entries in
     let before = subst (λ n. AreFirstsBefore c.args.plan.now (map spot_of keys) n firsts) (sym (length-map keys spot_of)) c.in_ok-firsts.ensures in
     let listed = subst (λ r. AreListed firsts r c.is_whole.result c.in_ok-marks.marks.items) c.as_slice.ensures.value c.in_ok-marks.ensures in
-    let counts = numbers_count c.args.plan.now (map spot_of keys) c.in_ok-found.found.rounds.items c.is_whole.result firsts c.in_ok-marks.marks.items before listed i o there in
-    elim counts [ inl is ↦ inl (c.is_whole.ensures.only is) | inr lt ↦ inr lt ]
+    in_rounds c.args.plan.now (map spot_of keys) c.in_ok-found.found.rounds.items c.is_whole.result firsts c.in_ok-marks.marks.items before listed (λ is. c.in_ok-found.ensures.last (c.is_whole.ensures.only is)) i o there

@@ -4,7 +4,7 @@ use Rattle.pm_search.specs.Exact.{AreExact, IsAmong}
 use Rattle.pm_search.specs.Growing.{AreSpread, IsKept, IsLed}
 use Rattle.pm_search.specs.Trees.{AreLed}
 use Rattle.pm_search.proofs.Lists.{Grows-trans, IsAmong-grows}
-use Rattle.pm_search.proofs.Reaching.{Round, exacts_kept, led_first, leds_kept, no_exact, no_led, round_begins, round_goes_on, round_whole, spread_kept}
+use Rattle.pm_search.proofs.Reaching.{Round, exacts_kept, led_first, leds_kept, no_exact, no_led, round_begins, round_goes_on, round_ends, round_whole, spread_kept}
 use Rattle.pm_search.proofs.TreeLemmas.{first_adds, tree_begins, tree_none}
 use Rattle.pm_search.proofs.found.find.Goals as goal
 
@@ -93,6 +93,14 @@ returns-then-len-end-clause-whole g c is =
     let same : length mid ≡ length old = length-map c.spend.new.tree.nodes.keys f ∙ sym c.len-in-loop-k.ensures.len ∙ c.if-len-end.true ∙ c.len-end.ensures.len ∙ sym (length-map c.loop-k.tree.nodes.keys f) in
     round_whole (g.G.Graph.Follows c.args.graph.now) (g.G.Graph.start c.args.graph.now) c.loop-k.k old mid c.loop-k.tree.parents.items c.spend.new.tree.parents.items c.loop-k.spent c.loop-k.rounds.items
     c.loop-k.invariant.round c.spend.ensures.points c.spend.ensures.tree (c.spend.ensures.led c.loop-k.k c.loop-k.invariant.round.led) c.in_ok-spend.ensures.spread same
+
+pub returns-then-len-end-clause-last : goal.returns-then-len-end-clause-last
+returns-then-len-end-clause-last g c is =
+    let f = g.G.Graph.point c.args.graph.now in
+    let old = map f c.loop-k.tree.nodes.keys in
+    let mid = map f c.spend.new.tree.nodes.keys in
+    let same : length mid ≡ length old = length-map c.spend.new.tree.nodes.keys f ∙ sym c.len-in-loop-k.ensures.len ∙ c.if-len-end.true ∙ c.len-end.ensures.len ∙ sym (length-map c.loop-k.tree.nodes.keys f) in
+    round_ends (g.G.Graph.Follows c.args.graph.now) (g.G.Graph.start c.args.graph.now) c.loop-k.k old mid c.loop-k.tree.parents.items c.loop-k.spent c.loop-k.rounds.items c.loop-k.invariant.round same
 
 pub settle-requires-in-loop-k-clause-spread : goal.settle-requires-in-loop-k-clause-spread
 settle-requires-in-loop-k-clause-spread g c =

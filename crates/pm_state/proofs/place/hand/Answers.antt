@@ -5,8 +5,8 @@ use Rattle.pm_state.proofs.Hands.{code_goes, code_hands}
 pub returns-in-Goes-clause-stages : goal.returns-in-Goes-clause-stages
 returns-in-Goes-clause-stages c =
     let same =
-    code_goes _ c.pop.new.self.items _ c.in-Some.stage c.in-Goes.next c.in-Await.awaiting _ c.take_code.result _ c.in-Some.ensures.items c.in-Await.is
-    c.take_code.ensures c.in-Goes.is c.push_reserved-in-Goes.ensures.items c.loop-stage.invariant.0 in
+    code_goes _ c.pop.new.self.items c.in-Some.stage c.in-Goes.next c.in-Await.awaiting _ c.take_code.result _ c.in-Some.ensures.items c.in-Await.is
+    c.take_code.ensures c.in-Goes.is c.loop-stage.invariant.0 in
     search (rules, same)
 
 pub loop-stage-preserved : goal.loop-stage-preserved

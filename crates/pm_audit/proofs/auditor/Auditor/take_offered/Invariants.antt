@@ -3,8 +3,8 @@ use Rattle.pm_audit.specs.Auditing.{HasRead, told_of}
 use Rattle.pm_audit.proofs.auditor.Auditor.take_offered.Given as goal
 
 abbrev pub invariant-lines : goal.invariant-lines
-invariant-lines l =
-    HasRead l.fn.bytes l.left l.initial.self l.self × (is_some l.self.bad ≡ false) × (l.self.rest ≡ Some []) × (Some l.is_format2 ≡ told_of l.self.format)
+invariant-lines g l =
+    HasRead g.T.LineTaker.StandsFor l.fn.bytes l.left l.initial.self l.self × (is_some l.self.bad ≡ false) × (l.self.rest ≡ Some []) × (Some l.is_format2 ≡ told_of l.self.format)
 
 abbrev pub decreases-lines : goal.decreases-lines
-decreases-lines l = length l.left
+decreases-lines g l = length l.left

@@ -8,13 +8,13 @@ use Rattle.pm_audit.proofs.Telling.{end_finished, end_open}
 use Rattle.pm_audit.proofs.auditor.Auditor.verdict.Goals as goal
 
 pub returns-then-finished : goal.returns-then-finished
-returns-then-finished c = λ b says.
+returns-then-finished g c = λ b says.
     let t = c.args.self.now.reader in
-    end_finished t b (c.in_default.ensures.none b says)
+    end_finished g.T.LineTaker.StandsFor t b (c.in_default.ensures.none b says)
     (λ (h : List Line) (judged : JudgeStandsFor t.judge h). subst (λ x. x ≡ is_finished t.judge.plan (world t.judge.plan h)) c.if-finished.true (c.finished.ensures h judged))
 
 pub returns : goal.returns
-returns c = λ b says.
+returns g c = λ b says.
     let t = c.args.self.now.reader in
-    end_open t b (c.in_default.ensures.none b says)
+    end_open g.T.LineTaker.StandsFor t b (c.in_default.ensures.none b says)
     (λ (h : List Line) (judged : JudgeStandsFor t.judge h). subst (λ x. x ≡ is_finished t.judge.plan (world t.judge.plan h)) c.if-finished.false (c.finished.ensures h judged))

@@ -1,5 +1,5 @@
 -- Place by place.
-use Rattle.std.proofs.Common.{ℕ, ◌≡◌, ◌+◌, ◌<◌, ◌∙◌, List, Vec, Global, length, slice_set, take, ap, arith}
+use Rattle.std.proofs.Common.{ℕ, ◌+◌, ◌<◌, ◌∙◌, List, Vec, Global, length, slice_set, take, ap, arith}
 use Rattle.std.proofs.lemmas.List.{length-set}
 use Rattle.pm_model.specs.declared.stage.Stage.{Stage}
 use Rattle.pm_state.specs.Places.{Stacks}
