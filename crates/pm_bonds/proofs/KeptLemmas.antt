@@ -1,8 +1,8 @@
 -- What is kept goes on with a line, and tells which bonds it breaks.
-use Rattle.std.proofs.Common.{ℕ, zero, suc, ◌≡◌, ◌+◌, ◌<◌, Bool, true, false, not, ◌&&◌, ◌++◌, List, [], ◌∷◌, Option, Some, None, get_or, length, map, nat_eq, option_map, set, slice_get, if◌then◌else◌, ap, refl, sym, ◌∙◌, arith, subst}
+use Rattle.std.proofs.Common.{ℕ, zero, suc, ◌≡◌, ◌+◌, ◌<◌, Bool, true, false, not, ◌&&◌, ◌++◌, List, [], ◌∷◌, Option, Some, None, get_or, length, map, nat_eq, option_map, set, slice_get, if◌then◌else◌, replicate, ap, refl, sym, ◌∙◌, arith, subst}
 use Rattle.std.specs.List.{filter, flat_map, range_with_len}
 use Rattle.std.specs.Option.{option_and_then, option_map_or, option_to_list}
-use Rattle.std.proofs.lemmas.List.{length-map}
+use Rattle.std.proofs.lemmas.List.{get_or-replicate, length-map, length-replicate}
 use Rattle.pm_base.specs.declared.DevId.{DevId}
 use Rattle.pm_base.specs.declared.Status.{Status}
 use Rattle.pm_base.specs.declared.Status.TheVariants as status
@@ -31,13 +31,13 @@ use Rattle.pm_bonds.specs.Excuses.{parent_excuse, supplier_excuse}
 use Rattle.pm_bonds.specs.Grouped.{AreGroups, belongs, places_of}
 use Rattle.pm_bonds.specs.Kept.{IsKept, Kept, consumers, excuses_by, suppliers}
 use Rattle.pm_bonds.specs.Looked.{broken_by, children_of, is_child, is_from, is_to, links_from, links_to}
-use Rattle.pm_bonds.specs.Past.{ArePasts, before_of, parent_excuse_by, past_after, past_at, past_of, supplier_excuse_by}
+use Rattle.pm_bonds.specs.Past.{ArePasts, before_of, no_past, parent_excuse_by, past_after, past_at, past_of, supplier_excuse_by}
 use Rattle.pm_bonds.specs.Replayed.{IsAfter, Replayed}
 use Rattle.pm_bonds.specs.Told.{broken_near, domain_bond, parent_bond, parent_bonds, supplier_bond, supplier_bonds}
 use Rattle.pm_bonds.specs.Turning.{turned_by}
 use Rattle.pm_bonds.proofs.Breaking.{at, link_test, parent_less, parent_test}
 use Rattle.pm_bonds.proofs.BrokenBy.{broken_is}
-use Rattle.pm_bonds.proofs.PastLemmas.{parent_excuse_is, pasts_still, pasts_turned, supplier_excuse_is}
+use Rattle.pm_bonds.proofs.PastLemmas.{parent_excuse_is, pasts_start, pasts_still, pasts_turned, supplier_excuse_is}
 
 -- places below a bound
 picked_below : (p : ℕ → Bool) (a n k d : ℕ) → k < length (filter p (range_with_len a n)) → get_or (filter p (range_with_len a n)) k d < a + n
@@ -284,3 +284,18 @@ consumers_long plan = length-map plan.links (λ (row : LinkRow). Some row.consum
 
 pub suppliers_long : (plan : Plan) → length (suppliers plan) ≡ length plan.links
 suppliers_long plan = length-map plan.links (λ (row : LinkRow). Some row.supplier.0)
+
+-- what is kept before any line
+pub kept_start : (plan : Plan) (k : Kept) (count : ℕ) (up from to : List (Option ℕ)) → count ≡ length plan.devices → up ≡ parents plan → from ≡ consumers plan → to ≡ suppliers plan
+    → IsAfter plan k.replay [] → k.pasts ≡ replicate count no_past → AreGroups count (length up) up k.children → AreGroups count (length from) from k.from → AreGroups count (length to) to k.to → IsKept plan k []
+kept_start plan k count up from to many up_is from_is to_is replay none children of_consumers of_suppliers =
+    record {
+      replay = replay;
+      pasts = pasts_start plan k.pasts (ap length none ∙ length-replicate count no_past ∙ many) (λ n within. ap (λ (l : List Past). get_or l n no_past) none ∙ get_or-replicate count n no_past no_past (omega (arith, within, many)));
+      children = groups up (parents plan) k.children up_is children;
+      from = groups from (consumers plan) k.from from_is of_consumers;
+      to = groups to (suppliers plan) k.to to_is of_suppliers;
+    }
+  where
+    groups : (owners owned : List (Option ℕ)) (g : List (List ℕ)) → owners ≡ owned → AreGroups count (length owners) owners g → AreGroups (length plan.devices) (length owned) owned g
+    groups owners owned g is are = subst (λ n. AreGroups n (length owned) owned g) many (subst (λ (l : List (Option ℕ)). AreGroups count (length l) l g) is are)

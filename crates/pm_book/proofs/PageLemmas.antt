@@ -53,11 +53,12 @@ after plan h w s line c next same may = world_after plan h w (last_time h) line 
 
 -- what a line that may be written leads to
 pub leads : (plan : Plan) (h : History) (w : World) (s : Stage) (line : Line) (c : Change) (next : Then) → IsLawful plan h → w ≡ world plan h
-    → MayWrite plan h s line c next → Leads plan h line (device_at s) (after_write plan w c line next)
+    → MayWrite plan h s line c next → Leads plan h line (device_at s) c (after_write plan w c line next)
 unfolding permits
 leads plan h w s line c next lawful same may = record {
   lawful = (permits plan h s line c next may, may.may.room, lawful);
   at_is = refl;
+  change_is = refl;
   world_is = after plan h w s line c next same may;
 }
 

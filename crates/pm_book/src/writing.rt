@@ -79,6 +79,7 @@ impl Book {
             line.time,
             line.actor,
             &line.event,
+            &change,
         );
         Ok(())
     }
@@ -109,6 +110,7 @@ impl Book {
             line.time,
             line.actor,
             &line.event,
+            &change,
         );
     }
 }

@@ -9,10 +9,10 @@ ghost use Rattle.pm_model.specs.Lawful.{IsLawful};
 ghost use Rattle.pm_model.specs.LineOf.{is_line_of};
 ghost use Rattle.pm_cmd_ends.specs.Pieces.{AreInTime, format_of, header_piece, line_piece, line_pieces, text_in};
 
-use pm_base::Failed;
+use pm_base::{ActorId, Failed};
 use pm_io::{Sink, write_whole};
 use pm_linetext::{LineSpeller, TimedText};
-use pm_model::{Line, Plan};
+use pm_model::{Event, Line, Plan};
 
 /// A format of traces.
 #[derive(Clone, Copy, Debug, PartialEq, Eq)]
@@ -94,21 +94,40 @@ fn write_lines<O: Sink>(
     let mut text = TimedText::new();
     let mut base = 0;
     for line in lines {
-        spell(speller, format, base, line, &mut text);
+        spell(
+            speller,
+            format,
+            base,
+            line.time,
+            line.actor,
+            &line.event,
+            &mut text,
+        );
         write_whole(out, text.as_slice())?;
         base = line.time;
     }
     Ok(())
 }
 
-/// Puts the line's text behind a line of time `base`, with its newline, in place of what `text` held.
-pub fn spell(speller: &LineSpeller, format: Format, base: u64, line: &Line, text: &mut TimedText)
-    requires of_plan { is_line_of speller.now line.now ≡ true }
-    requires in_time { base ≤ line.now.time }
-    ensures { text.new ≡ line_piece format speller.now base line.now }
+/// Puts the text of the line of this time, actor and event, behind a line of time `base`, with its newline, in place of what
+/// `text` held.
+#[inline(always)]
+pub fn spell(
+    speller: &LineSpeller,
+    format: Format,
+    base: u64,
+    time: u64,
+    actor: ActorId,
+    event: &Event,
+    text: &mut TimedText,
+)
+    requires of_plan { is_line_of speller.now (record { time = time; actor = actor; event = event.now }) ≡ true }
+    requires in_time { base ≤ time }
+    ensures { text.new ≡ line_piece format speller.now base (record { time = time; actor = actor; event = event.now }) }
 {
-    match format {
-        Format::One => speller.spell_line(line, text),
-        Format::Two => speller.spell_line2(base, line, text),
-    }
+    let shown = match format {
+        Format::One => time,
+        Format::Two => time - base,
+    };
+    speller.spell_parts(shown, actor, event, text);
 }

@@ -1,14 +1,16 @@
 -- What comes of a trace.
-use Rattle.std.proofs.Common.{◌≡◌, ℕ, Bool, ap, List, Option, Some, Ok, Err, Contains, IfErr, IfOk, map, refl, slice_get, subst}
+use Rattle.std.proofs.Common.{◌≡◌, ◌∙◌, ℕ, Bool, ap, List, Option, Some, Ok, Err, Contains, IfErr, IfOk, map, refl, slice_get, subst}
 use Rattle.std.proofs.lemmas.List.Elements.{Contains-get_or}
 use Rattle.std.proofs.lemmas.Option.{get_or_from_slice_get, slice_get_within}
 use Rattle.std.specs.Prelude.{IsErrOf, Result}
 use Rattle.pm_audit.specs.Auditing.{AuditorStandsFor, IsWhole, reason_of}
 use Rattle.pm_audit.specs.Following.{FollowerStandsFor}
+use Rattle.pm_audit.specs.Loading.{AreLoaded}
 use Rattle.pm_audit.specs.declared.auditor.Auditor.{Auditor}
 use Rattle.pm_audit.specs.declared.takers.Follower.{Follower}
 use Rattle.pm_base.specs.declared.DevId.{DevId}
 use Rattle.pm_base.specs.declared.limits.TheConstants.{TRACE_BYTES}
+use Rattle.pm_book.specs.Pages.{Pages}
 use Rattle.pm_io.specs.declared.reading.FileFault.{FileFault}
 use Rattle.pm_io.specs.declared.reading.FileFault.TheVariants as file
 use Rattle.pm_model.specs.declared.event.Line.{Line}
@@ -89,6 +91,19 @@ pub unloaded_of : {A B : Type 0} (S : A → List Line → Type 0) (all : Bool) (
 unloaded_of S all told plan auditor Unread (Ok book) same fed none = tt
 unloaded_of S all told plan auditor Unread (Err f) same fed none =
     no_book all told plan fed.bytes Unread f fed.holds (subst (λ (p : Plan). IsNoBook p fed.bytes f) same (none fed.bytes fed.stands))
+
+-- a book that was made of a trace that was read to its end: it is of the plan, and its lines are those that the trace stands for
+pub book_plan : {A : Type 0} (S : A → List Line → Type 0) (all : Bool) (told : Option (List ℕ)) (plan : Plan) (auditor : Auditor A) (r : Result Pages Fault) → auditor.reader.judge.plan ≡ plan → IsTold S all told auditor
+    → IfOk r (λ book. (b : List ℕ) → AuditorStandsFor S auditor b → AreLoaded auditor.reader.judge.plan b book) → IfOk r (λ book. book.plan ≡ plan)
+book_plan S all told plan auditor (Err f) same fed loaded = tt
+book_plan S all told plan auditor (Ok book) same fed loaded = let are = loaded fed.bytes fed.stands in are.plan_is ∙ same
+
+pub book_loaded : {A : Type 0} (S : A → List Line → Type 0) (all : Bool) (told : Option (List ℕ)) (plan : Plan) (auditor : Auditor A) (r : Result Pages Fault) → auditor.reader.judge.plan ≡ plan → IsTold S all told auditor
+    → IfOk r (λ book. (b : List ℕ) → AuditorStandsFor S auditor b → AreLoaded auditor.reader.judge.plan b book) → IfOk r (λ book. IsLoaded all told plan book.lines)
+book_loaded S all told plan auditor (Err f) same fed loaded = tt
+book_loaded S all told plan auditor (Ok book) same fed loaded =
+    let are = loaded fed.bytes fed.stands in
+    record { bytes = fed.bytes; holds = fed.holds; lawful = subst (λ (p : Plan). IsLawful p book.lines) same are.lawful; stands_for = subst (λ (p : Plan). StandsFor p fed.bytes book.lines) same are.stands }
 
 -- a trace that stands for no list, or isn't read
 pub came_unloaded : (all : Bool) (told : Option (List ℕ)) (plan : Plan) (Ends : History → Ending → Type 0) (Unread : Type 0) (out : Taking) (f : Fault) → IsUnloaded all told plan Unread f → TookNothing out → Came (OfTrace all told plan NotLawful Ends) (Err f) Unread out

@@ -20,7 +20,7 @@ use pm_cmd_ends::{Fault, Format, finish, load, promises_are_kept, spell, write_h
 use pm_io::{Files, Sink, write_whole};
 use pm_law_turns::serial_ends;
 use pm_linetext::{LineSpeller, TimedText};
-use pm_model::Plan;
+use pm_model::{Move, Plan};
 use pm_serial::{SerialLines, serial_lines_are_lawful};
 use std::alloc::Global;
 
@@ -97,10 +97,16 @@ fn write_coming<O: Sink>(
 {
     let mut text = TimedText::new();
     let mut base = 0;
-    while let Some(line) = lines.next() {
-        spell(speller, format, base, &line, &mut text);
+    // It stands here, since a move is large, and the line is spelled from it.
+    let mut next = Move::Late(0);
+    while let Some(turn) = lines.coming(&mut next) {
+        let said = lines.event(&turn, &next);
+        spell(
+            speller, format, base, turn.time, turn.actor, said, &mut text,
+        );
+        lines.go_on(&turn, &next);
         write_whole(out, text.as_slice())?;
-        base = line.time;
+        base = turn.time;
     }
     Ok(())
 }

@@ -162,6 +162,7 @@ impl<R: Clock + Drop> Sink for StdOut<R> {
 
     ghost faults = { λ faults. faults };
 
+    #[inline(always)]
     fn write(&mut self, piece: &[u8]) -> Result<usize, Failed> {
         match write_waiting(&self.rt, &self.stream, piece, &mut self.patience) {
             Ok(count) => Ok(count),
@@ -214,6 +215,7 @@ enum Refused {
 }
 
 /// Writes some of the piece.
+#[inline(always)]
 fn write_some<P: Print>(stream: &P, piece: &[u8]) -> Result<usize, Refused>
     ensures within { IfOk result (λ n. n ≤ length piece.now) }
     ensures some { IfOk result (λ n. 0 < length piece.now → 0 < n) }
@@ -231,6 +233,7 @@ fn write_some<P: Print>(stream: &P, piece: &[u8]) -> Result<usize, Refused>
 
 /// Writes some of the piece, and waits for a stream that takes nothing for now, for so many milliseconds at most,
 /// which become fewer by those that it waited.
+#[inline(always)]
 fn write_waiting<R: Clock, P: Print>(
     rt: &R,
     stream: &P,

@@ -34,6 +34,7 @@ pub trait Sink {
 /// At `Failed` the sink took a prefix of the piece, which may be none or all of it. It takes no
 /// memory.
 #[tactic(auto, using(crate::proofs::Taken::append_known_take))]
+#[inline(always)]
 pub fn write_whole<S: Sink>(sink: &mut S, piece: &[u8]) -> Result<(), Failed>
     ensures bytes { OnOk result (S.taken sink.new ≡ append_known (S.taken sink.old) piece.now) }
     ensures prefix { OnErr result (TookPrefix (S.taken sink.old) (S.taken sink.new) piece.now) }

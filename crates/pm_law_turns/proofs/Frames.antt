@@ -18,7 +18,6 @@ use Rattle.pm_model.specs.declared.stage.ResumeStage.TheVariants as resume
 use Rattle.pm_model.specs.declared.stage.Stage.{Stage}
 use Rattle.pm_model.specs.declared.stage.Stage.TheVariants as stage
 use Rattle.pm_model.specs.declared.stage.SuspendStage.TheVariants as suspend
-use Rattle.pm_model.specs.declared.stage.Then.{Then}
 use Rattle.pm_model.specs.ChangeViews.{change_views}
 use Rattle.pm_model.specs.Derived.{busy}
 use Rattle.pm_model.specs.Events.{by_event}
@@ -26,7 +25,7 @@ use Rattle.pm_model.specs.Handing.{after_then}
 use Rattle.pm_model.specs.History.{History}
 use Rattle.pm_model.specs.Lawful.{Permits}
 use Rattle.pm_model.specs.Row.{writes}
-use Rattle.pm_model.specs.Views.{Views, timer}
+use Rattle.pm_model.specs.Views.{Views, pending_of, timer}
 use Rattle.pm_model.specs.World.{World, after_line, called_by, counts_call, due, next_command, place, ready, row, row_at, top, with_place, world}
 use Rattle.pm_law_counts.proofs.Runs.{written}
 use Rattle.pm_law_turns.specs.Wakes.{wakes, wakes_at}
@@ -36,11 +35,11 @@ use Rattle.pm_law_turns.proofs.Leading.{IsOne, row_leads}
 use Rattle.pm_law_turns.proofs.Nearness.{change_apart, event_apart}
 
 -- the device that is looked at, if one is, looks the same
-abbrev IsAlike : Option DevId → Views → Views → Type 0
+abbrev pub IsAlike : Option DevId → Views → Views → Type 0
 IsAlike None v v' = Unit {0}
 IsAlike (Some x) v v' = glance v' x ≡ glance v x
 
-stage_alike : (plan : Plan) (v v' : Views) (s : Stage) → IsAlike (looks s) v v' → wakes_at plan v' s ≡ wakes_at plan v s
+pub stage_alike : (plan : Plan) (v v' : Views) (s : Stage) → IsAlike (looks s) v v' → wakes_at plan v' s ≡ wakes_at plan v s
 unfolding busy
 stage_alike plan v v' (stage.Suspend (suspend.Waiting d f)) same = rw (ap (λ (g : Glance). g.moving.status) same) refl
 stage_alike plan v v' (stage.Resume (resume.Waiting r tried)) same = rw (ap (λ (g : Glance). g.moving.status) same) refl
@@ -49,8 +48,19 @@ stage_alike plan v v' (stage.Control (control.BarrierWait d c)) same = rw (ap (�
 stage_alike plan v v' (stage.Helper (at.Timer d)) same = rw (ap (λ (g : Glance). g.armed) same) refl
 stage_alike plan v v' _ same = refl
 
+-- what tells whether a work item is queued and from when a timer may fire is the same
+abbrev pub AreRestsAlike : ActorId → Views → Views → Type 0
+AreRestsAlike (Caller c) v v' = Unit {0}
+AreRestsAlike (Work d) v v' = (pending_of v' (record { 0 = d })).queued ≡ (pending_of v (record { 0 = d })).queued
+AreRestsAlike (Timer d) v v' = timer v' (record { 0 = d }) ≡ timer v (record { 0 = d })
+
+rests_alike : (b : ActorId) (v v' : Views) → IsAlike (looks_by b []) v v' → AreRestsAlike b v v'
+rests_alike (Caller c) v v' same = tt
+rests_alike (Work d) v v' same = ap (λ (g : Glance). g.queued) same
+rests_alike (Timer d) v v' same = ap (λ (g : Glance). g.armed) same
+
 -- what an actor that rests would start
-ready_alike : (plan : Plan) (w w' : World) (b : ActorId) → ((c : ℕ) → b ≡ Caller c → called_by w' c ≡ called_by w c) → IsAlike (looks_by b []) w.views w'.views
+pub ready_alike : (plan : Plan) (w w' : World) (b : ActorId) → ((c : ℕ) → b ≡ Caller c → called_by w' c ≡ called_by w c) → AreRestsAlike b w.views w'.views
     → option_and_then (wakes_at plan w'.views) (ready plan w' b) ≡ option_and_then (wakes_at plan w.views) (ready plan w b)
 ready_alike plan w w' (Caller c) calls same = rw (calls c refl) (go (next_command plan w c))
   where
@@ -58,22 +68,22 @@ ready_alike plan w w' (Caller c) calls same = rw (calls c refl) (go (next_comman
         ≡ option_and_then (wakes_at plan w.views) (option_map (λ command. stage.Helper (at.Call command)) o)
     go None = refl
     go (Some command) = refl
-ready_alike plan w w' (Work d) calls same = rw (ap (λ (g : Glance). g.queued) same) (go _)
+ready_alike plan w w' (Work d) calls same = rw same (go _)
   where
     go : (b : Bool) → option_and_then (wakes_at plan w'.views) (if b then Some (stage.Helper (at.Work (record { 0 = d }))) else None)
         ≡ option_and_then (wakes_at plan w.views) (if b then Some (stage.Helper (at.Work (record { 0 = d }))) else None)
     go true = refl
     go false = refl
-ready_alike plan w w' (Timer d) calls same = rw (ap (λ (g : Glance). g.armed) same) (go (timer w.views (record { 0 = d })) refl)
+ready_alike plan w w' (Timer d) calls same = rw same (go (timer w.views (record { 0 = d })))
   where
-    go : (o : Option Armed) → timer w.views (record { 0 = d }) ≡ o → option_and_then (wakes_at plan w'.views) (option_map (λ armed. stage.Helper (at.Timer (record { 0 = d }))) o)
+    go : (o : Option Armed) → option_and_then (wakes_at plan w'.views) (option_map (λ armed. stage.Helper (at.Timer (record { 0 = d }))) o)
         ≡ option_and_then (wakes_at plan w.views) (option_map (λ armed. stage.Helper (at.Timer (record { 0 = d }))) o)
-    go None e = refl
-    go (Some armed) e = stage_alike plan w.views w'.views (stage.Helper (at.Timer (record { 0 = d }))) same
+    go None = refl
+    go (Some armed) = rw same refl
 
 place_alike : (plan : Plan) (w w' : World) (b : ActorId) → ((c : ℕ) → b ≡ Caller c → called_by w' c ≡ called_by w c) → (l : List Stage) → IsAlike (looks_by b l) w.views w'.views
     → option_and_then (wakes_at plan w'.views) (top (ready plan w' b) l) ≡ option_and_then (wakes_at plan w.views) (top (ready plan w b) l)
-place_alike plan w w' b calls [] same = ready_alike plan w w' b calls same
+place_alike plan w w' b calls [] same = ready_alike plan w w' b calls (rests_alike b w.views w'.views same)
 place_alike plan w w' b calls (s ∷ rest) same = stage_alike plan w.views w'.views s same
 
 -- another actor keeps its place, and its calls
@@ -88,18 +98,18 @@ place_kept w (Work c) (Timer k) l other = refl
 place_kept w (Timer c) (Caller k) l other = refl
 place_kept w (Timer c) (Work k) l other = refl
 
-calls_kept : (a : ActorId) (e : Event) (called : List ℕ) (c : ℕ) → Caller c ≢ a → slice_index_or (counts_call a e called) c 0 ≡ slice_index_or called c 0
+pub calls_kept : (a : ActorId) (e : Event) (called : List ℕ) (c : ℕ) → Caller c ≢ a → slice_index_or (counts_call a e called) c 0 ≡ slice_index_or called c 0
 calls_kept (Caller k) (event.Call command) called c other = get_or-set_other called k c _ 0 (λ e. other (ap (λ n. Caller n) e))
 calls_kept (Caller k) _ called c other = refl
 calls_kept (Work k) e called c other = refl
 calls_kept (Timer k) e called c other = refl
 
-with_views : (w : World) (a : ActorId) (l : List Stage) → (with_place w a l).views ≡ w.views
+pub with_views : (w : World) (a : ActorId) (l : List Stage) → (with_place w a l).views ≡ w.views
 with_views w (Caller c) l = refl
 with_views w (Work c) l = refl
 with_views w (Timer c) l = refl
 
-with_called : (w : World) (a : ActorId) (l : List Stage) → (with_place w a l).called ≡ w.called
+pub with_called : (w : World) (a : ActorId) (l : List Stage) → (with_place w a l).called ≡ w.called
 with_called w (Caller c) l = refl
 with_called w (Work c) l = refl
 with_called w (Timer c) l = refl
@@ -121,7 +131,7 @@ apart_of : (changed at : Option DevId) (x : DevId) → IsOne changed at → IsAp
 apart_of None at x one apart = tt
 apart_of (Some d) at x one apart = subst (λ o. IsApart o x) one apart
 
-spared_alike : (plan : Plan) (v : Views) (t : ℕ) (s : Stage) (e : Event) (c : Change) → IsOne (device_changed c) (device_at s) → (o : Option DevId) → IsSpared o s e
+pub spared_alike : (plan : Plan) (v : Views) (t : ℕ) (s : Stage) (e : Event) (c : Change) → IsOne (device_changed c) (device_at s) → (o : Option DevId) → IsSpared o s e
     → IsAlike o v (by_event plan t e (change_views plan t c v))
 spared_alike plan v t s e c one None spared = tt
 spared_alike plan v t s e c one (Some x) spared =

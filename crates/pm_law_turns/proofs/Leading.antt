@@ -1,6 +1,6 @@
 -- Each row of the call table names a change of its stage's device alone, and what takes the place of its stage waits only
 -- after a wait line.
-use Rattle.std.proofs.Common.{ℕ, ◌≡◌, Bool, true, false, Option, Some, None, ℤ, if◌then◌else◌, refl, subst}
+use Rattle.std.proofs.Common.{ℕ, ◌≡◌, Bool, true, false, Option, Some, None, ℤ, if◌then◌else◌, subst}
 use Rattle.pm_base.specs.declared.DevId.{DevId}
 use Rattle.pm_base.specs.declared.Req.{Req}
 use Rattle.pm_base.specs.declared.Req.TheVariants as req
@@ -27,7 +27,7 @@ use Rattle.pm_model.specs.declared.stage.SuspendStage.{SuspendStage}
 use Rattle.pm_model.specs.declared.stage.SuspendStage.TheVariants as suspend
 use Rattle.pm_model.specs.declared.stage.Then.{Then}
 use Rattle.pm_model.specs.ControlTable.{control_row, enabling, disabling, disable_starts, disable_ends, barrier_idles, barrier_resumes, barrier_ends, active_starts, active_gives, active_unwinds, active_takes, active_links, suspended_starts, tells_supplier, suppliers_idle, forbidding, allowing, sets, schedules, link_adds, link_dels, control_starts}
-use Rattle.pm_model.specs.HelperTable.{begins, carries_out, helper_row, helper_starts, put_suspends, timer_fires}
+use Rattle.pm_model.specs.HelperTable.{carries_out, helper_row, helper_starts, put_suspends, timer_fires}
 use Rattle.pm_model.specs.IdleTable.{after_put, idle_ends, idle_row, idle_verdict}
 use Rattle.pm_model.specs.ResumeTable.{leaves, resume_domain, resume_ends, resume_gives, resume_links, resume_row, resume_takes, resume_unwinds, resume_verdict}
 use Rattle.pm_model.specs.Row.{Row, writes, waits}

@@ -5,6 +5,7 @@ pub mod Turning
 pub mod Nearness
 pub mod Leading
 pub mod Frames
+pub mod Resting
 pub mod Telling
 pub mod Touching
 pub mod Earlier

@@ -23,7 +23,7 @@ use Rattle.pm_model.specs.declared.plan.Plan.{Plan}
 use Rattle.pm_model.specs.declared.stage.Change.{Change}
 use Rattle.pm_model.specs.declared.stage.Change.TheVariants as change
 use Rattle.pm_model.specs.declared.views.Device.{Device}
-use Rattle.pm_model.specs.Changes.{callback_marks, cancel, cancel_all, disabled_at_once, disables, disables_busy, disarm, enables, has_auto_timer, keeps_status, rcancel, set_deferred, set_depth, set_held, set_last, set_last_busy, set_present, set_request}
+use Rattle.pm_model.specs.Changes.{callback_marks, cancel, cancel_all, disabled_at_once, disables, disables_busy, disarm, enables, has_auto_timer, rcancel, set_deferred, set_depth, set_held, set_last, set_last_busy, set_present, set_request}
 use Rattle.pm_model.specs.ChangeViews.{change_views, suspend_ended}
 use Rattle.pm_model.specs.Derived.{is_active}
 use Rattle.pm_model.specs.Events.{by_event, by_word, by_work, by_timer, got, gave, set_status, set_error, set_usage, frees_links, is_try_again, suspend_failed}

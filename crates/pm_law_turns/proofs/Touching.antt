@@ -16,9 +16,10 @@ use Rattle.pm_model.specs.Lawful.{IsLawful}
 use Rattle.pm_model.specs.Views.{fresh_pending}
 use Rattle.pm_model.specs.World.{place, ready, start, top, world}
 use Rattle.pm_law_turns.specs.Wakes.{wakes, wakes_at}
-use Rattle.pm_law_turns.specs.Looks.{IsApart, IsSpared, device_at, device_in, looks_by}
-use Rattle.pm_law_turns.specs.Told.{IsShown, is_actor, told_wait, touches, touches_any}
+use Rattle.pm_law_turns.specs.Looks.{IsApart, IsSpared, device_at, device_in, looks_by, stirs}
+use Rattle.pm_law_turns.specs.Told.{IsShown, is_actor, reaches_any, told_wait, top_looks, touches, touches_any, waits_for}
 use Rattle.pm_law_turns.proofs.Frames.{wakes_frame}
+use Rattle.pm_law_turns.proofs.Resting.{wakes_calm}
 use Rattle.pm_law_turns.proofs.Telling.{all_shown, is_itself, other_actor}
 
 third : (a b c : Bool) → c ≡ true → a || b || c ≡ true
@@ -70,6 +71,32 @@ pub only_touched : (plan : Plan) (h : History) (line : Line) (lawful : IsLawful 
 only_touched plan h line lawful b other p q =
     wakes_frame plan h line lawful.0 b (other_actor b line.actor other)
     (spared h b (place (world plan h) b) lawful.0.stage line.event (all_shown plan h lawful.2 b) p q)
+
+-- where a line stirs no work item and no timer it moves the moments of those alone who wait for its devices
+waits_apart : (o : Option DevId) (h : History) (b : ActorId) (x : DevId) → waits_for x.0 h b ≡ true → reaches_any false o h b ≡ false → IsApart o x
+waits_apart None h b x hit miss = tt
+waits_apart (Some d) h b x hit miss = λ same. absurd (false≢true (sym miss ∙ ap (λ n. waits_for n h b) (sym same) ∙ hit))
+
+looks_waits : (h : History) (b : ActorId) (x : DevId) → told_wait b h ≡ Some x → waits_for x.0 h b ≡ true
+looks_waits h b x told =
+    let same : nat_eq x.0 x.0 ≡ true = grind (arith, nat_tests) in
+    ap (λ (o : Option DevId). option_map_or (λ y. nat_eq y.0 x.0) o false) told ∙ same
+
+waits_spared : (h : History) (b : ActorId) (l : List Stage) (s : Stage) (e : Event) → IsShown (told_wait b h) l → reaches_any false (device_at s) h b ≡ false
+    → reaches_any false (device_in e) h b ≡ false → IsSpared (top_looks l) s e
+waits_spared h b l s e shown p q = go (top_looks l) refl
+  where
+    go : (o : Option DevId) → top_looks l ≡ o → IsSpared o s e
+    go None is = tt
+    go (Some x) is = let hit = looks_waits h b x (sym shown.0 ∙ is) in (waits_apart (device_at s) h b x hit p, waits_apart (device_in e) h b x hit q)
+
+pub only_reached : (plan : Plan) (h : History) (line : Line) (lawful : IsLawful plan (line ∷ h)) (b : ActorId) (stirred : Bool) → stirs line.event lawful.0.change ≡ stirred
+    → is_actor b line.actor ≡ false → reaches_any stirred (device_at lawful.0.stage) h b ≡ false → reaches_any stirred (device_in line.event) h b ≡ false
+    → wakes plan (world plan (line ∷ h)) b ≡ wakes plan (world plan h) b
+only_reached plan h line lawful b true is other p q = only_touched plan h line lawful b other p q
+only_reached plan h line lawful b false is other p q =
+    wakes_calm plan h line lawful.0 b (other_actor b line.actor other) is
+    (waits_spared h b (place (world plan h) b) lawful.0.stage line.event (all_shown plan h lawful.2 b) p q)
 
 pub settled : (plan : Plan) (h : History) (line : Line) (lawful : IsLawful plan (line ∷ h)) (before after : ActorId → Option ℕ) (a : ActorId)
     → before a ≡ wakes plan (world plan h) a

@@ -1,5 +1,5 @@
 -- Which device a line may change, and on which device the moment of an actor depends (this project's own).
-use Rattle.std.specs.Prelude.{◌≢◌, List, [], ◌∷◌, Option, Some, None}
+use Rattle.std.specs.Prelude.{◌≢◌, Bool, true, false, ◌||◌, List, [], ◌∷◌, Option, Some, None}
 use Rattle.pm_base.specs.declared.ActorId.{ActorId}
 use Rattle.pm_base.specs.declared.ActorId.TheVariants.{Caller, Work, Timer}
 use Rattle.pm_base.specs.declared.DevId.{DevId}
@@ -59,6 +59,28 @@ device_changed (change.KeepStatus d) = Some d
 device_changed (change.Set d use_auto delay) = Some d
 device_changed (change.Ignore d ignores) = Some d
 device_changed (change.Link c s present) = None
+
+-- an event may queue a work item or begin it, or arm a timer or disarm it
+abbrev pub event_stirs : Event → Bool
+event_stirs (event.State d w) = true
+event_stirs (event.Work d act) = true
+event_stirs (event.Timer d act) = true
+event_stirs _ = false
+
+-- a change may take a work item from its queue, or disarm a timer
+abbrev pub change_stirs : Change → Bool
+change_stirs (change.Disarm d) = true
+change_stirs (change.Cancel d) = true
+change_stirs (change.CancelAll d) = true
+change_stirs (change.ResumeCancel d) = true
+change_stirs (change.SuspendEnded d c) = true
+change_stirs (change.DisableBusy d) = true
+change_stirs (change.DisableAtOnce d) = true
+change_stirs _ = false
+
+-- a line with this event, whose row names this change, may move from when a work item or a timer may start
+abbrev pub stirs : Event → Change → Bool
+stirs e c = event_stirs e || change_stirs c
 
 -- the device that is waited for after a wait line
 abbrev pub waits_at : Stage → Option DevId

@@ -1,6 +1,6 @@
 -- Who waits for a device, as the lines tell (this project's own).
 use Rattle.std.specs.Option.{option_map_or}
-use Rattle.std.specs.Prelude.{ℕ, ◌≡◌, Bool, false, ◌||◌, List, [], ◌∷◌, Option, Some, None, ℤ, drop, nat_eq, if◌then◌else◌}
+use Rattle.std.specs.Prelude.{ℕ, ◌≡◌, Bool, true, false, ◌||◌, List, [], ◌∷◌, Option, Some, None, ℤ, drop, nat_eq, if◌then◌else◌}
 use Rattle.pm_base.specs.declared.ActorId.{ActorId}
 use Rattle.pm_base.specs.declared.ActorId.TheVariants.{Caller, Work, Timer}
 use Rattle.pm_base.specs.declared.DevId.{DevId}
@@ -45,9 +45,21 @@ abbrev pub IsCalm : Option DevId → Option ℤ → Type 0
 IsCalm o None = Unit {0}
 IsCalm o (Some c) = o ≡ None
 
+-- the actor's last line is a wait line for this device
+abbrev pub waits_for : ℕ → History → ActorId → Bool
+waits_for d h actor = option_map_or (λ x. nat_eq x.0 d) (told_wait actor h) false
+
 -- the actor is the work item or the timer of this device, or its last line is a wait line for it
 abbrev pub touches : ℕ → History → ActorId → Bool
-touches d h actor = is_actor actor (Work d) || is_actor actor (Timer d) || option_map_or (λ x. nat_eq x.0 d) (told_wait actor h) false
+touches d h actor = is_actor actor (Work d) || is_actor actor (Timer d) || waits_for d h actor
 
 abbrev pub touches_any : Option DevId → History → ActorId → Bool
 touches_any dev h actor = option_map_or (λ d. touches d.0 h actor) dev false
+
+-- a line of this device may move the actor's moment: where it stirs none, only that of one who waits for the device
+abbrev pub reaches : Bool → ℕ → History → ActorId → Bool
+reaches true d h actor = touches d h actor
+reaches false d h actor = waits_for d h actor
+
+abbrev pub reaches_any : Bool → Option DevId → History → ActorId → Bool
+reaches_any stirred dev h actor = option_map_or (λ d. reaches stirred d.0 h actor) dev false

@@ -9,6 +9,6 @@ mod stuck;
 mod wakes;
 
 pub use idles::{one_idle, stages_wait};
-pub use order::{changes, frame, settles, starts, touched, waiters};
+pub use order::{changes, frame, settles, starts, stirred, touched, waiters};
 pub use stuck::{never_stuck, serial_ends, serial_stops};
 pub use wakes::{moments, turns};

@@ -16,8 +16,8 @@ ghost use Rattle.pm_model.specs.Views.{Views};
 ghost use Rattle.pm_model.specs.World.{place, start, world};
 ghost use Rattle.pm_law_turns.specs.Wakes.{wakes};
 ghost use Rattle.pm_law_turns.specs.Glance.{glance};
-ghost use Rattle.pm_law_turns.specs.Looks.{IsApart, IsSpared, device_at, device_changed, device_in, looks_at};
-ghost use Rattle.pm_law_turns.specs.Told.{IsShown, is_actor, told_wait, touches_any};
+ghost use Rattle.pm_law_turns.specs.Looks.{IsApart, IsSpared, device_at, device_changed, device_in, looks_at, stirs};
+ghost use Rattle.pm_law_turns.specs.Told.{IsShown, is_actor, reaches_any, told_wait, touches_any};
 
 /// An event, and a change that a row of the call table names, move what the moments see of their own device alone.
 pub fn changes()
@@ -40,6 +40,13 @@ pub fn waiters()
 /// device of its event, and of those whose last line is a wait line for such a device; and no others.
 pub fn touched()
     ensures { (plan : Plan) (h : History) (line : Line) (lawful : IsLawful plan (line ∷ h)) (a : ActorId) → is_actor a line.actor ≡ false → touches_any (device_at lawful.0.stage) h a ≡ false → touches_any (device_in line.event) h a ≡ false → wakes plan (world plan (line ∷ h)) a ≡ wakes plan (world plan h) a }
+{}
+
+/// A line that isn't of a status, a work item or a timer, and whose row names no change that may take a work item from
+/// its queue or disarm a timer (`stirs`), moves the moments of its own actor and of those whose last line is a wait line
+/// for the device of its stage or of its event; and no others.
+pub fn stirred()
+    ensures { (plan : Plan) (h : History) (line : Line) (lawful : IsLawful plan (line ∷ h)) (a : ActorId) → stirs line.event lawful.0.change ≡ false → is_actor a line.actor ≡ false → reaches_any false (device_at lawful.0.stage) h a ≡ false → reaches_any false (device_in line.event) h a ≡ false → wakes plan (world plan (line ∷ h)) a ≡ wakes plan (world plan h) a }
 {}
 
 /// Moments that were right before a line, and of which those that the line touches are asked anew, are right after it.

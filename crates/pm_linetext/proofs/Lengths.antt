@@ -44,6 +44,7 @@ use Rattle.pm_model.specs.declared.rows.DomainRow.{DomainRow}
 use Rattle.pm_model.specs.declared.rows.LinkRow.{LinkRow}
 use Rattle.pm_linetext.specs.Fronts.{front_text}
 use Rattle.pm_linetext.specs.NamesFit.{NamesFit}
+use Rattle.pm_linetext.specs.Room.{HasRoom}
 use Rattle.pm_linetext.specs.ShortLine.{are_short_fields, is_short_event, is_short_line}
 
 name_fits : (is_byte : ℕ → Bool) (name : List ℕ) → is_name_of is_byte name ≡ true → length name ≤ 32
@@ -276,9 +277,16 @@ pub named_event_len : (names : Names) → NamesFit names → (devices : ℕ) (e 
 named_event_len names fit devices e h = either_len (is_short_event e) _ 103 118 (omega arith) (event_len names fit devices e h)
 
 -- the front of a line over names that fit, as far as its time and its actor
-pub named_start_len : (names : Names) → NamesFit names → (time : ℕ) (a : ActorId) → time < 2 ^ 63 → length ((decimal time ++ space) ++ actor_text names a) ≤ 58
+named_start_len : (names : Names) → NamesFit names → (time : ℕ) (a : ActorId) → time < 2 ^ 63 → length ((decimal time ++ space) ++ actor_text names a) ≤ 58
 named_start_len names fit time a small =
     simp length-append (omega (arith, length-decimal-le 19 time (lit< tt) (omega arith) (omega arith), actor_len names fit a))
+
+-- so an actor and a space have room behind a time
+pub actor_room : (names : Names) → NamesFit names → (time : ℕ) (a : ActorId) → time < 2 ^ 63 → HasRoom (decimal time ++ space) (actor_text names a ++ space)
+actor_room names fit time a small =
+    let sum = length-append (decimal time ++ space) (actor_text names a) in
+    let behind = length-append (actor_text names a) space in
+    omega (arith, sum, behind, named_start_len names fit time a small)
 
 pub named_front_len : (names : Names) → NamesFit names → (time : ℕ) (a : ActorId) → time < 2 ^ 63 → length (front_text names time a) ≤ 59
 named_front_len names fit time a small =

@@ -26,12 +26,12 @@ end_inside end bytes text len is short =
     let same : length (take end bytes) ≡ length text = ap length is in
     omega (arith, taken, same)
 
--- a name that is copied with its padding
-pub name_put : (at len : ℕ) (bytes padded name : List ℕ) → at ≤ length bytes → len ≤ length padded → len ≡ length name → take (length name) padded ≡ name → take (at + len) (put_mid at (at + 32 - at) bytes padded) ≡ take at bytes ++ name
-name_put at len bytes padded name inside fits is_len is_name =
+-- a text that is copied with what pads it to n bytes
+pub whole_put : (n at len : ℕ) (bytes padded text : List ℕ) → at ≤ length bytes → len ≤ length padded → len ≡ length text → take (length text) padded ≡ text → take (at + len) (put_mid at (at + n - at) bytes padded) ≡ take at bytes ++ text
+whole_put n at len bytes padded text inside fits is_len is_text =
     let front : length (take at bytes) ≡ at = length-take-le at bytes inside in
-    let whole : take (length (take at bytes) + len) (take at bytes ++ (padded ++ post_of at (at + 32 - at) bytes)) ≡ take at bytes ++ take len (padded ++ post_of at (at + 32 - at) bytes) = take-append-add (take at bytes) (padded ++ post_of at (at + 32 - at) bytes) len in
-    let part : take len (padded ++ post_of at (at + 32 - at) bytes) ≡ take len padded = take-append-le len padded (post_of at (at + 32 - at) bytes) fits in
+    let whole : take (length (take at bytes) + len) (take at bytes ++ (padded ++ post_of at (at + n - at) bytes)) ≡ take at bytes ++ take len (padded ++ post_of at (at + n - at) bytes) = take-append-add (take at bytes) (padded ++ post_of at (at + n - at) bytes) len in
+    let part : take len (padded ++ post_of at (at + n - at) bytes) ≡ take len padded = take-append-le len padded (post_of at (at + n - at) bytes) fits in
     cc
 
 -- a byte that is set in the last piece

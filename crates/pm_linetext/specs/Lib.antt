@@ -1,3 +1,4 @@
+pub mod AtHand
 pub mod Fronts
 pub mod NamesFit
 pub mod Payload

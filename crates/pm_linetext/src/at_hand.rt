@@ -1,16 +1,17 @@
 //! Names of a plan that are copied whole.
 
-ghost use Rattle.std.specs.Prelude.{◌≡◌, ◌<◌, ◌^◌, ◌++◌, [], IfOk, length, map, slice_index_or, take, true};
+ghost use Rattle.std.specs.Prelude.{◌≡◌, ◌<◌, ◌≤◌, ◌^◌, ◌++◌, [], IfOk, IfSome, length, map, slice_index_or, take, true};
 ghost use Rattle.pm_base.specs.declared.limits.TheConstants.{MAX_NAME};
 ghost use Rattle.pm_model.specs.LineOf.{is_actor_of, is_event_of};
-ghost use Rattle.pm_model.specs.Spelling.{event_text, newline};
+ghost use Rattle.pm_model.specs.Spelling.{actor_text, event_text, newline, space};
 ghost use Rattle.pm_model.specs.Text.{names_of};
+ghost use Rattle.pm_linetext.specs.AtHand.{texts_of};
 ghost use Rattle.pm_linetext.specs.Fronts.{IsFront, front_text};
 ghost use Rattle.pm_linetext.specs.Room.{HasRoom};
 
 use crate::names::NameSource;
-use crate::padded::PaddedName;
-use crate::pieces::put_padded_name;
+use crate::padded::{Padded, PaddedActor, PaddedName};
+use crate::pieces::{put, put_bytes, put_whole};
 use crate::text::LineBytes;
 use crate::timed::TimedText;
 use pm_base::{ActorId, NoMemory};
@@ -25,27 +26,42 @@ use std::marker::Model;
 pub struct NamesAtHand {
     devices: Vec<PaddedName>,
     callers: Vec<PaddedName>,
+    // The texts of the actors with the space behind them, so that a front is a time and one copy.
+    caller_texts: Vec<PaddedActor>,
+    work_texts: Vec<PaddedActor>,
+    timer_texts: Vec<PaddedActor>,
 }
 
 impl Model for NamesAtHand {
     ghost use Rattle.pm_model.specs.Spelling.{Names};
-    ghost use Rattle.pm_linetext.specs.NamesFit.{NamesFit};
+    ghost use Rattle.pm_linetext.specs.AtHand.{AreAtHand};
 
     ghost Value = { Names };
 
     ghost view = { λ names. record { devices = names.devices.items; callers = names.callers.items } };
 
-    ghost invariant = { λ names. NamesFit (record { devices = names.devices.items; callers = names.callers.items }) };
+    ghost invariant = { λ names. AreAtHand (record { devices = names.devices.items; callers = names.callers.items })
+        names.caller_texts.items names.work_texts.items names.timer_texts.items };
 }
 
 impl NamesAtHand {
-    /// The names of a plan. It takes 40 bytes for each device and caller, and fails where memory runs out.
+    /// The names of a plan. It takes 152 bytes for each device and 96 for each caller, and fails where memory runs
+    /// out.
     pub fn new(alloc: Global, plan: &Plan) -> Result<NamesAtHand, NoMemory>
         ensures { IfOk result (λ names. names ≡ names_of plan.now) }
     {
         let devices = padded(alloc, &plan.devices)?;
         let callers = padded(alloc, &plan.callers)?;
-        Ok(NamesAtHand { devices, callers })
+        let caller_texts = actor_texts(alloc, b"", &callers)?;
+        let work_texts = actor_texts(alloc, b"work.", &devices)?;
+        let timer_texts = actor_texts(alloc, b"timer.", &devices)?;
+        Ok(NamesAtHand {
+            devices,
+            callers,
+            caller_texts,
+            work_texts,
+            timer_texts,
+        })
     }
 
     /// Whether the actor is one of a plan with as many devices and callers.
@@ -67,7 +83,22 @@ impl NamesAtHand {
     {
         let _ = &self.devices; // so the proof knows that the names fit
         text.put_time(time);
-        text.text.push_actor(self, actor);
+        match self.actor_text(actor) {
+            Some(padded) => text.text.push_padded(padded),
+            None => text.text.push_actor(self, actor),
+        }
+    }
+
+    /// The text of an actor with the space behind it, where the actor is one of as many devices and callers.
+    #[inline(always)]
+    fn actor_text(&self, actor: ActorId) -> Option<&PaddedActor>
+        ensures { IfSome result (λ text. text.now ≡ actor_text self.now actor ++ space) }
+    {
+        match actor {
+            ActorId::Caller(place) => self.caller_texts.get(place as usize),
+            ActorId::Work(place) => self.work_texts.get(place as usize),
+            ActorId::Timer(place) => self.timer_texts.get(place as usize),
+        }
     }
 
     /// Puts the text of an event and the newline behind the front of its line. The event is one of a plan with as
@@ -105,7 +136,7 @@ fn put_name_at(bytes: &mut LineBytes, at: usize, names: &[PaddedName], place: us
     ensures { take result bytes.new ≡ take at bytes.old ++ slice_index_or names.now place [] }
 {
     match names.get(place) {
-        Some(name) => put_padded_name(bytes, at, name),
+        Some(name) => put_whole(bytes, at, name),
         None => at,
     }
 }
@@ -118,4 +149,32 @@ fn padded<T: Named>(alloc: Global, rows: &NamedList<T>) -> Result<Vec<PaddedName
         .iter()
         .map(|row| PaddedName::new(row.name().as_slice()))
         .collect(alloc)
+}
+
+/// The texts of actors of one sort, by what leads to their names.
+fn actor_texts(
+    alloc: Global,
+    lead: &[u8],
+    names: &[PaddedName],
+) -> Result<Vec<PaddedActor>, AllocError>
+    requires { length lead.now ≤ 6 }
+    ensures { IfOk result (λ texts. texts.items ≡ texts_of lead.now names.now) }
+{
+    names
+        .iter()
+        .map(|name| padded_actor(lead, name))
+        .collect(alloc)
+}
+
+/// The text of an actor and a space, by what leads to its name.
+fn padded_actor(lead: &[u8], name: &PaddedName) -> PaddedActor
+    requires { length lead.now ≤ 6 }
+    ensures { result ≡ lead.now ++ (name.now ++ space) }
+{
+    let _ = name.len(); // so the proof knows that the name fits
+    let mut bytes = [0; 256];
+    let at = put_bytes(&mut bytes, 0, lead);
+    let at = put_whole(&mut bytes, at, name);
+    let len = put(&mut bytes, at, b" ");
+    Padded::new(&bytes[..len])
 }

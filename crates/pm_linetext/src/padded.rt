@@ -1,54 +1,58 @@
-//! Names that are copied whole.
+//! Texts that are copied whole.
 
 ghost use Rattle.std.specs.Prelude.{◌≡◌, ◌≤◌, length, take};
-ghost use Rattle.pm_base.specs.declared.limits.TheConstants.{MAX_NAME};
 
 use pm_base::MAX_NAME;
 use std::marker::Model;
 
-/// A name with what pads it to 32 bytes. Contracts see the name.
+/// A text with what pads it to so many bytes. Contracts see the text.
 #[derive(Drop)]
-pub(crate) struct PaddedName {
-    bytes: [u8; MAX_NAME],
+pub(crate) struct Padded<const N: usize> {
+    bytes: [u8; N],
     len: usize,
 }
 
-impl Model for PaddedName {
+/// A name.
+pub(crate) type PaddedName = Padded<MAX_NAME>;
+
+/// The text of an actor and the space behind it.
+pub(crate) type PaddedActor = Padded<48>;
+
+impl<const N: usize> Model for Padded<N> {
     ghost use Rattle.std.specs.Prelude.{List, ℕ, ◌≤◌, take};
-    ghost use Rattle.pm_base.specs.declared.limits.TheConstants.{MAX_NAME};
 
     ghost Value = { List ℕ };
 
-    ghost view = { λ name. take name.len name.bytes };
+    ghost view = { λ text. take text.len text.bytes };
 
-    ghost invariant = { λ name. name.len ≤ MAX_NAME };
+    ghost invariant = { λ text. text.len ≤ N };
 }
 
-impl PaddedName {
-    /// A name, of which at most 32 bytes are taken.
-    pub(crate) fn new(name: &[u8]) -> PaddedName
-        ensures { result ≡ take MAX_NAME name.now }
+impl<const N: usize> Padded<N> {
+    /// A text, of which no more is taken than there is room for.
+    pub(crate) fn new(text: &[u8]) -> Padded<N>
+        ensures { result ≡ take N text.now }
     {
-        let len = name.len().min(MAX_NAME);
-        let mut bytes = [0; MAX_NAME];
-        bytes[..len].copy_from_slice(&name[..len]);
-        PaddedName { bytes, len }
+        let len = text.len().min(N);
+        let mut bytes = [0; N];
+        bytes[..len].copy_from_slice(&text[..len]);
+        Padded { bytes, len }
     }
 
-    /// The length of the name.
+    /// The length of the text.
     #[inline]
     pub(crate) fn len(&self) -> usize
         ensures len { result ≡ length self.now }
-        ensures fits { result ≤ MAX_NAME }
+        ensures fits { result ≤ N }
     {
         self.len
     }
 
-    /// The name and what pads it.
+    /// The text and what pads it.
     #[inline]
-    pub(crate) fn padded(&self) -> &[u8; MAX_NAME]
-        ensures name { take (length self.now) result.now ≡ self.now }
-        ensures len { length result.now ≡ MAX_NAME }
+    pub(crate) fn padded(&self) -> &[u8; N]
+        ensures text { take (length self.now) result.now ≡ self.now }
+        ensures len { length result.now ≡ N }
     {
         &self.bytes
     }

@@ -1,15 +1,15 @@
 //! The pieces of a line. Each is put at a place of the line's bytes, and the place behind it is the answer.
 
-ghost use Rattle.std.specs.Prelude.{◌≡◌, ◌++◌, ◌<◌, ◌∷◌, [], decimal, take};
+ghost use Rattle.std.specs.Prelude.{◌≡◌, ◌++◌, ◌<◌, ◌≤◌, ◌∷◌, [], decimal, take};
 ghost use Rattle.std.specs.Fmt.{signed_decimal};
 ghost use Rattle.pm_model.specs.Spelling.{actor_text, device_name, why_text};
 ghost use Rattle.pm_linetext.specs.Room.{HasRoom};
 
 use crate::names::NameSource;
-use crate::padded::PaddedName;
+use crate::padded::Padded;
 use crate::text::LineBytes;
 use itoa::Buffer;
-use pm_base::{ActorId, DevId, MAX_NAME, Why};
+use pm_base::{ActorId, DevId, Why};
 
 /// Puts a piece.
 #[inline(always)]
@@ -31,14 +31,16 @@ pub(crate) fn put<const N: usize>(bytes: &mut LineBytes, at: usize, piece: &[u8;
     put_bytes(bytes, at, piece)
 }
 
-/// Puts a name. It is copied with what pads it, which the next piece covers.
+/// Puts a text. It is copied with what pads it, which the next piece covers.
 #[inline(always)]
-pub(crate) fn put_padded_name(bytes: &mut LineBytes, at: usize, name: &PaddedName) -> usize
-    requires { HasRoom (take at bytes.old) name.now }
-    ensures { take result bytes.new ≡ take at bytes.old ++ name.now }
+pub(crate) fn put_whole<const N: usize>(bytes: &mut LineBytes, at: usize, text: &Padded<N>) -> usize
+    requires padding { N ≤ 64 }
+    requires room { HasRoom (take at bytes.old) text.now }
+    ensures put { take result bytes.new ≡ take at bytes.old ++ text.now }
+    ensures inside { result ≤ 256 }
 {
-    bytes[at..at + MAX_NAME].copy_from_slice(name.padded());
-    at + name.len()
+    bytes[at..at + N].copy_from_slice(text.padded());
+    at + text.len()
 }
 
 /// The digit of a number below 10.

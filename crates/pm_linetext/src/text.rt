@@ -6,14 +6,15 @@ ghost use Rattle.pm_linetext.specs.Room.{HasRoom};
 
 use crate::events::{put_event, put_line};
 use crate::names::NameSource;
-use crate::pieces::{put, put_actor, put_number};
+use crate::padded::PaddedActor;
+use crate::pieces::{put, put_actor, put_number, put_whole};
 use pm_base::ActorId;
 use pm_model::{Event, Line};
 use std::marker::Model;
 
 /// The bytes in which a line is spelled, from the first on. Each piece is put at a place, and the place behind it
-/// is handed on: so the compiler keeps it at hand. There is room for the longest line with its newline and for a
-/// padded name behind that.
+/// is handed on: so the compiler keeps it at hand. There is room for the longest line with its newline and for
+/// what pads a text behind that.
 pub(crate) type LineBytes = [u8; 256];
 
 /// The text of one line as far as it is spelled. It takes no memory. Contracts see its bytes.
@@ -78,8 +79,17 @@ impl LineText {
         self.len = put(&mut self.bytes, at, b" ");
     }
 
-    /// Appends an actor and a space.
+    /// Appends the text of an actor and a space, which is copied whole.
     #[inline(always)]
+    pub(crate) fn push_padded(&mut self, actor: &PaddedActor)
+        requires { HasRoom self.old actor.now }
+        ensures { self.new ≡ self.old ++ actor.now }
+    {
+        self.len = put_whole(&mut self.bytes, self.len, actor);
+    }
+
+    /// Appends an actor and a space.
+    #[inline(never)]
     pub(crate) fn push_actor<S: NameSource>(&mut self, names: &S, actor: ActorId)
         requires { HasRoom self.old (actor_text (S.names names.now) actor ++ space) }
         ensures { self.new ≡ self.old ++ (actor_text (S.names names.now) actor ++ space) }

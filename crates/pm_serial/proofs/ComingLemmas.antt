@@ -1,6 +1,7 @@
 -- The lines of a run on one thread come one by one.
-use Rattle.std.proofs.Common.{◌≡◌, ◌∙◌, ◌+◌, ◌++◌, ◌*◌, ◌-◌, ◌<◌, ◌≤◌, ◌^◌, ◌⊎◌, ℕ, zero, suc, Bool, true, false, List, [], ◌∷◌, Option, None, Some, IsSome, is_some, length, reverse, slice_get, ap, append-nil, append_assoc, arith, lit<, refl, subst, sym}
+use Rattle.std.proofs.Common.{◌≡◌, ◌∙◌, ◌+◌, ◌++◌, ◌*◌, ◌-◌, ◌<◌, ◌≤◌, ◌^◌, ◌⊎◌, ℕ, zero, suc, Bool, true, false, List, [], ◌∷◌, Option, None, Some, IsSome, is_some, length, reverse, slice_get, take, ap, append-nil, append_assoc, arith, lit<, refl, subst, sym}
 use Rattle.std.specs.Option.{option_and_then, option_map_or}
+use Rattle.std.proofs.Math.Seq.{take-append_seam}
 use Rattle.std.proofs.lemmas.Bool.{false_from_ne_true}
 use Rattle.std.proofs.lemmas.List.{length-append, length-reverse, reverse-append, reverse-reverse}
 use Rattle.std.proofs.lemmas.Option.{same_Some, slice_get_past}
@@ -28,7 +29,8 @@ use Rattle.pm_book.specs.Turn.{HasTime}
 use Rattle.pm_book.proofs.Moves.{stays_of}
 use Rattle.pm_book.proofs.PageLemmas.{leads, writes}
 use Rattle.pm_book.proofs.TurnLemmas.{AreDue, IsNext, line_next, turn_soon, turn_writes}
-use Rattle.pm_serial.specs.Coming.{IsAfter}
+use Rattle.pm_serial.specs.Coming.{IsAfter, IsComing, Moves, so_far}
+use Rattle.pm_serial.specs.declared.turn.NextTurn.{NextTurn}
 use Rattle.pm_serial.specs.declared.running.End.{End}
 use Rattle.pm_serial.specs.declared.running.End.TheVariants as end
 use Rattle.pm_serial.specs.Ends.{IsSerialEnd, whole}
@@ -98,14 +100,14 @@ seated plan x (Caller c) are is = let same = are.callers in omega (arith, is, sa
 seated plan x (Work d) are is = let same = are.devices in omega (arith, is, same)
 seated plan x (Timer d) are is = let same = are.devices in omega (arith, is, same)
 
-pub is_due : (plan : Plan) (h : History) (x : Index) (turn : ActorId × ℕ) → IsIndex plan h x → AreDue plan h → Some turn ≡ next_turn plan h → IsSeated x.rows turn.0 → IsDue plan h turn
-is_due plan h x turn index are is seat =
-    let writes = turn_writes plan h turn (sym is) in
-    let line_is = line_next plan h turn (sym is) writes in
+pub is_due : (plan : Plan) (h : History) (turn : ActorId × ℕ) → AreDue plan h → next_turn plan h ≡ Some turn → IsActor plan turn.0 → IsDue plan h turn
+is_due plan h turn are is in_range =
+    let writes = turn_writes plan h turn is in
+    let line_is = line_next plan h turn is writes in
     record {
-      turn_is = sym is;
-      in_range = seated plan x turn.0 index.of_plan seat;
-      soon = turn_soon plan h turn are (sym is);
+      turn_is = is;
+      in_range = in_range;
+      soon = turn_soon plan h turn are is;
       later = (permits_next plan h _ line_is).in_time;
       writes = writes;
       line_is = line_is;
@@ -143,7 +145,7 @@ DueLaw = (plan : Plan) (h : History) (a : ActorId) (s : Stage) → IsLawful plan
 
 pub due_of : (plan : Plan) (came : ℕ) (state : Standing) (turns : Index) (actor : ActorId) (time : ℕ) → (k : IsAfter plan came state turns) → DueLaw
     → Some (actor, time) ≡ next_turn plan k.list → IsSeated turns.rows actor → IsDue plan k.list (actor, time)
-due_of plan came state turns actor time k law is seat = is_due plan k.list turns (actor, time) k.turns_are (λ a s at. law plan k.list a s k.lawful at) is seat
+due_of plan came state turns actor time k law is seat = is_due plan k.list (actor, time) (λ a s at. law plan k.list a s k.lawful at) (sym is) (seated plan turns actor k.turns_are.of_plan seat)
 
 pub fits : (plan : Plan) (came : ℕ) (state : Standing) (turns : Index) → (k : IsAfter plan came state turns) → came < plan.lines → length k.list < plan.lines
 fits plan came state turns k room = let many = k.many in omega (arith, many, room)
@@ -158,15 +160,53 @@ some_stage plan came state turns turn k due =
     let here : stage_at plan state.world turn.0 ≡ Some there.0 = subst (λ (w : World). stage_at plan w turn.0 ≡ Some there.0) (sym k.world_is) there.1 in
     ap (λ (o : Option Stage). is_some o) here
 
--- its move there writes
-pub no_move : (plan : Plan) (came : ℕ) (state : Standing) (turns : Index) (turn : ActorId × ℕ) (s : Stage) (m : Move) → (k : IsAfter plan came state turns) → IsDue plan k.list turn
-    → stage_at plan state.world turn.0 ≡ Some s → Some m ≡ move plan state.world.views s turn.1 → ((e : Event) (c : Change) (next : Then) → m ≡ Write e c next → ⊥) → ⊥
-no_move plan came state turns turn s m k due stands gives none =
-    let at : stage_at plan (world plan k.list) turn.0 ≡ Some s = subst (λ (w : World). stage_at plan w turn.0 ≡ Some s) k.world_is stands in
-    let is : Some m ≡ move plan (world plan k.list).views s turn.1 = subst (λ (w : World). Some m ≡ move plan w.views s turn.1) k.world_is gives in
+-- the lines that have come are the first ones
+pub so_far_is : (plan : Plan) (came : ℕ) (state : Standing) (turns : Index) → (k : IsAfter plan came state turns) → k.list ≡ so_far plan came
+unfolding so_far
+so_far_is plan came state turns k =
+    let f = front_is plan k.list k.on_the_way in
+    let many : came ≡ length (reverse k.list) = sym (length-reverse k.list ∙ k.many) in
+    let front : take came (serial plan) ≡ reverse k.list =
+    ap (λ n. take n (serial plan)) many ∙ ap (take (length (reverse k.list))) f.1 ∙ take-append_seam (reverse k.list) f.0 in
+    sym (ap (λ (l : List Line). reverse l) front ∙ reverse-reverse k.list)
+
+-- its move there writes the next line
+pub is_coming : (plan : Plan) (came : ℕ) (state : Standing) (turns : Index) (turn : NextTurn) (m : Move) → (k : IsAfter plan came state turns) → came < plan.lines
+    → IsDue plan k.list (turn.actor, turn.time) → Moves plan state.world turn.actor turn.time m turn.at → IsComing plan came turn m
+is_coming plan came state turns turn m k room due moves =
+    let same = so_far_is plan came state turns k in
     let n = due.writes in
-    let here : move plan (world plan k.list).views s turn.1 ≡ Some (Write n.event n.change n.next) = sym (ap (option_and_then (λ (s : Stage). move plan (world plan k.list).views s turn.1)) at) ∙ n.gives in
-    none n.event n.change n.next (same_Some m (Write n.event n.change n.next) (is ∙ here))
+    let at : stage_at plan (world plan k.list) turn.actor ≡ Some moves.stage = subst (λ (w : World). stage_at plan w turn.actor ≡ Some moves.stage) k.world_is moves.stands in
+    let is : Some m ≡ move plan (world plan k.list).views moves.stage turn.time = subst (λ (w : World). Some m ≡ move plan w.views moves.stage turn.time) k.world_is moves.gives in
+    let here : move plan (world plan k.list).views moves.stage turn.time ≡ Some (Write n.event n.change n.next) =
+    sym (ap (option_and_then (λ (s : Stage). move plan (world plan k.list).views s turn.time)) at) ∙ n.gives in
+    let line : Line = record { time = turn.time; actor = turn.actor; event = n.event } in
+    let whole_is : whole plan (line ∷ k.list) ≡ whole plan [] = whole_one plan k.list line (fits plan came state turns k room) due.line_is ∙ k.on_the_way in
+    record {
+      turn_is = subst (λ (h : History). next_turn plan h ≡ Some (turn.actor, turn.time)) same due.turn_is;
+      in_range = due.in_range;
+      stage = moves.stage;
+      stands = subst (λ (h : History). stage_at plan (world plan h) turn.actor ≡ Some moves.stage) same at;
+      gives = subst (λ (h : History). Some m ≡ move plan (world plan h).views moves.stage turn.time) same is;
+      at_is = moves.at_is;
+      room = room;
+      event = n.event;
+      change = n.change;
+      what_follows = n.next;
+      writes = same_Some m (Write n.event n.change n.next) (is ∙ here);
+      line_is = ap (slice_get (serial plan)) (sym k.many) ∙ next_there plan k.list line whole_is;
+    }
+
+-- what comes next is due
+pub due_coming : (plan : Plan) (came : ℕ) (state : Standing) (turns : Index) (turn : NextTurn) (m : Move) → (k : IsAfter plan came state turns) → DueLaw → IsComing plan came turn m
+    → IsDue plan k.list (turn.actor, turn.time)
+due_coming plan came state turns turn m k law coming =
+    is_due plan k.list (turn.actor, turn.time) (λ a s at. law plan k.list a s k.lawful at)
+    (subst (λ (h : History). next_turn plan h ≡ Some (turn.actor, turn.time)) (sym (so_far_is plan came state turns k)) coming.turn_is) coming.in_range
+
+-- a move that writes
+pub a_write : (plan : Plan) (came : ℕ) (turn : NextTurn) (m : Move) → IsComing plan came turn m → ((e : Event) (c : Change) (next : Then) → m ≡ Write e c next → ⊥) → ⊥
+a_write plan came turn m coming none = none coming.event coming.change coming.what_follows coming.writes
 
 -- the line that it writes there
 pub record IsStep (plan : Plan) (h : History) (w : World) (turn : ActorId × ℕ) (s : Stage) (e : Event) (c : Change) (next : Then) : Type 0 where
@@ -175,15 +215,16 @@ pub record IsStep (plan : Plan) (h : History) (w : World) (turn : ActorId × ℕ
   pub may : MayWrite plan h s (record { time = turn.1; actor = turn.0; event = e }) c next
   pub writes : Writes plan w (last_time h) (record { time = turn.1; actor = turn.0; event = e }) c next
 
-pub step_of : (plan : Plan) (came : ℕ) (state : Standing) (turns : Index) (turn : ActorId × ℕ) (s : Stage) (m : Move) (e : Event) (c : Change) (next : Then) → (k : IsAfter plan came state turns)
-    → came < plan.lines → IsDue plan k.list turn → stage_at plan state.world turn.0 ≡ Some s → Some m ≡ move plan state.world.views s turn.1 → m ≡ Write e c next
-    → IsStep plan k.list state.world turn s e c next
-step_of plan came state turns turn s m e c next k room due stands gives is =
-    let at : stage_at plan (world plan k.list) turn.0 ≡ Some s = subst (λ (w : World). stage_at plan w turn.0 ≡ Some s) k.world_is stands in
-    let moves : move plan (world plan k.list).views s turn.1 ≡ Some (Write e c next) =
-    sym (subst (λ (w : World). Some m ≡ move plan w.views s turn.1) k.world_is gives) ∙ ap (λ (m : Move). Some m) is in
-    let may = may_write plan k.list turn s e c next due k.in_time (fits plan came state turns k room) at moves in
-    record { stands = at; gives = moves; may = may; writes = writes plan k.list state.world s _ c next k.world_is may }
+pub step_of : (plan : Plan) (came : ℕ) (state : Standing) (turns : Index) (turn : NextTurn) (m : Move) (e : Event) (c : Change) (next : Then) → (k : IsAfter plan came state turns) → DueLaw
+    → (coming : IsComing plan came turn m) → m ≡ Write e c next → IsStep plan k.list state.world (turn.actor, turn.time) coming.stage e c next
+step_of plan came state turns turn m e c next k law coming is =
+    let same = sym (so_far_is plan came state turns k) in
+    let due = due_coming plan came state turns turn m k law coming in
+    let at : stage_at plan (world plan k.list) turn.actor ≡ Some coming.stage = subst (λ (h : History). stage_at plan (world plan h) turn.actor ≡ Some coming.stage) same coming.stands in
+    let moves : move plan (world plan k.list).views coming.stage turn.time ≡ Some (Write e c next) =
+    sym (subst (λ (h : History). Some m ≡ move plan (world plan h).views coming.stage turn.time) same coming.gives) ∙ ap (λ (m : Move). Some m) is in
+    let may = may_write plan k.list (turn.actor, turn.time) coming.stage e c next due k.in_time (fits plan came state turns k coming.room) at moves in
+    record { stands = at; gives = moves; may = may; writes = writes plan k.list state.world coming.stage _ c next k.world_is may }
 
 -- the run with it
 pub goes : (plan : Plan) (came : ℕ) (state state' : Standing) (turns turns' : Index) (turn : ActorId × ℕ) (s : Stage) (e : Event) (c : Change) (next : Then)

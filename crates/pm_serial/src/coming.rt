@@ -1,23 +1,23 @@
 //! The lines of a run on one thread, one by one.
 
-ghost use Rattle.std.specs.Prelude.{◌≡◌, ◌+◌, ◌<◌, ◌^◌, length, reverse, slice_get, true, IfNone, IfOk, IfSome, IsSome, Some};
+ghost use Rattle.std.specs.Prelude.{◌≡◌, ◌+◌, ◌<◌, ◌^◌, length, reverse, slice_get, true, IfNone, IfOk, IfSome, IsSome, None, Some};
 ghost use Rattle.std.specs.List.{list_all};
 ghost use Rattle.pm_law_turns.specs.Looks.{device_at};
 ghost use Rattle.pm_model.specs.declared.plan.Plan.{Plan as APlan};
 ghost use Rattle.pm_model.specs.Lawful.{IsLawful};
 ghost use Rattle.pm_model.specs.LineOf.{is_line_of};
 ghost use Rattle.pm_model.specs.Serial.{serial};
-ghost use Rattle.pm_serial.specs.Coming.{IsAfter, Moves};
+ghost use Rattle.pm_serial.specs.Coming.{IsAfter, IsComing, Moves};
 ghost use Rattle.pm_serial.specs.Ends.{IsSerialEnd};
 ghost use Rattle.pm_model.specs.World.{move, stage_at};
 ghost use Rattle.pm_state.specs.Standing.{IsActor, IsOf, StandsWell, can_go_on};
 
-use crate::{End, fresh_books_have_time};
+use crate::{End, NextTurn, fresh_books_have_time};
 use pm_base::{ActorId, DevId, NoMemory};
 use pm_book::{all_stand_well, each_line_fits, each_line_is_taken};
 use pm_law_bounds::{due_moments, lines_are_of_plan};
 use pm_law_turns::{serial_ends, serial_stops};
-use pm_model::{Line, Move, Plan, Stage};
+use pm_model::{Event, Line, Move, Plan, Stage};
 use pm_state::State;
 use pm_turns::{Turns, device_at};
 use std::alloc::Global;
@@ -78,31 +78,50 @@ fn move_of(plan: &Plan, state: &State, actor: ActorId, time: u64, out: &mut Move
     }
 }
 
-// Writes the next line, if there is one: by the actor whose turn it is.
-fn write_next(plan: &Plan, state: &mut State, turns: &mut Turns, _came: u32) -> Option<Line>
-    requires after { IsAfter plan.now _came state.old turns.old }
+// Puts in `out` the move by which the next line is written, if there is one, and answers whose turn it is.
+#[inline(always)]
+fn next_turn(
+    plan: &Plan,
+    state: &State,
+    turns: &Turns,
+    _came: u32,
+    out: &mut Move,
+) -> Option<NextTurn>
+    requires after { IsAfter plan.now _came state.now turns.now }
     requires room { _came < plan.now.lines }
-    ensures line { result ≡ slice_get (serial plan.now) _came }
-    ensures some { IfSome result (λ line. IsAfter plan.now (_came + 1) state.new turns.new) }
-    ensures none { IfNone result (IsAfter plan.now _came state.new turns.new) }
+    ensures some { IfSome result (λ turn. IsComing plan.now _came turn out.new) }
+    ensures none { IfNone result (slice_get (serial plan.now) _came ≡ None) }
+{
+    all_stand_well();
+    due_moments();
+    let (actor, time) = turns.next()?;
+    let at = move_of(plan, state, actor, time, out);
+    Some(NextTurn { actor, time, at })
+}
+
+// Writes the line that comes next, by this move of the actor whose turn it is.
+#[inline(always)]
+fn write_line(
+    plan: &Plan,
+    state: &mut State,
+    turns: &mut Turns,
+    _came: u32,
+    turn: &NextTurn,
+    next: &Move,
+)
+    requires after { IsAfter plan.now _came state.old turns.old }
+    requires coming { IsComing plan.now _came turn.now next.now }
+    ensures { IsAfter plan.now (_came + 1) state.new turns.new }
 {
     all_stand_well();
     each_line_is_taken();
     each_line_fits();
     due_moments();
-    let (actor, time) = turns.next()?;
-    let mut next = Move::Late(time);
-    let at = move_of(plan, state, actor, time, &mut next);
-    let Move::Write(event, change, then) = &next else {
+    let Move::Write(event, change, then) = next else {
         unreachable!();
     };
-    state.go(plan, time, actor, event, change, then);
-    turns.settle(plan, state, at, time, actor, event);
-    Some(Line {
-        time,
-        actor,
-        event: *event,
-    })
+    state.go(plan, turn.time, turn.actor, event, change, then);
+    turns.settle(plan, state, turn.at, turn.time, turn.actor, event, change);
 }
 
 impl<'p> SerialLines<'p> {
@@ -130,12 +149,58 @@ impl<'p> SerialLines<'p> {
         ensures some { IfSome result (λ line. self.new.came ≡ self.old.came + 1) }
         ensures none { IfNone result (self.new.came ≡ self.old.came) }
     {
+        let mut next = Move::Late(0);
+        let turn = self.coming(&mut next)?;
+        let line = Line {
+            time: turn.time,
+            actor: turn.actor,
+            event: *self.event(&turn, &next),
+        };
+        self.go_on(&turn, &next);
+        Some(line)
+    }
+
+    /// Whose turn it is to write the next line, and in `out` the move by which it is written; none exactly where all
+    /// lines have come. So the line can be spelled from where it stands, before the run goes on by it.
+    #[inline(always)]
+    pub fn coming(&self, out: &mut Move) -> Option<NextTurn>
+        ensures some { IfSome result (λ turn. IsComing self.now.plan self.now.came turn out.new) }
+        ensures none { IfNone result (slice_get (serial self.now.plan) self.now.came ≡ None) }
+    {
         if self.came >= self.plan.lines {
             return None;
         }
-        let line = write_next(self.plan, &mut self.state, &mut self.turns, self.came)?;
+        next_turn(self.plan, &self.state, &self.turns, self.came, out)
+    }
+
+    /// What the line that comes next says, where it stands in the move by which it is written; its time and its actor are
+    /// those of the turn.
+    #[inline(always)]
+    pub fn event<'m>(&self, turn: &NextTurn, next: &'m Move) -> &'m Event
+        requires { IsComing self.now.plan self.now.came turn.now next.now }
+        ensures { slice_get (serial self.now.plan) self.now.came ≡ Some (record { time = turn.now.time; actor = turn.now.actor; event = result.now }) }
+    {
+        let Move::Write(event, _, _) = next else {
+            unreachable!();
+        };
+        event
+    }
+
+    /// Goes on by the line that comes next.
+    #[inline(always)]
+    pub fn go_on(&mut self, turn: &NextTurn, next: &Move)
+        requires { IsComing self.old.plan self.old.came turn.now next.now }
+        ensures { self.new ≡ record { plan = self.old.plan; came = self.old.came + 1 } }
+    {
+        write_line(
+            self.plan,
+            &mut self.state,
+            &mut self.turns,
+            self.came,
+            turn,
+            next,
+        );
         self.came += 1;
-        Some(line)
     }
 
     /// How the run ends, once all its lines have come.

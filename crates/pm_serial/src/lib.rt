@@ -3,6 +3,8 @@
 
 mod coming;
 mod running;
+mod turn;
 
 pub use coming::{SerialLines, serial_lines_are_lawful};
 pub use running::{End, drain, fresh_books_have_time, has_time};
+pub use turn::NextTurn;

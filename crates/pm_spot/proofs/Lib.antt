@@ -3,6 +3,7 @@ mod IdleStageAlike
 mod SuspendStageAlike
 mod PurposeAlike
 mod ResumeStageAlike
+mod CommandAlike
 mod HelperStageAlike
 mod ControlStageAlike
 mod AwaitAlike

@@ -1,7 +1,7 @@
 pub mod CalmLemmas
 pub mod CountLemmas
-pub mod Hands
 pub mod StackLemmas
 pub mod PlaceLemmas
 pub mod ChainLemmas
 pub mod OwnLemmas
+pub mod PileLemmas

@@ -2,3 +2,4 @@ pub mod Places
 pub mod Standing
 pub mod Turns
 pub mod Chains
+pub mod Piles

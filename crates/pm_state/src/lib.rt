@@ -3,6 +3,7 @@
 #![tactic(auto)]
 
 mod applying;
+mod cell;
 mod changes;
 mod devices;
 mod events;
@@ -11,7 +12,7 @@ mod finished;
 mod going;
 mod moves;
 mod own;
-mod place;
+mod piles;
 mod places;
 mod rooms;
 mod running;

@@ -30,6 +30,7 @@ impl State {
 
     /// Puts what `next` answers in `out`, which its caller keeps, since a move is large. It takes no memory.
     #[tactic(auto, using(crate::proofs::PlaceLemmas::well_formed_of))]
+    #[inline(always)]
     pub fn write_next(&self, plan: &Plan, stage: &Stage, time: u64, out: &mut Move)
         requires is_of { IsOf plan.now self.now }
         requires stands { can_go_on plan.now self.now.world.views stage.now ≡ true }

@@ -16,7 +16,7 @@ use Rattle.pm_law_turns.specs.Told.{is_actor, wait_in}
 use Rattle.pm_law_turns.proofs.Telling.{other_actor, same_actor}
 use Rattle.pm_law_turns.specs.Wakes.{turn_by, wakes}
 use Rattle.pm_turns.specs.Seats.{AreMoments, Asks, IsSeated, Seating, Sets, actor_at, moment_by, place_of, round_of, seat_after}
-use Rattle.pm_turns.specs.Turning.{Index, IsIndex, Looked, Noted, Touched, TouchedAny, is_listed, is_near, queue}
+use Rattle.pm_turns.specs.Turning.{Index, IsIndex, Looked, Noted, Touched, TouchedAny, is_listed, is_reached, queue}
 use Rattle.pm_turns.proofs.QueueLemmas.{at_place, at_seat, place_below, place_kept, places_apart}
 use Rattle.pm_turns.proofs.RoundLemmas.{turn_is_next}
 
@@ -114,15 +114,15 @@ looked_all wake x x' d from before none = record {
   ];
 }
 
--- all who are near a device, but for one
-pub touched_all : (wake : ActorId → Option ℕ) (x x' x'' : Index) (d : DevId) (but : ActorId) → Asks wake x.rows x'.rows → x'.queues ≡ x.queues
-    → (IsSeated x.rows (Work d.0) → is_actor (Work d.0) but ≡ false → moment_by x'.rows (Work d.0) ≡ wake (Work d.0))
-    → (IsSeated x.rows (Timer d.0) → is_actor (Timer d.0) but ≡ false → moment_by x'.rows (Timer d.0) ≡ wake (Timer d.0))
-    → Looked wake x' x'' d (x'.rows.callers + 2 * x'.rows.devices) → Touched wake x x'' d but
-touched_all wake x x' x'' d but asks same work timer looked = record {
+-- all whom a line of a device may reach, but for one
+pub touched_all : (wake : ActorId → Option ℕ) (stirred : Bool) (x x' x'' : Index) (d : DevId) (but : ActorId) → Asks wake x.rows x'.rows → x'.queues ≡ x.queues
+    → (stirred ≡ true → IsSeated x.rows (Work d.0) → is_actor (Work d.0) but ≡ false → moment_by x'.rows (Work d.0) ≡ wake (Work d.0))
+    → (stirred ≡ true → IsSeated x.rows (Timer d.0) → is_actor (Timer d.0) but ≡ false → moment_by x'.rows (Timer d.0) ≡ wake (Timer d.0))
+    → Looked wake x' x'' d (x'.rows.callers + 2 * x'.rows.devices) → Touched wake stirred x x'' d but
+touched_all wake stirred x x' x'' d but asks same work timer looked = record {
   asks = asks_then wake x.rows x'.rows x''.rows asks looked.asks;
   queues = looked.queues ∙ same;
-  right = λ a seated other near. go a seated other (is_actor a (Work d.0)) (is_actor a (Timer d.0)) refl refl near;
+  right = λ a seated other reached. by stirred refl a seated other reached;
 }
   where
     kept : (a : ActorId) → IsSeated x.rows a → IsSeated x'.rows a
@@ -133,15 +133,22 @@ touched_all wake x x' x'' d but asks same work timer looked = record {
         stays_right wake x'.rows x''.rows a looked.asks (kept a seated)
         (right_at wake x'.rows b a (sym is) (right (subst (IsSeated x.rows) is seated) (subst (λ c. is_actor c but ≡ false) is other)))
 
-    go : (a : ActorId) → IsSeated x.rows a → is_actor a but ≡ false → (p q : Bool) → is_actor a (Work d.0) ≡ p → is_actor a (Timer d.0) ≡ q → p || q || is_listed x d a ≡ true
-        → moment_by x''.rows a ≡ wake a
-    go a seated other true q e f near = on a (Work d.0) (same_actor a (Work d.0) e) seated other work
-    go a seated other false true e f near = on a (Timer d.0) (same_actor a (Timer d.0) f) seated other timer
-    go a seated other false false e f near =
+    by_list : (a : ActorId) → IsSeated x.rows a → is_listed x d a ≡ true → moment_by x''.rows a ≡ wake a
+    by_list a seated near =
         let listed : is_listed x' d a ≡ true =
         ap (λ (qs : List (List Bool)). is_marked (slice_index_or qs d.0 []) (place_of x'.rows a)) same
         ∙ ap (is_marked (queue x d)) (place_kept x.rows x'.rows a asks.callers asks.devices) ∙ near in
         looked.right a (kept a seated) (place_below x'.rows a (kept a seated)) listed
+
+    go : stirred ≡ true → (a : ActorId) → IsSeated x.rows a → is_actor a but ≡ false → (p q : Bool) → is_actor a (Work d.0) ≡ p → is_actor a (Timer d.0) ≡ q → p || q || is_listed x d a ≡ true
+        → moment_by x''.rows a ≡ wake a
+    go is a seated other true q e f near = on a (Work d.0) (same_actor a (Work d.0) e) seated other (work is)
+    go is a seated other false true e f near = on a (Timer d.0) (same_actor a (Timer d.0) f) seated other (timer is)
+    go is a seated other false false e f near = by_list a seated near
+
+    by : (b : Bool) → stirred ≡ b → (a : ActorId) → IsSeated x.rows a → is_actor a but ≡ false → is_reached b x d a ≡ true → moment_by x''.rows a ≡ wake a
+    by true is a seated other near = go is a seated other (is_actor a (Work d.0)) (is_actor a (Timer d.0)) refl refl near
+    by false is a seated other near = by_list a seated near
 
 -- a line is noted: its writer is listed no longer, and is listed anew where it waits, and then its seat and its time are
 -- written down
@@ -173,12 +180,12 @@ module _ (x x1 x2 x3 : Index) (line : Line) (seat : ℕ) (here : seat ≡ place_
 pub same_device : (d e : DevId) → d.0 ≡ e.0 → Some d ≡ Some e
 same_device d e same = ap (λ (n : ℕ). let x : DevId = record { 0 = n } in Some x) same
 
-pub touched_none : (wake : ActorId → Option ℕ) (x : Index) (but : ActorId) → TouchedAny wake x x None but
-touched_none wake x but = record { asks = asks_none wake x.rows; queues = refl; right = λ d is. absurd (none-some d is) }
+pub touched_none : (wake : ActorId → Option ℕ) (stirred : Bool) (x : Index) (but : ActorId) → TouchedAny wake stirred x x None but
+touched_none wake stirred x but = record { asks = asks_none wake x.rows; queues = refl; right = λ d is. absurd (none-some d is) }
 
-pub touched_some : (wake : ActorId → Option ℕ) (x x' : Index) (d : DevId) (but : ActorId) → Touched wake x x' d but → TouchedAny wake x x' (Some d) but
-touched_some wake x x' d but touched = record {
+pub touched_some : (wake : ActorId → Option ℕ) (stirred : Bool) (x x' : Index) (d : DevId) (but : ActorId) → Touched wake stirred x x' d but → TouchedAny wake stirred x x' (Some d) but
+touched_some wake stirred x x' d but touched = record {
   asks = touched.asks;
   queues = touched.queues;
-  right = λ e is a seated other near. touched.right a seated other (subst (λ y. is_near x y a ≡ true) (sym (same_Some d e is)) near);
+  right = λ e is a seated other near. touched.right a seated other (subst (λ y. is_reached stirred x y a ≡ true) (sym (same_Some d e is)) near);
 }

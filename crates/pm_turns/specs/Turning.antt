@@ -6,6 +6,7 @@ use Rattle.pm_base.specs.declared.DevId.{DevId}
 use Rattle.pm_index.specs.Marks.{is_marked}
 use Rattle.pm_model.specs.declared.event.Line.{Line}
 use Rattle.pm_model.specs.declared.plan.Plan.{Plan}
+use Rattle.pm_model.specs.declared.stage.Change.{Change}
 use Rattle.pm_model.specs.History.{History}
 use Rattle.pm_model.specs.Lawful.{IsLawful, last_time}
 use Rattle.pm_model.specs.Serial.{seat}
@@ -31,6 +32,11 @@ is_listed x d actor = is_marked (queue x d) (place_of x.rows actor)
 abbrev pub is_near : Index → DevId → ActorId → Bool
 is_near x d actor = is_actor actor (Work d.0) || is_actor actor (Timer d.0) || is_listed x d actor
 
+-- a line of this device may move the actor's moment: where it stirs none, only that of one who is listed for the device
+abbrev pub is_reached : Bool → Index → DevId → ActorId → Bool
+is_reached true x d actor = is_near x d actor
+is_reached false x d actor = is_listed x d actor
+
 -- each device has a mark for each seat
 pub record AreQueues (rows : Seating) (queues : List (List Bool)) : Type 0 where
   pub each : length queues ≡ rows.devices
@@ -54,17 +60,17 @@ pub record Seen (plan : Plan) (w : World) (x x' : Index) (below : ℕ) : Type 0 
   pub right : (a : ActorId) → IsSeated x.rows a → place_of x.rows a < below → moment_by x'.rows a ≡ wakes plan w a
   pub listed : (a : ActorId) (d : DevId) → IsSeated x.rows a → place_of x.rows a < below → d.0 < x.rows.devices → top_looks (place w a) ≡ Some d → is_listed x' d a ≡ true
 
--- all who are near a device are asked anew, but for this one
-pub record Touched (wake : ActorId → Option ℕ) (x x' : Index) (d : DevId) (but : ActorId) : Type 0 where
+-- all whom a line of this device may reach are asked anew, but for this one
+pub record Touched (wake : ActorId → Option ℕ) (stirred : Bool) (x x' : Index) (d : DevId) (but : ActorId) : Type 0 where
   pub asks : Asks wake x.rows x'.rows
   pub queues : x'.queues ≡ x.queues
-  pub right : (a : ActorId) → IsSeated x.rows a → is_actor a but ≡ false → is_near x d a ≡ true → moment_by x'.rows a ≡ wake a
+  pub right : (a : ActorId) → IsSeated x.rows a → is_actor a but ≡ false → is_reached stirred x d a ≡ true → moment_by x'.rows a ≡ wake a
 
--- all who are near a device, if it is one, are asked anew, but for this one
-pub record TouchedAny (wake : ActorId → Option ℕ) (x x' : Index) (dev : Option DevId) (but : ActorId) : Type 0 where
+-- all whom a line of this device may reach, if it is one, are asked anew, but for this one
+pub record TouchedAny (wake : ActorId → Option ℕ) (stirred : Bool) (x x' : Index) (dev : Option DevId) (but : ActorId) : Type 0 where
   pub asks : Asks wake x.rows x'.rows
   pub queues : x'.queues ≡ x.queues
-  pub right : (d : DevId) → dev ≡ Some d → (a : ActorId) → IsSeated x.rows a → is_actor a but ≡ false → is_near x d a ≡ true → moment_by x'.rows a ≡ wake a
+  pub right : (d : DevId) → dev ≡ Some d → (a : ActorId) → IsSeated x.rows a → is_actor a but ≡ false → is_reached stirred x d a ≡ true → moment_by x'.rows a ≡ wake a
 
 -- a line is noted: its writer and its time, and who waits for which device
 pub record Noted (x x' : Index) (line : Line) : Type 0 where
@@ -72,10 +78,11 @@ pub record Noted (x x' : Index) (line : Line) : Type 0 where
   pub others : (a : ActorId) (d : DevId) → IsSeated x.rows a → is_actor a line.actor ≡ false → is_listed x d a ≡ true → is_listed x' d a ≡ true
   pub joined : (d : DevId) → wait_in line.event ≡ Some d → d.0 < x.rows.devices → is_listed x' d line.actor ≡ true
 
--- the line was written at a stage of this device, if it has one, and led to this world
-pub record Leads (plan : Plan) (h : History) (line : Line) (at : Option DevId) (w : World) : Type 0 where
+-- the line was written at a stage of this device, if it has one, by a row that names this change, and led to this world
+pub record Leads (plan : Plan) (h : History) (line : Line) (at : Option DevId) (c : Change) (w : World) : Type 0 where
   pub lawful : IsLawful plan (line ∷ h)
   pub at_is : device_at lawful.0.stage ≡ at
+  pub change_is : lawful.0.change ≡ c
   pub world_is : w ≡ world plan (line ∷ h)
 
 -- the search begins after the last writer, each seat has the moment of its actor, and whoever waits for a device is

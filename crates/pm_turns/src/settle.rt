@@ -1,6 +1,6 @@
 //! What a line changes of the turns.
 
-ghost use Rattle.std.specs.Prelude.{◌≡◌, ◌+◌, ◌*◌, ◌<◌, ◌≤◌, ◌^◌, ◌∷◌, ◌⊎◌, false, IfNone, IfSome};
+ghost use Rattle.std.specs.Prelude.{◌≡◌, ◌+◌, ◌*◌, ◌<◌, ◌≤◌, ◌^◌, ◌∷◌, ◌⊎◌, false, true, IfNone, IfSome};
 ghost use Rattle.pm_index.specs.Marks.{NoneMarked};
 ghost use Rattle.pm_model.specs.declared.event.Line.{Line as ALine};
 ghost use Rattle.pm_model.specs.History.{History};
@@ -11,9 +11,9 @@ ghost use Rattle.pm_turns.specs.Seats.{Asks, IsSeated, actor_at, moment_by};
 ghost use Rattle.pm_turns.specs.Turning.{AreOf, IsIndex, Leads, Looked, Touched, TouchedAny, queue};
 
 use crate::turns::Turns;
-use crate::waiting::device_in;
+use crate::waiting::{device_in, stirs};
 use pm_base::{ActorId, DevId};
-use pm_model::{Event, Plan};
+use pm_model::{Change, Event, Plan};
 use pm_state::State;
 
 // Whether it is the same actor.
@@ -117,60 +117,99 @@ impl Turns {
         self.refresh_but(plan, state, ActorId::Timer(dev.0), but);
     }
 
-    // Looks anew at all whose turn may depend on this device, but for this actor.
+    // The same after a line that stirs them.
+    #[tactic(auto, using(crate::proofs::IndexLemmas::asks_none))]
     #[inline(always)]
-    fn touch(&mut self, plan: &Plan, state: &State, dev: DevId, but: ActorId)
+    fn refresh_stirred(
+        &mut self,
+        plan: &Plan,
+        state: &State,
+        stirred: bool,
+        dev: DevId,
+        but: ActorId,
+    )
         requires is_of { IsOf plan.now state.now }
         requires stand { AllStandWell plan.now state.now.world }
         requires seats { AreOf plan.now self.old.rows }
-        ensures { Touched (wakes plan.now state.now.world) self.old self.new dev but }
+        ensures asks { Asks (wakes plan.now state.now.world) self.old.rows self.new.rows }
+        ensures queues { self.new.queues ≡ self.old.queues }
+        ensures work { stirred ≡ true → IsSeated self.old.rows (ActorId.Work dev.0) → is_actor (ActorId.Work dev.0) but ≡ false → moment_by self.new.rows (ActorId.Work dev.0) ≡ wakes plan.now state.now.world (ActorId.Work dev.0) }
+        ensures timer { stirred ≡ true → IsSeated self.old.rows (ActorId.Timer dev.0) → is_actor (ActorId.Timer dev.0) but ≡ false → moment_by self.new.rows (ActorId.Timer dev.0) ≡ wakes plan.now state.now.world (ActorId.Timer dev.0) }
     {
-        self.refresh_own(plan, state, dev, but);
+        if stirred {
+            self.refresh_own(plan, state, dev, but);
+        }
+    }
+
+    // Looks anew at all whom a line of this device may reach, but for this actor.
+    #[inline(always)]
+    fn touch(&mut self, plan: &Plan, state: &State, stirred: bool, dev: DevId, but: ActorId)
+        requires is_of { IsOf plan.now state.now }
+        requires stand { AllStandWell plan.now state.now.world }
+        requires seats { AreOf plan.now self.old.rows }
+        ensures { Touched (wakes plan.now state.now.world) stirred self.old self.new dev but }
+    {
+        self.refresh_stirred(plan, state, stirred, dev, but);
         self.refresh_waiters(plan, state, dev);
     }
 
     // The same, out of line: most lines touch one device only.
     #[inline(never)]
-    fn touch_apart(&mut self, plan: &Plan, state: &State, dev: DevId, but: ActorId)
+    fn touch_apart(&mut self, plan: &Plan, state: &State, stirred: bool, dev: DevId, but: ActorId)
         requires is_of { IsOf plan.now state.now }
         requires stand { AllStandWell plan.now state.now.world }
         requires seats { AreOf plan.now self.old.rows }
-        ensures { Touched (wakes plan.now state.now.world) self.old self.new dev but }
+        ensures { Touched (wakes plan.now state.now.world) stirred self.old self.new dev but }
     {
-        self.touch(plan, state, dev, but);
+        self.touch(plan, state, stirred, dev, but);
     }
 
-    // Looks anew at all whose turn may depend on this device, if it is one, but for this actor.
+    // Looks anew at all whom a line of this device, if it is one, may reach, but for this actor.
     #[tactic(auto, using(crate::proofs::IndexLemmas::touched_none, crate::proofs::IndexLemmas::touched_some))]
     #[inline(always)]
-    fn touch_any(&mut self, plan: &Plan, state: &State, dev: Option<DevId>, but: ActorId)
+    fn touch_any(
+        &mut self,
+        plan: &Plan,
+        state: &State,
+        stirred: bool,
+        dev: Option<DevId>,
+        but: ActorId,
+    )
         requires is_of { IsOf plan.now state.now }
         requires stand { AllStandWell plan.now state.now.world }
         requires seats { AreOf plan.now self.old.rows }
-        ensures { TouchedAny (wakes plan.now state.now.world) self.old self.new dev but }
+        ensures { TouchedAny (wakes plan.now state.now.world) stirred self.old self.new dev but }
     {
         if let Some(dev) = dev {
-            self.touch(plan, state, dev, but);
+            self.touch(plan, state, stirred, dev, but);
         }
     }
 
     // The same of a device that most lines don't have.
     #[tactic(auto, using(crate::proofs::IndexLemmas::touched_none, crate::proofs::IndexLemmas::touched_some))]
     #[inline(always)]
-    fn touch_seldom(&mut self, plan: &Plan, state: &State, dev: Option<DevId>, but: ActorId)
+    fn touch_seldom(
+        &mut self,
+        plan: &Plan,
+        state: &State,
+        stirred: bool,
+        dev: Option<DevId>,
+        but: ActorId,
+    )
         requires is_of { IsOf plan.now state.now }
         requires stand { AllStandWell plan.now state.now.world }
         requires seats { AreOf plan.now self.old.rows }
-        ensures { TouchedAny (wakes plan.now state.now.world) self.old self.new dev but }
+        ensures { TouchedAny (wakes plan.now state.now.world) stirred self.old self.new dev but }
     {
         if let Some(dev) = dev {
-            self.touch_apart(plan, state, dev, but);
+            self.touch_apart(plan, state, stirred, dev, but);
         }
     }
 
     /// Takes note of a line by its parts, which was written at a stage of this device, if it has one, and led to
-    /// this state. It takes no memory, and looks anew at the line's writer, at the work item and the timer of the
-    /// device of the stage and of the device of the event, and at those who wait for these devices.
+    /// this state; its row named this change. It takes no memory, and looks anew at the line's writer, at those who
+    /// wait for the device of the stage or of the event, and at the work items and timers of these devices where the
+    /// line stirs them.
     #[inline(always)]
     pub fn settle(
         &mut self,
@@ -180,19 +219,21 @@ impl Turns {
         time: u64,
         actor: ActorId,
         event: &Event,
+        change: &Change,
     )
         requires is_of { IsOf plan.now state.now }
         requires stand { AllStandWell plan.now state.now.world }
         requires seats { AreOf plan.now self.old.rows }
         requires in_range { IsActor plan.now actor }
         requires in_time { time < 2 ^ 63 }
-        ensures { let line : ALine = record { time = time; actor = actor; event = event.now } in (h : History) → Leads plan.now h line at state.now.world → IsIndex plan.now h self.old → IsIndex plan.now (line ∷ h) self.new }
+        ensures { let line : ALine = record { time = time; actor = actor; event = event.now } in (h : History) → Leads plan.now h line at change.now state.now.world → IsIndex plan.now h self.old → IsIndex plan.now (line ∷ h) self.new }
     {
         let of = other_than(device_in(event), at);
+        let stirred = stirs(event, change);
         self.note(at, time, actor, event);
         self.refresh(plan, state, actor);
-        self.touch_any(plan, state, at, actor);
-        self.touch_seldom(plan, state, of, actor);
+        self.touch_any(plan, state, stirred, at, actor);
+        self.touch_seldom(plan, state, stirred, of, actor);
     }
 }
 

@@ -4,7 +4,7 @@ ghost use Rattle.std.specs.Prelude.{◌≡◌, ◌≢◌, ◌+◌, ◌*◌, ◌<
 ghost use Rattle.pm_base.specs.declared.DevId.{DevId as ADevice};
 ghost use Rattle.pm_index.specs.Marks.{is_marked};
 ghost use Rattle.pm_model.specs.World.{place};
-ghost use Rattle.pm_law_turns.specs.Looks.{device_at, device_in, looks};
+ghost use Rattle.pm_law_turns.specs.Looks.{change_stirs, device_at, device_in, event_stirs, looks, stirs};
 ghost use Rattle.pm_law_turns.specs.Told.{top_looks, wait_in};
 ghost use Rattle.pm_state.specs.Standing.{IsActor, IsOf};
 ghost use Rattle.pm_turns.specs.Seats.{IsSeated, seat_after};
@@ -12,7 +12,7 @@ ghost use Rattle.pm_turns.specs.Turning.{Noted, queue};
 
 use crate::turns::Turns;
 use pm_base::{ActorId, DevId};
-use pm_model::{ControlStage, Event, HelperStage, Plan, ResumeStage, Stage, SuspendStage};
+use pm_model::{Change, ControlStage, Event, HelperStage, Plan, ResumeStage, Stage, SuspendStage};
 use pm_state::{State, device_of};
 
 /// The device that a line at this stage may change; a call line only names one.
@@ -47,6 +47,40 @@ pub(crate) fn device_in(event: &Event) -> Option<DevId>
         | Event::Work { dev, .. }
         | Event::Timer { dev, .. } => Some(*dev),
     }
+}
+
+// Whether an event may queue a work item or begin it, or arm a timer or disarm it.
+fn event_stirs(event: &Event) -> bool
+    ensures { result ≡ event_stirs event.now }
+{
+    matches!(
+        event,
+        Event::State { .. } | Event::Work { .. } | Event::Timer { .. }
+    )
+}
+
+// Whether a change may take a work item from its queue, or disarm a timer.
+fn change_stirs(change: &Change) -> bool
+    ensures { result ≡ change_stirs change.now }
+{
+    matches!(
+        change,
+        Change::Disarm { .. }
+            | Change::Cancel { .. }
+            | Change::CancelAll { .. }
+            | Change::ResumeCancel { .. }
+            | Change::SuspendEnded { .. }
+            | Change::DisableBusy { .. }
+            | Change::DisableAtOnce { .. }
+    )
+}
+
+// Whether a line with this event, whose row names this change, may move from when a work item or a timer may start.
+#[inline(always)]
+pub(crate) fn stirs(event: &Event, change: &Change) -> bool
+    ensures { result ≡ stirs event.now change.now }
+{
+    event_stirs(event) || change_stirs(change)
 }
 
 // The device on which it depends from when a line at this stage may be written, if there is one.

@@ -1,17 +1,19 @@
-use Rattle.std.proofs.Common.{◌≡◌, ◌∙◌, true, drop, arith, refl, subst, sym}
+use Rattle.std.proofs.Common.{◌≡◌, ◌∙◌, true, drop, ap, arith, refl, subst, sym}
 use Rattle.std.proofs.lemmas.Option.{slice_get_within}
 use Rattle.pm_cmd_ends.proofs.OutputLemmas.{behind_err}
 use Rattle.pm_io.proofs.Rose.{rose_later}
 use Rattle.pm_cmd_ends.proofs.Writing.{IsUnderWay, under_way_first, under_way_last, under_way_more, under_way_part}
 use Rattle.pm_cmd_ends.specs.Pieces.{AreInTime, line_pieces}
+use Rattle.pm_model.specs.declared.event.Line.{Line}
 use Rattle.pm_model.specs.declared.plan.Plan.{Plan}
 use Rattle.pm_model.specs.LineOf.{is_line_of}
 use Rattle.pm_model.specs.Serial.{serial}
+use Rattle.pm_serial.specs.Coming.{Coming}
 use Rattle.pm_cmd_top.proofs.SerialLemmas.{all_came, in_time_here, no_pieces, pieces_here, there}
 use Rattle.pm_cmd_top.proofs.serial.write_coming.Goals as goal
 
-pub loop-line-init : goal.loop-line-init
-loop-line-init g c =
+pub loop-turn-init : goal.loop-turn-init
+loop-turn-init g c =
     let taken = g.O.Sink.taken in
     let lines = serial c.args.lines.now.plan in
     let whole = line_pieces c.args.format c.args.speller.now 0 lines in
@@ -27,77 +29,76 @@ loop-line-init g c =
 pub spell-requires-clause-of_plan : goal.spell-requires-clause-of_plan
 spell-requires-clause-of_plan g c =
     let plan = c.args.lines.now.plan in
-    let line = c.in-Some.line in
-    let here = there plan c.loop-line.lines.plan c.loop-line.lines.came line c.loop-line.invariant.plan c.in-Some.ensures.line in
-    subst (λ (q : Plan). is_line_of q line ≡ true) (sym c.requires.plan) (c.requires.of_plan c.loop-line.lines.came line here)
+    let line : Line = record { time = c.in-Some.turn.time; actor = c.in-Some.turn.actor; event = c.event-said.result.now } in
+    let here = there plan c.loop-turn.lines.plan c.loop-turn.lines.came line c.loop-turn.invariant.plan (sym c.event-said.ensures) in
+    subst (λ (q : Plan). is_line_of q line ≡ true) (sym c.requires.plan) (c.requires.of_plan c.loop-turn.lines.came line here)
 
 pub spell-requires-clause-in_time : goal.spell-requires-clause-in_time
 spell-requires-clause-in_time g c =
     let plan = c.args.lines.now.plan in
-    let line = c.in-Some.line in
-    let here = there plan c.loop-line.lines.plan c.loop-line.lines.came line c.loop-line.invariant.plan c.in-Some.ensures.line in
-    (in_time_here c.loop-line.base (serial plan) c.loop-line.lines.came line here c.loop-line.invariant.in_time).0
+    let line : Line = record { time = c.in-Some.turn.time; actor = c.in-Some.turn.actor; event = c.event-said.result.now } in
+    let here = there plan c.loop-turn.lines.plan c.loop-turn.lines.came line c.loop-turn.invariant.plan (sym c.event-said.ensures) in
+    (in_time_here c.loop-turn.base (serial plan) c.loop-turn.lines.came line here c.loop-turn.invariant.in_time).0
 
 pub returns-in_err-write_whole-clause-plan : goal.returns-in_err-write_whole-clause-plan
-returns-in_err-write_whole-clause-plan g c = c.in-Some.ensures.plan ∙ c.loop-line.invariant.plan
+returns-in_err-write_whole-clause-plan g c = ap (λ (x : Coming). x.plan) c.go_on.ensures ∙ c.loop-turn.invariant.plan
 
 pub returns-in_err-write_whole-clause-prefix : goal.returns-in_err-write_whole-clause-prefix
 returns-in_err-write_whole-clause-prefix g c =
     let taken = g.O.Sink.taken in
     let plan = c.args.lines.now.plan in
-    let line = c.in-Some.line in
-    let here = there plan c.loop-line.lines.plan c.loop-line.lines.came line c.loop-line.invariant.plan c.in-Some.ensures.line in
+    let line : Line = record { time = c.in-Some.turn.time; actor = c.in-Some.turn.actor; event = c.event-said.result.now } in
+    let here = there plan c.loop-turn.lines.plan c.loop-turn.lines.came line c.loop-turn.invariant.plan (sym c.event-said.ensures) in
     behind_err c.from_residual.result
-    (under_way_part (taken c.args.out.now) (taken c.loop-line.out) (taken c.write_whole.new.sink) _ _ c.as_slice.result.now _ c.loop-line.invariant.way
-    (pieces_here c.args.format c.args.speller.now c.loop-line.base (serial plan) c.loop-line.lines.came line c.as_slice.result.now here (c.as_slice.ensures ∙ c.spell.ensures))
+    (under_way_part (taken c.args.out.now) (taken c.loop-turn.out) (taken c.write_whole.new.sink) _ _ c.as_slice.result.now _ c.loop-turn.invariant.way
+    (pieces_here c.args.format c.args.speller.now c.loop-turn.base (serial plan) c.loop-turn.lines.came line c.as_slice.result.now here (c.as_slice.ensures ∙ c.spell.ensures))
     c.in_err-write_whole.ensures.prefix)
 
 pub returns-in_err-write_whole-clause-failed : goal.returns-in_err-write_whole-clause-failed
 returns-in_err-write_whole-clause-failed g c =
     let faults = g.O.Sink.faults in
     behind_err c.from_residual.result
-    (rose_later (faults c.args.out.now) (faults c.loop-line.out) (faults c.write_whole.new.sink) c.loop-line.invariant.faults c.in_err-write_whole.ensures.failed)
+    (rose_later (faults c.args.out.now) (faults c.loop-turn.out) (faults c.write_whole.new.sink) c.loop-turn.invariant.faults c.in_err-write_whole.ensures.failed)
 
-pub loop-line-smaller : goal.loop-line-smaller
-loop-line-smaller g c =
+pub loop-turn-smaller : goal.loop-turn-smaller
+loop-turn-smaller g c =
     let plan = c.args.lines.now.plan in
-    let line = c.in-Some.line in
-    let here = there plan c.loop-line.lines.plan c.loop-line.lines.came line c.loop-line.invariant.plan c.in-Some.ensures.line in
-    let within = slice_get_within (serial plan) c.loop-line.lines.came line here in
-    let more = c.in-Some.ensures.some in
+    let line : Line = record { time = c.in-Some.turn.time; actor = c.in-Some.turn.actor; event = c.event-said.result.now } in
+    let here = there plan c.loop-turn.lines.plan c.loop-turn.lines.came line c.loop-turn.invariant.plan (sym c.event-said.ensures) in
+    let within = slice_get_within (serial plan) c.loop-turn.lines.came line here in
+    let more = ap (λ (x : Coming). x.came) c.go_on.ensures in
     omega (arith, within, more)
 
-pub loop-line-preserved : goal.loop-line-preserved
-loop-line-preserved g c =
+pub loop-turn-preserved : goal.loop-turn-preserved
+loop-turn-preserved g c =
     let taken = g.O.Sink.taken in
     let plan = c.args.lines.now.plan in
     let lines = serial plan in
-    let line = c.in-Some.line in
-    let here = there plan c.loop-line.lines.plan c.loop-line.lines.came line c.loop-line.invariant.plan c.in-Some.ensures.line in
-    let within = slice_get_within lines c.loop-line.lines.came line here in
-    let more = c.in-Some.ensures.some in
+    let line : Line = record { time = c.in-Some.turn.time; actor = c.in-Some.turn.actor; event = c.event-said.result.now } in
+    let here = there plan c.loop-turn.lines.plan c.loop-turn.lines.came line c.loop-turn.invariant.plan (sym c.event-said.ensures) in
+    let within = slice_get_within lines c.loop-turn.lines.came line here in
+    let more = ap (λ (x : Coming). x.came) c.go_on.ensures in
     record {
       way = subst (λ n. IsUnderWay (taken c.args.out.now) (taken c.write_whole.new.sink) (line_pieces c.args.format c.args.speller.now 0 lines) (line_pieces c.args.format c.args.speller.now line.time (drop n lines))) (sym more)
-          (under_way_more (taken c.args.out.now) (taken c.loop-line.out) (taken c.write_whole.new.sink) _ _ c.as_slice.result.now _ c.loop-line.invariant.way
-          (pieces_here c.args.format c.args.speller.now c.loop-line.base lines c.loop-line.lines.came line c.as_slice.result.now here (c.as_slice.ensures ∙ c.spell.ensures))
+          (under_way_more (taken c.args.out.now) (taken c.loop-turn.out) (taken c.write_whole.new.sink) _ _ c.as_slice.result.now _ c.loop-turn.invariant.way
+          (pieces_here c.args.format c.args.speller.now c.loop-turn.base lines c.loop-turn.lines.came line c.as_slice.result.now here (c.as_slice.ensures ∙ c.spell.ensures))
           c.in_ok-write_whole.ensures.bytes);
-      in_time = subst (λ n. AreInTime line.time (drop n lines)) (sym more) (in_time_here c.loop-line.base lines c.loop-line.lines.came line here c.loop-line.invariant.in_time).1;
-      plan = c.in-Some.ensures.plan ∙ c.loop-line.invariant.plan;
+      in_time = subst (λ n. AreInTime line.time (drop n lines)) (sym more) (in_time_here c.loop-turn.base lines c.loop-turn.lines.came line here c.loop-turn.invariant.in_time).1;
+      plan = ap (λ (x : Coming). x.plan) c.go_on.ensures ∙ c.loop-turn.invariant.plan;
       within = omega (arith, within, more);
-      faults = omega (arith, c.loop-line.invariant.faults, c.write_whole.ensures.never_falls);
+      faults = omega (arith, c.loop-turn.invariant.faults, c.write_whole.ensures.never_falls);
     }
 
 pub returns-clause-text : goal.returns-clause-text
 returns-clause-text g c =
     let taken = g.O.Sink.taken in
     let plan = c.args.lines.now.plan in
-    let all = all_came plan c.loop-line.lines.plan c.loop-line.lines.came c.loop-line.invariant.plan (sym c.in_default.is ∙ c.next.ensures.line) c.loop-line.invariant.within in
-    under_way_last (taken c.args.out.now) (taken c.loop-line.out) _ _ c.loop-line.invariant.way (no_pieces c.args.format c.args.speller.now c.loop-line.base c.loop-line.lines.came (serial plan) all)
+    let all = all_came plan c.loop-turn.lines.plan c.loop-turn.lines.came c.loop-turn.invariant.plan (sym c.in_default.ensures.none) c.loop-turn.invariant.within in
+    under_way_last (taken c.args.out.now) (taken c.loop-turn.out) _ _ c.loop-turn.invariant.way (no_pieces c.args.format c.args.speller.now c.loop-turn.base c.loop-turn.lines.came (serial plan) all)
 
 pub returns-clause-whole : goal.returns-clause-whole
 returns-clause-whole g c =
-    c.in_default.ensures.none
-    ∙ all_came c.args.lines.now.plan c.loop-line.lines.plan c.loop-line.lines.came c.loop-line.invariant.plan (sym c.in_default.is ∙ c.next.ensures.line) c.loop-line.invariant.within
+    all_came c.args.lines.now.plan c.loop-turn.lines.plan c.loop-turn.lines.came c.loop-turn.invariant.plan (sym c.in_default.ensures.none) c.loop-turn.invariant.within
 
 pub returns-clause-plan : goal.returns-clause-plan
-returns-clause-plan g c = c.next.ensures.plan ∙ c.loop-line.invariant.plan
+returns-clause-plan g c = c.loop-turn.invariant.plan

@@ -5,8 +5,8 @@ use Rattle.pm_model.specs.Serial.{serial}
 use Rattle.pm_cmd_top.proofs.serial.write_coming.Given as goal
 
 -- the text of the lines that have come was taken, and that of the others is to come
-abbrev pub invariant-loop-line : goal.invariant-loop-line
-invariant-loop-line g l =
+abbrev pub invariant-loop-turn : goal.invariant-loop-turn
+invariant-loop-turn g l =
     let lines = serial l.initial.lines.plan in
     record {
       way : IsUnderWay (g.O.Sink.taken l.initial.out) (g.O.Sink.taken l.out) (line_pieces l.format l.speller 0 lines) (line_pieces l.format l.speller l.base (drop l.lines.came lines));
@@ -16,5 +16,5 @@ invariant-loop-line g l =
       faults : g.O.Sink.faults l.initial.out ≤ g.O.Sink.faults l.out;
     }
 
-abbrev pub decreases-loop-line : goal.decreases-loop-line
-decreases-loop-line g l = length (serial l.initial.lines.plan) - l.lines.came
+abbrev pub decreases-loop-turn : goal.decreases-loop-turn
+decreases-loop-turn g l = length (serial l.initial.lines.plan) - l.lines.came

@@ -50,8 +50,8 @@ invariant_of-self-2 c =
     let ends : c.push.new.self.ends ≡ b.lines.ends + begins = c.push.ensures.ends ∙ ap (λ n. n + one c.begins_callback.result) c.reserve.ensures.ends ∙ ap (λ x. b.lines.ends + one x) c.begins_callback.ensures in
     let limit : c.push.new.self.limit ≡ b.lines.limit = c.push.ensures.limit ∙ c.reserve.ensures.limit in
     let led = leads b.plan h b.state.world c.args.stage.now line c.args.change c.args.then.now c.self.invariant.lawful c.self.invariant.world_is may in
-    let here = subst (λ (o : Option DevId). Leads b.plan h line o (after_write b.plan b.state.world c.args.change line c.args.then.now)) (sym c.device_at.ensures) led in
-    let index = c.settle.ensures h (subst (λ (s : Standing). Leads b.plan h line c.device_at.result s.world) (sym c.go.ensures) here) c.self.invariant.turns_are in
+    let here = subst (λ (o : Option DevId). Leads b.plan h line o c.args.change (after_write b.plan b.state.world c.args.change line c.args.then.now)) (sym c.device_at.ensures) led in
+    let index = c.settle.ensures h (subst (λ (s : Standing). Leads b.plan h line c.device_at.result c.args.change s.world) (sym c.go.ensures) here) c.self.invariant.turns_are in
     let kept = kept_step b.plan b.state b.turns c.settle.new.self b.lines.ends (b.lines.ends + begins) b.lines.limit h c.args.stage.now line c.args.change c.args.then.now c.self.invariant may room index in
     let after : Standing = record b.state { world = after_write b.plan b.state.world c.args.change line c.args.then.now } in
     let lines = reverse-push b.lines.lines c.push.new.self.lines line (subst (λ (l : List Line). c.push.new.self.lines ≡ l ++ line ∷ []) c.reserve.ensures.lines c.push.ensures.lines) in

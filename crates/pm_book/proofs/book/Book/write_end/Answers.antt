@@ -56,8 +56,8 @@ invariant_of-self c =
     let room = room_ends b.plan h b.state.world c.args.stage.now line c.args.change c.args.then.now b.lines.ends c.push_end.new.self.ends c.self.invariant.lawful c.self.invariant.world_is may
     runs c.push_end.ensures.ends c.self.invariant.each in
     let led = leads b.plan h b.state.world c.args.stage.now line c.args.change c.args.then.now c.self.invariant.lawful c.self.invariant.world_is may in
-    let here = subst (λ (o : Option DevId). Leads b.plan h line o (after_write b.plan b.state.world c.args.change line c.args.then.now)) (sym c.device_at.ensures) led in
-    let index = c.settle.ensures h (subst (λ (s : Standing). Leads b.plan h line c.device_at.result s.world) (sym c.go.ensures) here) c.self.invariant.turns_are in
+    let here = subst (λ (o : Option DevId). Leads b.plan h line o c.args.change (after_write b.plan b.state.world c.args.change line c.args.then.now)) (sym c.device_at.ensures) led in
+    let index = c.settle.ensures h (subst (λ (s : Standing). Leads b.plan h line c.device_at.result c.args.change s.world) (sym c.go.ensures) here) c.self.invariant.turns_are in
     let kept = kept_step b.plan b.state b.turns c.settle.new.self b.lines.ends c.push_end.new.self.ends b.lines.limit h c.args.stage.now line c.args.change c.args.then.now c.self.invariant may room index in
     let after : Standing = record b.state { world = after_write b.plan b.state.world c.args.change line c.args.then.now } in
     let lines = reverse-push b.lines.lines c.push_end.new.self.lines line (c.push_end.ensures.lines) in

@@ -8,7 +8,7 @@ use Rattle.pm_linetext.proofs.at_hand.NamesAtHand.end_line.Goals as goal
 pub push_event-requires : goal.push_event-requires
 push_event-requires c =
     let names = c.args.self.now in
-    let fit : NamesFit names = subst NamesFit c.self.view_is c.self.invariant in
+    let fit : NamesFit names = subst NamesFit c.self.view_is c.self.invariant.fit in
     let front = c.requires.front in
     let len = named_front_len names fit front.time front.actor front.in_time in
     let sum = length-append (event_text names c.args.event.now) newline in

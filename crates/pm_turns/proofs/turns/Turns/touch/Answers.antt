@@ -4,5 +4,5 @@ use Rattle.pm_turns.proofs.turns.Turns.touch.Goals as goal
 
 pub returns : goal.returns
 returns c =
-    touched_all (wakes c.args.plan.now c.args.state.now.world) c.args.self.now c.refresh_own.new.self c.refresh_waiters.new.self c.args.dev c.args.but c.refresh_own.ensures.asks
-    c.refresh_own.ensures.queues c.refresh_own.ensures.work c.refresh_own.ensures.timer c.refresh_waiters.ensures
+    touched_all (wakes c.args.plan.now c.args.state.now.world) c.args.stirred c.args.self.now c.refresh_stirred.new.self c.refresh_waiters.new.self c.args.dev c.args.but c.refresh_stirred.ensures.asks
+    c.refresh_stirred.ensures.queues c.refresh_stirred.ensures.work c.refresh_stirred.ensures.timer c.refresh_waiters.ensures
