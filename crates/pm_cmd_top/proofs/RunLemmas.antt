@@ -1,42 +1,18 @@
 -- The runs of a plan, and their texts.
-use Rattle.std.proofs.Common.{◌≡◌, ◌∙◌, ℕ, true, false, List, [], Ok, Err, nat_eq, refl, reverse, ap, subst, sym}
-use Rattle.std.proofs.lemmas.List.{reverse-reverse}
-use Rattle.pm_model.proofs.SerialLemmas.{serial_lawful}
+use Rattle.std.proofs.Common.{◌≡◌, ◌∙◌, ℕ, true, false, List, Ok, Err, nat_eq, refl, ap, subst, sym}
 use Rattle.pm_model.specs.declared.event.Line.{Line}
 use Rattle.pm_model.specs.declared.plan.Plan.{Plan}
-use Rattle.pm_model.specs.FirstBad.{AreLinesOf}
-use Rattle.pm_model.specs.History.{History}
-use Rattle.pm_model.specs.Lawful.{IsLawful}
-use Rattle.pm_model.specs.Serial.{goes_on, serial}
+use Rattle.pm_model.specs.Serial.{serial}
 use Rattle.pm_model.specs.Text.{text}
 use Rattle.pm_serial.specs.declared.running.End.{End}
 use Rattle.pm_serial.specs.declared.running.End.TheVariants as end
-use Rattle.pm_serial.specs.Ends.{IsSerialEnd}
 use Rattle.pm_cmd_ends.specs.Coming.{Came, Work, Wrote}
 use Rattle.pm_cmd_ends.specs.Ending.{AtLimit, Done, Ending, Taking, Took}
 use Rattle.pm_cmd_ends.specs.Pieces.{format_of, text_in}
-use Rattle.pm_cmd_ends.specs.Promised.{KeepsPromises}
 use Rattle.pm_cmd_ends.specs.declared.ending.Fault.{Fault}
 use Rattle.pm_cmd_ends.specs.declared.ending.Fault.TheVariants as fault
 use Rattle.pm_cmd_ends.specs.declared.output.Format.{Format}
 use Rattle.pm_cmd_top.specs.Runs.{IsRun, RunEnds, SerialEnds, cut, ended, run_ending, whole}
-
--- what one thread writes is lawful
-lawful_run : (plan : Plan) → IsLawful plan (reverse (serial plan))
-lawful_run plan = subst (IsLawful plan) (sym (reverse-reverse (goes_on plan plan.lines []))) (serial_lawful plan)
-
--- each of its lines has a text
-lines_of : (plan ran : Plan) (h : History) → ran ≡ plan → reverse h ≡ serial plan → AreLinesOf ran h → AreLinesOf plan (reverse (serial plan))
-lines_of plan ran h ran_is lines_are of_plan =
-    subst (AreLinesOf plan) (sym (reverse-reverse h) ∙ ap (λ (l : List Line). reverse l) lines_are) (subst (λ (q : Plan). AreLinesOf q h) ran_is of_plan)
-
-pub is_run : (plan ran : Plan) (h : History) (e : End) → ran ≡ plan → reverse h ≡ serial plan → AreLinesOf ran h → IsSerialEnd plan e → ((p : Plan) (h : History) → IsLawful p h → KeepsPromises p h) → IsRun plan e
-is_run plan ran h e ran_is lines_are of_plan ends promises = record {
-  lawful = lawful_run plan;
-  of_plan = lines_of plan ran h ran_is lines_are of_plan;
-  promises = promises plan (reverse (serial plan)) (lawful_run plan);
-  ends = ends;
-}
 
 -- the run of one thread is one that several may come to
 run_as_one : (plan : Plan) (e : End) → IsRun plan e → RunEnds plan (run_ending e (text plan (serial plan)))

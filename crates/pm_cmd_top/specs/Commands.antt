@@ -23,6 +23,12 @@ pub record CheckEnds (plan : Plan) (ending : Ending) : Type 0 where
   pub numbering : Numbering plan islands
   pub is : ending ≡ Done (counts_text plan islands)
 
+-- the summary of the run that one thread makes of a plan
+pub record SummaryEnds (plan : Plan) (ending : Ending) : Type 0 where
+  pub end_of : End
+  pub run : IsRun plan end_of
+  pub is : ending ≡ run_ending end_of (summary_text (summary plan (serial plan) (is_whole end_of)))
+
 -- `make NUMBER DEVICES`: the summary of the run of the generator's plan
 pub record MakeEnds (number devices : ℕ) (ending : Ending) : Type 0 where
   pub plan : Plan

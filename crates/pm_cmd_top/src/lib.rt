@@ -36,7 +36,7 @@ pub use laws::gathered_once;
 pub use lists::gather;
 pub use locks::{locked_parts, run_islands};
 pub use make::make_top;
-pub use running::{Ran, ended, is_whole, run_alone};
+pub use running::{ended, is_whole};
 pub use serial::serial_top;
 pub use threads::run_top;
 pub use times::times_top;

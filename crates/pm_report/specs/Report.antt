@@ -1,5 +1,5 @@
 -- What a summary counts, and its text (this project's own).
-use Rattle.std.specs.Prelude.{ℕ, Bool, true, false, List, ◌++◌, codes, count_by, decimal, length}
+use Rattle.std.specs.Prelude.{◌≡◌, ℕ, Bool, true, false, List, ◌++◌, codes, count_by, decimal, length}
 use Rattle.pm_base.specs.declared.Cb.{Cb}
 use Rattle.pm_base.specs.declared.Cb.TheVariants as cb
 use Rattle.pm_model.specs.declared.event.Event.{Event}
@@ -31,6 +31,13 @@ summary plan lines finished = record {
   idles = begin_lines cb.Idle lines;
   finished = finished;
 }
+
+-- they are the counts of some lines
+pub record AreCounts (sum : Summary) : Type 0 where
+  pub plan : Plan
+  pub lines : List Line
+  pub finished : Bool
+  pub is : sum ≡ summary plan lines finished
 
 -- how a run ended: it is finished, or cut at the plan's limit
 abbrev pub ending_word : Bool → List ℕ

@@ -1,9 +1,11 @@
 //! The summary of a run, in numbers and as one line of text.
 #![tactic(auto)]
 
-ghost use Rattle.std.specs.Prelude.{◌≡◌, ◌<◌, ◌^◌, ◌++◌, IfOk, OnOk, decimal, length};
+ghost use Rattle.std.specs.Prelude.{◌≡◌, ◌+◌, ◌<◌, ◌^◌, ◌++◌, ◌∷◌, [], Bool, IfOk, List, OnOk, decimal, length};
 ghost use Rattle.std.specs.String.{string_bytes};
-ghost use Rattle.pm_report.specs.Report.{begin_lines, begins, ending_word, summary, summary_text};
+ghost use Rattle.pm_model.specs.declared.event.Line.{Line as ALine};
+ghost use Rattle.pm_model.specs.declared.plan.Plan.{Plan as APlan};
+ghost use Rattle.pm_report.specs.Report.{AreCounts, begin_lines, begins, ending_word, summary, summary_text};
 
 mod counts;
 
@@ -25,6 +27,30 @@ pub fn summary(plan: &Plan, lines: &[Line], finished: bool) -> Summary
         idles: begin_lines(lines, Cb::Idle),
         finished,
     }
+}
+
+/// The counts with those of one line more, where they are the counts of fewer lines than 2^32 - 1. So a run is counted line
+/// by line, with no list. It takes no memory.
+pub fn one_more(sum: &Summary, line: &Line) -> Summary
+    requires some { AreCounts sum.now }
+    requires few { sum.now.lines + 1 < 2 ^ 32 }
+    ensures { (plan : APlan) (lines : List ALine) (finished : Bool) → sum.now ≡ summary plan lines finished → result ≡ summary plan (lines ++ line.now ∷ []) finished }
+{
+    Summary {
+        lines: sum.lines + 1,
+        resumes: with_line(sum.resumes, line, Cb::Resume),
+        suspends: with_line(sum.suspends, line, Cb::Suspend),
+        idles: with_line(sum.idles, line, Cb::Idle),
+        ..*sum
+    }
+}
+
+// A count of lines that say that such a callback begins, with one line more.
+fn with_line(count: u32, line: &Line, cb: Cb) -> u32
+    requires { count + 1 < 2 ^ 32 }
+    ensures { (lines : List ALine) → count ≡ begin_lines cb lines → result ≡ begin_lines cb (lines ++ line.now ∷ []) }
+{
+    if begins(line, cb) { count + 1 } else { count }
 }
 
 /// The text of a summary, with its newline:
