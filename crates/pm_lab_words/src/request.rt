@@ -17,7 +17,7 @@ pub struct Bounds {
     pub late: bool,
     /// How many lines disturb, at most: 0 to 99.
     pub most: u32,
-    /// How many spots are looked at, at most: 1 to 10,000,000.
+    /// How many spots each search looks at, at most: 1 to 10,000,000. `orders` searches each island for itself.
     pub spots: u32,
 }
 
