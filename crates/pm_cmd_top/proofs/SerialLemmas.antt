@@ -1,5 +1,5 @@
 -- The lines of a run on one thread, written as they come.
-use Rattle.std.proofs.Common.{◌≡◌, ◌∙◌, ◌+◌, ◌≤◌, ◌++◌, ℕ, true, List, [], ◌∷◌, Some, None, Err, drop, length, reverse, slice_get, ap, arith, inl, inr, refl, subst, sym}
+use Rattle.std.proofs.Common.{◌≡◌, ◌∙◌, ◌+◌, ◌≤◌, ◌++◌, ℕ, true, List, [], ◌∷◌, Option, Some, None, Err, drop, length, reverse, slice_get, ap, arith, inl, inr, refl, subst, sym}
 use Rattle.std.proofs.Math.Seq.{drop-length}
 use Rattle.std.proofs.lemmas.List.{drop_more}
 use Rattle.std.proofs.lemmas.Option.{get_or_from_slice_get, slice_get_cases, slice_get_within}
@@ -12,6 +12,8 @@ use Rattle.pm_cmd_ends.specs.Promised.{KeepsPromises}
 use Rattle.pm_cmd_ends.specs.declared.ending.Fault.{Fault}
 use Rattle.pm_cmd_ends.specs.declared.ending.Fault.TheVariants as fault
 use Rattle.pm_cmd_ends.specs.declared.output.Format.{Format}
+use Rattle.pm_base.specs.declared.ActorId.{ActorId}
+use Rattle.pm_model.specs.declared.event.Event.{Event}
 use Rattle.pm_model.specs.declared.event.Line.{Line}
 use Rattle.pm_model.specs.declared.plan.Plan.{Plan}
 use Rattle.pm_model.specs.FirstBad.{AreLinesOf}
@@ -46,6 +48,10 @@ in_time_here base lines place line there holds = subst (AreInTime base) (drop_he
 
 pub there : (plan here : Plan) (came : ℕ) (line : Line) → here ≡ plan → Some line ≡ slice_get (serial here) came → slice_get (serial plan) came ≡ Some line
 there plan here came line same is = ap (λ (q : Plan). slice_get (serial q) came) (sym same) ∙ sym is
+
+-- by whoever is the same
+pub by_actor : (o : Option Line) (time : ℕ) (a b : ActorId) (e : Event) → a ≡ b → Some (record { time = time; actor = b; event = e }) ≡ o → Some (record { time = time; actor = a; event = e }) ≡ o
+by_actor o time a b e same is = ap (λ x. let line : Line = record { time = time; actor = x; event = e } in Some line) same ∙ is
 
 -- where there is none, all have come
 pub all_came : (plan here : Plan) (came : ℕ) → here ≡ plan → None ≡ slice_get (serial here) came → came ≤ length (serial plan) → came ≡ length (serial plan)

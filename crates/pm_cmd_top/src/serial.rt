@@ -101,9 +101,8 @@ fn write_coming<O: Sink>(
     let mut next = Move::Late(0);
     while let Some(turn) = lines.coming(&mut next) {
         let said = lines.event(&turn, &next);
-        spell(
-            speller, format, base, turn.time, turn.actor, said, &mut text,
-        );
+        let actor = lines.actor(&turn);
+        spell(speller, format, base, turn.time, actor, said, &mut text);
         lines.go_on(&turn, &next);
         write_whole(out, text.as_slice())?;
         base = turn.time;

@@ -136,8 +136,9 @@ fn put_command<S: NameSource>(
     put_operand(bytes, at, names, operand_of(command.helper), command.number)
 }
 
-/// Puts an event with a payload, behind the lead that names it.
-#[inline(always)]
+/// Puts an event with a payload, behind the lead that names it. It stands out of line, since `put_event` would be too
+/// large with it four times inside: a hint that would make a function very large is dropped.
+#[inline(never)]
 fn put_payload<S: NameSource, const N: usize>(
     bytes: &mut LineBytes,
     at: usize,

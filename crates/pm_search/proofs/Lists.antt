@@ -1,7 +1,7 @@
 -- Lists that grow.
-use Rattle.std.proofs.Common.{◌≡◌, ℕ, zero, suc, ◌<◌, ◌⊎◌, List, [], ◌∷◌, ◌++◌, Some, length, slice_get, refl, sym, subst, inl, inr, arith, length-append}
+use Rattle.std.proofs.Common.{◌≡◌, ℕ, zero, suc, ◌<◌, ◌⊎◌, List, [], ◌∷◌, ◌++◌, Some, length, map, slice_get, refl, sym, subst, inl, inr, arith, length-append}
 use Rattle.pm_search.specs.Exact.{IsAmong}
-use Rattle.pm_search.specs.Growing.{Grows}
+use Rattle.pm_search.specs.Growing.{Grows, IsKept}
 
 module _ {A : Type 0} where
   pub slice_get-left : (xs ys : List A) (i : ℕ) (x : A) → slice_get xs i ≡ Some x → slice_get (xs ++ ys) i ≡ Some x
@@ -49,6 +49,18 @@ module _ {A : Type 0} where
     kept = λ i x t. q.kept i x (p.kept i x t);
     added = λ i x t. elim (q.added i x t) [ inl b' ↦ elim (p.added i x b') [ inl a' ↦ inl a' | inr s ↦ inr (f x s) ] | inr s ↦ inr (h x s) ];
   }
+
+  -- what is kept stays so where the list grows on
+  pub kept_on : (Test : A → Type 0) (first old new : List A) → IsKept first old → Grows Test old new → IsKept first new
+  kept_on Test first old new k g = Grows-trans (λ y. Unit {0}) Test (λ y. Unit {0}) first old new (λ y u. tt) (λ y t. tt) k g
+
+  -- also by a test that the point at a place decides
+  pub kept_at : (Test : A → A → Type 0) (first old new : List A) (at : ℕ) → at < length old → IsKept first old → ((p : A) → slice_get old at ≡ Some p → Grows (Test p) old new) → IsKept first new
+  kept_at Test first old new at lt k g = let p = some_within old at lt in kept_on (Test p.0) first old new k (g p.0 p.1)
+
+  -- the points of the same nodes
+  pub Grows-same : {N : Type 0} (Test : A → Type 0) (f : N → A) (first : List A) (nodes nodes' : List N) → nodes' ≡ nodes → Grows Test first (map f nodes) → Grows Test first (map f nodes')
+  Grows-same {N = N} Test f first nodes nodes' is g = let T : List N → Type 0 = λ l. Grows Test first (map f l) in subst T (sym is) g
 
   pub Grows-back : (Test : A → Type 0) (old new : List A) → Grows Test old new → (i : ℕ) (x : A) → i < length old → slice_get new i ≡ Some x → slice_get old i ≡ Some x
   Grows-back Test old new g i x lt h = let s = some_within old i lt in let k = g.kept i s.0 s.1 in let t = s.1 in cc

@@ -49,6 +49,13 @@ module _ {P : Type 0} (Follows : Bool → P → P → Type 0) where
   tree_adds start points parents x at p b points' parents' t there f (is_there a) = t
   tree_adds start points parents x at p b points' parents' t there f is_new = pushed start points parents x at p b t there f
 
+  -- the points of the same nodes, with the same parents
+  pub tree_same : {N : Type 0} (start : P) (f : N → P) (nodes nodes' : List N) (parents parents' : List ℕ) → nodes' ≡ nodes → parents' ≡ parents → IsTree Follows start (map f nodes) parents → IsTree Follows start (map f nodes') parents'
+  tree_same {N = N} start f nodes nodes' parents parents' e h t =
+      let A : List N → Type 0 = λ l. IsTree Follows start (map f l) parents in
+      let B : List ℕ → Type 0 = IsTree Follows start (map f nodes') in
+      subst B (sym h) (subst A (sym e) t)
+
   -- no point
   pub tree_none : (start : P) (points : List P) (parents : List ℕ) → points ≡ [] → parents ≡ [] → IsTree Follows start points parents
   tree_none start points parents e f = record {

@@ -3,4 +3,3 @@ pub mod Exact
 pub mod Seen
 pub mod Trees
 pub mod Growing
-pub mod Doubling

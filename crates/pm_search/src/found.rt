@@ -13,7 +13,7 @@ use std::alloc::Global;
 use std::hash::Hash;
 
 /// How a search ended.
-#[derive(Clone, Copy, Debug, PartialEq, Eq)]
+#[derive(Clone, Copy)]
 pub enum Ended {
     /// The nodes are all that are reached at all.
     Whole,

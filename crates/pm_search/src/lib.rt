@@ -7,8 +7,6 @@ mod found;
 mod graph;
 mod rounds;
 mod spread;
-#[cfg(test)]
-mod tests;
 mod tree;
 
 pub use far::steps_back;

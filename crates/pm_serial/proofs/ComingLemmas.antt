@@ -1,8 +1,9 @@
 -- The lines of a run on one thread come one by one.
-use Rattle.std.proofs.Common.{◌≡◌, ◌∙◌, ◌+◌, ◌++◌, ◌*◌, ◌-◌, ◌<◌, ◌≤◌, ◌^◌, ◌⊎◌, ℕ, zero, suc, Bool, true, false, List, [], ◌∷◌, Option, None, Some, IsSome, is_some, length, reverse, slice_get, take, ap, append-nil, append_assoc, arith, lit<, refl, subst, sym}
+use Rattle.std.proofs.Common.{◌≡◌, ◌∙◌, ◌+◌, ◌++◌, ◌*◌, ◌-◌, ◌<◌, ◌≤◌, ◌^◌, ◌⊎◌, ℕ, zero, suc, Bool, true, false, List, [], ◌∷◌, Option, None, Some, IsSome, is_some, length, nat_lt, reverse, slice_get, take, if◌then◌else◌, ap, append-nil, append_assoc, arith, lit<, refl, subst, sym}
 use Rattle.std.specs.Option.{option_and_then, option_map_or}
 use Rattle.std.proofs.Math.Seq.{take-append_seam}
 use Rattle.std.proofs.lemmas.Bool.{false_from_ne_true}
+use Rattle.std.proofs.lemmas.Bool.Decides.{nat_tests}
 use Rattle.std.proofs.lemmas.List.{length-append, length-reverse, reverse-append, reverse-reverse}
 use Rattle.std.proofs.lemmas.Option.{same_Some, slice_get_past}
 use Rattle.pm_base.specs.declared.ActorId.{ActorId}
@@ -19,9 +20,9 @@ use Rattle.pm_model.specs.declared.stage.Then.{Then}
 use Rattle.pm_model.specs.History.{History}
 use Rattle.pm_model.specs.Lawful.{IsFinished, IsLawful, is_finished, last_time}
 use Rattle.pm_model.specs.Serial.{goes_on, move_at, next_line, next_turn, serial, written}
-use Rattle.pm_model.specs.World.{World, due as due_at, move, stage_at, world}
-use Rattle.pm_state.specs.Standing.{IsActor, IsOf, Standing, after_write}
-use Rattle.pm_turns.specs.Seats.{IsSeated}
+use Rattle.pm_model.specs.World.{World, due as due_at, move, place, ready, stage_at, top, world}
+use Rattle.pm_state.specs.Seats.{actor_in, seats}
+use Rattle.pm_state.specs.Standing.{IsActor, IsOf, Standing, StandsWell, after_write, can_go_on}
 use Rattle.pm_turns.specs.Turning.{AreOf, Index, IsIndex}
 use Rattle.pm_book.specs.Pages.{MayWrite}
 use Rattle.pm_book.specs.Sometime.{Writes}
@@ -95,10 +96,20 @@ pub record IsDue (plan : Plan) (h : History) (turn : ActorId × ℕ) : Type 0 wh
   pub writes : IsNext plan h turn
   pub line_is : next_line plan h ≡ Some (record { time = turn.1; actor = turn.0; event = writes.event })
 
-seated : (plan : Plan) (x : Index) (a : ActorId) → AreOf plan x.rows → IsSeated x.rows a → IsActor plan a
-seated plan x (Caller c) are is = let same = are.callers in omega (arith, is, same)
-seated plan x (Work d) are is = let same = are.devices in omega (arith, is, same)
-seated plan x (Timer d) are is = let same = are.devices in omega (arith, is, same)
+-- who sits at a seat is one of the plan's actors
+pub sits_in : (plan : Plan) (i : ℕ) → i < seats plan → IsActor plan (actor_in plan i)
+sits_in plan i below = go (nat_lt i (length plan.callers)) refl (nat_lt i (length plan.callers + length plan.devices)) refl
+  where
+    go : (p : Bool) → nat_lt i (length plan.callers) ≡ p → (q : Bool) → nat_lt i (length plan.callers + length plan.devices) ≡ q
+        → IsActor plan (if p then Caller i else if q then Work (i - length plan.callers) else Timer (i - (length plan.callers + length plan.devices)))
+    go true e q f = grind (arith, nat_tests)
+    go false e true f =
+        let over : length plan.callers ≤ i = grind (arith, nat_tests) in
+        let under : i < length plan.callers + length plan.devices = grind (arith, nat_tests) in
+        omega (arith, over, under)
+    go false e false f =
+        let over : length plan.callers + length plan.devices ≤ i = grind (arith, nat_tests) in
+        omega (arith, over, below)
 
 pub is_due : (plan : Plan) (h : History) (turn : ActorId × ℕ) → AreDue plan h → next_turn plan h ≡ Some turn → IsActor plan turn.0 → IsDue plan h turn
 is_due plan h turn are is in_range =
@@ -139,13 +150,32 @@ its_line : (plan : Plan) (h : History) (turn : ActorId × ℕ) (s : Stage) (e : 
 its_line plan h turn s e c next due stands gives =
     line_next plan h turn due.turn_is (record { event = e; change = c; next = next; gives = ap (option_and_then (λ (s : Stage). move plan (world plan h).views s turn.1)) stands ∙ gives })
 
+-- an actor that stands well may go on at its open stage, and where it has none at what it has to start
+pub stands_open : (plan : Plan) (w : World) (a : ActorId) (s : Stage) → StandsWell plan w a → Some s ≡ top None (place w a) → can_go_on plan w.views s ≡ true
+stands_open plan w a s well is = ap (λ (o : Option Stage). option_map_or (can_go_on plan w.views) o true) (go (place w a) is) ∙ well
+  where
+    go : (l : List Stage) → Some s ≡ top None l → Some s ≡ top (ready plan w a) l
+    go [] is = cc is
+    go (x ∷ rest) is = is
+
+pub stands_ready : (plan : Plan) (w : World) (a : ActorId) (s : Stage) → StandsWell plan w a → None ≡ top None (place w a) → Some s ≡ ready plan w a → can_go_on plan w.views s ≡ true
+stands_ready plan w a s well none is = ap (λ (o : Option Stage). option_map_or (can_go_on plan w.views) o true) (is ∙ go (place w a) none) ∙ well
+  where
+    go : (l : List Stage) → None ≡ top None l → ready plan w a ≡ top (ready plan w a) l
+    go [] none = refl
+    go (x ∷ rest) none = cc none
+
 -- whose turn it is, by the index
 abbrev pub DueLaw : Type 0
 DueLaw = (plan : Plan) (h : History) (a : ActorId) (s : Stage) → IsLawful plan h → stage_at plan (world plan h) a ≡ Some s → due_at plan (world plan h).views s ≤ last_time h + 1000000
 
-pub due_of : (plan : Plan) (came : ℕ) (state : Standing) (turns : Index) (actor : ActorId) (time : ℕ) → (k : IsAfter plan came state turns) → DueLaw
-    → Some (actor, time) ≡ next_turn plan k.list → IsSeated turns.rows actor → IsDue plan k.list (actor, time)
-due_of plan came state turns actor time k law is seat = is_due plan k.list (actor, time) (λ a s at. law plan k.list a s k.lawful at) (sym is) (seated plan turns actor k.turns_are.of_plan seat)
+pub below_seats : (plan : Plan) (turns : Index) (seat : ℕ) → AreOf plan turns.rows → seat < turns.rows.callers + 2 * turns.rows.devices → seat < seats plan
+below_seats plan turns seat of_plan below = omega (arith, below, of_plan.callers, of_plan.devices)
+
+pub due_of : (plan : Plan) (came : ℕ) (state : Standing) (turns : Index) (seat time : ℕ) → (k : IsAfter plan came state turns) → DueLaw
+    → Some (actor_in plan seat, time) ≡ next_turn plan k.list → seat < turns.rows.callers + 2 * turns.rows.devices → IsDue plan k.list (actor_in plan seat, time)
+due_of plan came state turns seat time k law is below =
+    is_due plan k.list (actor_in plan seat, time) (λ a s at. law plan k.list a s k.lawful at) (sym is) (sits_in plan seat (below_seats plan turns seat k.turns_are.of_plan below))
 
 pub fits : (plan : Plan) (came : ℕ) (state : Standing) (turns : Index) → (k : IsAfter plan came state turns) → came < plan.lines → length k.list < plan.lines
 fits plan came state turns k room = let many = k.many in omega (arith, many, room)
@@ -172,21 +202,21 @@ so_far_is plan came state turns k =
 
 -- its move there writes the next line
 pub is_coming : (plan : Plan) (came : ℕ) (state : Standing) (turns : Index) (turn : NextTurn) (m : Move) → (k : IsAfter plan came state turns) → came < plan.lines
-    → IsDue plan k.list (turn.actor, turn.time) → Moves plan state.world turn.actor turn.time m turn.at → IsComing plan came turn m
-is_coming plan came state turns turn m k room due moves =
+    → turn.seat < seats plan → IsDue plan k.list (actor_in plan turn.seat, turn.time) → Moves plan state.world (actor_in plan turn.seat) turn.time m turn.at → IsComing plan came turn m
+is_coming plan came state turns turn m k room below due moves =
     let same = so_far_is plan came state turns k in
     let n = due.writes in
-    let at : stage_at plan (world plan k.list) turn.actor ≡ Some moves.stage = subst (λ (w : World). stage_at plan w turn.actor ≡ Some moves.stage) k.world_is moves.stands in
+    let at : stage_at plan (world plan k.list) (actor_in plan turn.seat) ≡ Some moves.stage = subst (λ (w : World). stage_at plan w (actor_in plan turn.seat) ≡ Some moves.stage) k.world_is moves.stands in
     let is : Some m ≡ move plan (world plan k.list).views moves.stage turn.time = subst (λ (w : World). Some m ≡ move plan w.views moves.stage turn.time) k.world_is moves.gives in
     let here : move plan (world plan k.list).views moves.stage turn.time ≡ Some (Write n.event n.change n.next) =
     sym (ap (option_and_then (λ (s : Stage). move plan (world plan k.list).views s turn.time)) at) ∙ n.gives in
-    let line : Line = record { time = turn.time; actor = turn.actor; event = n.event } in
+    let line : Line = record { time = turn.time; actor = actor_in plan turn.seat; event = n.event } in
     let whole_is : whole plan (line ∷ k.list) ≡ whole plan [] = whole_one plan k.list line (fits plan came state turns k room) due.line_is ∙ k.on_the_way in
     record {
-      turn_is = subst (λ (h : History). next_turn plan h ≡ Some (turn.actor, turn.time)) same due.turn_is;
-      in_range = due.in_range;
+      turn_is = subst (λ (h : History). next_turn plan h ≡ Some (actor_in plan turn.seat, turn.time)) same due.turn_is;
+      in_range = below;
       stage = moves.stage;
-      stands = subst (λ (h : History). stage_at plan (world plan h) turn.actor ≡ Some moves.stage) same at;
+      stands = subst (λ (h : History). stage_at plan (world plan h) (actor_in plan turn.seat) ≡ Some moves.stage) same at;
       gives = subst (λ (h : History). Some m ≡ move plan (world plan h).views moves.stage turn.time) same is;
       at_is = moves.at_is;
       room = room;
@@ -199,10 +229,10 @@ is_coming plan came state turns turn m k room due moves =
 
 -- what comes next is due
 pub due_coming : (plan : Plan) (came : ℕ) (state : Standing) (turns : Index) (turn : NextTurn) (m : Move) → (k : IsAfter plan came state turns) → DueLaw → IsComing plan came turn m
-    → IsDue plan k.list (turn.actor, turn.time)
+    → IsDue plan k.list (actor_in plan turn.seat, turn.time)
 due_coming plan came state turns turn m k law coming =
-    is_due plan k.list (turn.actor, turn.time) (λ a s at. law plan k.list a s k.lawful at)
-    (subst (λ (h : History). next_turn plan h ≡ Some (turn.actor, turn.time)) (sym (so_far_is plan came state turns k)) coming.turn_is) coming.in_range
+    is_due plan k.list (actor_in plan turn.seat, turn.time) (λ a s at. law plan k.list a s k.lawful at)
+    (subst (λ (h : History). next_turn plan h ≡ Some (actor_in plan turn.seat, turn.time)) (sym (so_far_is plan came state turns k)) coming.turn_is) (sits_in plan turn.seat coming.in_range)
 
 -- a move that writes
 pub a_write : (plan : Plan) (came : ℕ) (turn : NextTurn) (m : Move) → IsComing plan came turn m → ((e : Event) (c : Change) (next : Then) → m ≡ Write e c next → ⊥) → ⊥
@@ -216,14 +246,14 @@ pub record IsStep (plan : Plan) (h : History) (w : World) (turn : ActorId × ℕ
   pub writes : Writes plan w (last_time h) (record { time = turn.1; actor = turn.0; event = e }) c next
 
 pub step_of : (plan : Plan) (came : ℕ) (state : Standing) (turns : Index) (turn : NextTurn) (m : Move) (e : Event) (c : Change) (next : Then) → (k : IsAfter plan came state turns) → DueLaw
-    → (coming : IsComing plan came turn m) → m ≡ Write e c next → IsStep plan k.list state.world (turn.actor, turn.time) coming.stage e c next
+    → (coming : IsComing plan came turn m) → m ≡ Write e c next → IsStep plan k.list state.world (actor_in plan turn.seat, turn.time) coming.stage e c next
 step_of plan came state turns turn m e c next k law coming is =
     let same = sym (so_far_is plan came state turns k) in
     let due = due_coming plan came state turns turn m k law coming in
-    let at : stage_at plan (world plan k.list) turn.actor ≡ Some coming.stage = subst (λ (h : History). stage_at plan (world plan h) turn.actor ≡ Some coming.stage) same coming.stands in
+    let at : stage_at plan (world plan k.list) (actor_in plan turn.seat) ≡ Some coming.stage = subst (λ (h : History). stage_at plan (world plan h) (actor_in plan turn.seat) ≡ Some coming.stage) same coming.stands in
     let moves : move plan (world plan k.list).views coming.stage turn.time ≡ Some (Write e c next) =
     sym (subst (λ (h : History). Some m ≡ move plan (world plan h).views coming.stage turn.time) same coming.gives) ∙ ap (λ (m : Move). Some m) is in
-    let may = may_write plan k.list (turn.actor, turn.time) coming.stage e c next due k.in_time (fits plan came state turns k coming.room) at moves in
+    let may = may_write plan k.list (actor_in plan turn.seat, turn.time) coming.stage e c next due k.in_time (fits plan came state turns k coming.room) at moves in
     record { stands = at; gives = moves; may = may; writes = writes plan k.list state.world coming.stage _ c next k.world_is may }
 
 -- the run with it

@@ -17,7 +17,8 @@ use Rattle.pm_model.specs.Serial.{next_turn, serial}
 use Rattle.pm_model.specs.World.{World, move, stage_at, world}
 use Rattle.pm_serial.specs.declared.turn.NextTurn.{NextTurn}
 use Rattle.pm_serial.specs.Ends.{whole}
-use Rattle.pm_state.specs.Standing.{IsActor, IsOf, Standing}
+use Rattle.pm_state.specs.Seats.{actor_in, seats}
+use Rattle.pm_state.specs.Standing.{IsOf, Standing}
 use Rattle.pm_turns.specs.Turning.{Index, IsIndex}
 
 -- a plan, and how many lines have come of the run that one thread makes of it
@@ -47,12 +48,12 @@ pub record Moves (plan : Plan) (w : World) (actor : ActorId) (time : ℕ) (m : M
 unfoldable pub so_far : Plan → ℕ → History
 so_far plan came = reverse (take came (serial plan))
 
--- behind these lines it is this actor's turn, by this move, and the line that it writes is the next one
+-- behind these lines it is the turn of who sits at this seat, by this move, and the line that it writes is the next one
 pub record IsComing (plan : Plan) (came : ℕ) (turn : NextTurn) (next : Move) : Type 0 where
-  pub turn_is : next_turn plan (so_far plan came) ≡ Some (turn.actor, turn.time)
-  pub in_range : IsActor plan turn.actor
+  pub turn_is : next_turn plan (so_far plan came) ≡ Some (actor_in plan turn.seat, turn.time)
+  pub in_range : turn.seat < seats plan
   pub stage : Stage
-  pub stands : stage_at plan (world plan (so_far plan came)) turn.actor ≡ Some stage
+  pub stands : stage_at plan (world plan (so_far plan came)) (actor_in plan turn.seat) ≡ Some stage
   pub gives : Some next ≡ move plan (world plan (so_far plan came)).views stage turn.time
   pub at_is : turn.at ≡ device_at stage
   pub room : came < plan.lines
@@ -60,4 +61,4 @@ pub record IsComing (plan : Plan) (came : ℕ) (turn : NextTurn) (next : Move) :
   pub change : Change
   pub what_follows : Then
   pub writes : next ≡ Write event change what_follows
-  pub line_is : slice_get (serial plan) came ≡ Some (record { time = turn.time; actor = turn.actor; event = event })
+  pub line_is : slice_get (serial plan) came ≡ Some (record { time = turn.time; actor = actor_in plan turn.seat; event = event })

@@ -10,7 +10,8 @@ ghost use Rattle.pm_model.specs.Serial.{serial};
 ghost use Rattle.pm_serial.specs.Coming.{IsAfter, IsComing, Moves};
 ghost use Rattle.pm_serial.specs.Ends.{IsSerialEnd};
 ghost use Rattle.pm_model.specs.World.{move, stage_at};
-ghost use Rattle.pm_state.specs.Standing.{IsActor, IsOf, StandsWell, can_go_on};
+ghost use Rattle.pm_state.specs.Seats.{actor_in, seats};
+ghost use Rattle.pm_state.specs.Standing.{IsOf, StandsWell, can_go_on};
 
 use crate::{End, NextTurn, fresh_books_have_time};
 use pm_base::{ActorId, DevId, NoMemory};
@@ -56,21 +57,22 @@ fn move_at(plan: &Plan, state: &State, stage: &Stage, time: u64, out: &mut Move)
     device_at(stage)
 }
 
-// Puts in `out` what the actor may do at the stage where it stands, and answers the stage's device. Mostly the stage is
+// Puts in `out` what the actor at a seat may do at the stage where it stands, and answers the stage's device. Mostly the stage is
 // open, and then it is read where it is kept.
+#[tactic(auto, using(crate::proofs::ComingLemmas::stands_open, crate::proofs::ComingLemmas::stands_ready))]
 #[inline(always)]
-fn move_of(plan: &Plan, state: &State, actor: ActorId, time: u64, out: &mut Move) -> Option<DevId>
+fn move_of(plan: &Plan, state: &State, seat: usize, time: u64, out: &mut Move) -> Option<DevId>
     requires is_of { IsOf plan.now state.now }
-    requires in_range { IsActor plan.now actor }
-    requires stands { IsSome (stage_at plan.now state.now.world actor) }
-    requires well { StandsWell plan.now state.now.world actor }
+    requires in_range { seat < seats plan.now }
+    requires stands { IsSome (stage_at plan.now state.now.world (actor_in plan.now seat)) }
+    requires well { StandsWell plan.now state.now.world (actor_in plan.now seat) }
     requires in_time { time < 2 ^ 63 }
-    ensures { Moves plan.now state.now.world actor time out.new result }
+    ensures { Moves plan.now state.now.world (actor_in plan.now seat) time out.new result }
 {
-    match state.top(plan, actor) {
+    match state.top_at(plan, seat) {
         Some(stage) => move_at(plan, state, stage, time, out),
         None => {
-            let Some(start) = state.ready(plan, actor) else {
+            let Some(start) = state.ready(plan, state.actor(plan, seat)) else {
                 unreachable!();
             };
             move_at(plan, state, &start, time, out)
@@ -94,9 +96,9 @@ fn next_turn(
 {
     all_stand_well();
     due_moments();
-    let (actor, time) = turns.next()?;
-    let at = move_of(plan, state, actor, time, out);
-    Some(NextTurn { actor, time, at })
+    let (seat, time) = turns.next_seat()?;
+    let at = move_of(plan, state, seat, time, out);
+    Some(NextTurn { seat, time, at })
 }
 
 // Writes the line that comes next, by this move of the actor whose turn it is.
@@ -120,8 +122,8 @@ fn write_line(
     let Move::Write(event, change, then) = next else {
         unreachable!();
     };
-    state.go(plan, turn.time, turn.actor, event, change, then);
-    turns.settle(plan, state, turn.at, turn.time, turn.actor, event, change);
+    state.go_at(plan, turn.time, turn.seat, event, change, then);
+    turns.settle_at(plan, state, turn.at, turn.time, turn.seat, event, change);
 }
 
 impl<'p> SerialLines<'p> {
@@ -153,7 +155,7 @@ impl<'p> SerialLines<'p> {
         let turn = self.coming(&mut next)?;
         let line = Line {
             time: turn.time,
-            actor: turn.actor,
+            actor: self.actor(&turn),
             event: *self.event(&turn, &next),
         };
         self.go_on(&turn, &next);
@@ -173,17 +175,26 @@ impl<'p> SerialLines<'p> {
         next_turn(self.plan, &self.state, &self.turns, self.came, out)
     }
 
-    /// What the line that comes next says, where it stands in the move by which it is written; its time and its actor are
-    /// those of the turn.
+    /// What the line that comes next says, where it stands in the move by which it is written; its time is that of the turn,
+    /// and its actor the one whose turn it is.
     #[inline(always)]
     pub fn event<'m>(&self, turn: &NextTurn, next: &'m Move) -> &'m Event
         requires { IsComing self.now.plan self.now.came turn.now next.now }
-        ensures { slice_get (serial self.now.plan) self.now.came ≡ Some (record { time = turn.now.time; actor = turn.now.actor; event = result.now }) }
+        ensures { slice_get (serial self.now.plan) self.now.came ≡ Some (record { time = turn.now.time; actor = actor_in self.now.plan turn.now.seat; event = result.now }) }
     {
         let Move::Write(event, _, _) = next else {
             unreachable!();
         };
         event
+    }
+
+    /// The actor whose turn it is.
+    #[inline(always)]
+    pub fn actor(&self, turn: &NextTurn) -> ActorId
+        requires { turn.now.seat < seats self.now.plan }
+        ensures { result ≡ actor_in self.now.plan turn.now.seat }
+    {
+        self.state.actor(self.plan, turn.seat)
     }
 
     /// Goes on by the line that comes next.

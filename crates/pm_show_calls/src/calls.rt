@@ -172,25 +172,21 @@ pub fn failed_writes<R: Threads + Wait + Sync>(
     alloc: Global,
     run: &Run,
 ) -> Result<bool, PlanFault> {
-    let lines = run.end.out.iter().filter(|byte| **byte == b'\n').count();
-    for line in 0..lines {
-        let failing = Failing {
-            write: line as u64 + 1,
-            ..NONE
-        };
+    let mut failing = Failing { write: 1, ..NONE };
+    for lines in 0..run.end.out.len() {
         let end = End {
             status: 5,
-            out: first_lines(run.end.out, line),
+            out: first_lines(run.end.out, lines),
             err: b"write\n",
         };
+        if end.out.len() == run.end.out.len() {
+            break;
+        }
         if !run_ends(rt, alloc, run, failing, PIECE_BYTES, end)? {
             return Ok(false);
         }
+        failing.write = failing.write.saturating_add(1);
     }
-    let failing = Failing {
-        write: (lines as u64).saturating_add(1),
-        ..NONE
-    };
     Ok(run_ends(rt, alloc, run, failing, PIECE_BYTES, run.end)?)
 }
 

@@ -76,16 +76,12 @@ fn line_of(plan: &Plan, text: &str) -> Option<Line>
     Some(line)
 }
 
-/// What is wrong with the line that is told, if there is such a line.
-fn judged(judge: &mut Judge, text: &str) -> Option<Option<Bad>> {
-    let line = line_of(judge.plan(), text)?;
-    Some(judge.judge(&line).err())
-}
-
-/// The same of a book.
-fn taken(book: &mut Book, text: &str) -> Option<Option<TakeFault>> {
-    let line = line_of(book.plan(), text)?;
-    Some(book.take_line(&line).err())
+/// Whether the line of a caller with this text has this event.
+fn is_event_of(plan: &Plan, text: &str, event: Event) -> bool {
+    match line_of(plan, text) {
+        Some(line) => line.event == event,
+        None => false,
+    }
 }
 
 /// Takes the line that the caller may write at this time, if there is one, and tells its event.
@@ -109,7 +105,10 @@ fn take_offered(judge: &mut Judge, time: u64) -> Option<Event> {
 pub fn judge_takes(alloc: Global) -> Result<bool, PlanFault> {
     let mut judge = judge(alloc)?;
     for (text, bad) in &TAKEN {
-        if judged(&mut judge, text) != Some(*bad) {
+        let Some(line) = line_of(judge.plan(), text) else {
+            return Ok(false);
+        };
+        if judge.judge(&line).err() != *bad {
             return Ok(false);
         }
     }
@@ -123,9 +122,13 @@ pub fn judge_offers(alloc: Global) -> Result<bool, PlanFault> {
         return Ok(false);
     }
     for (time, text) in &OFFERED {
-        let line = text.and_then(|text| line_of(judge.plan(), text));
-        let event = line.map(|line| line.event);
-        if event.is_some() != text.is_some() || take_offered(&mut judge, *time) != event {
+        let offered = take_offered(&mut judge, *time);
+        let is_so = match (text, offered) {
+            (Some(text), Some(event)) => is_event_of(judge.plan(), text, event),
+            (None, None) => true,
+            _ => false,
+        };
+        if !is_so {
             return Ok(false);
         }
     }
@@ -136,8 +139,15 @@ pub fn judge_offers(alloc: Global) -> Result<bool, PlanFault> {
 pub fn book_takes(alloc: Global) -> Result<bool, PlanFault> {
     let mut book = book(alloc, DELAY)?;
     for (text, bad) in &TAKEN {
-        let fault = bad.map(TakeFault::from);
-        if taken(&mut book, text) != Some(fault) {
+        let Some(line) = line_of(book.plan(), text) else {
+            return Ok(false);
+        };
+        let is_so = match (book.take_line(&line), bad) {
+            (Ok(()), None) => true,
+            (Err(fault), Some(bad)) => fault == TakeFault::from(*bad),
+            _ => false,
+        };
+        if !is_so {
             return Ok(false);
         }
     }

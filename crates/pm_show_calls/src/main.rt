@@ -59,14 +59,25 @@ fn tell_audits<P: Print>(rt: &P, alloc: Global) -> io::Result<()> {
 
 /// Tells what judges and books take.
 fn tell_judges<P: Print>(rt: &P, alloc: Global) -> io::Result<()> {
-    let takes = word(judge_takes(alloc));
-    println!(rt; "a judge takes a delay's lines, and no other: {takes}")?;
-    let offers = word(judge_offers(alloc));
-    println!(rt; "what a judge offers is taken: {offers}")?;
-    let takes = word(book_takes(alloc));
-    println!(rt; "a book takes a delay's lines, and no other: {takes}")?;
-    let same = word(steps_then_drain(alloc));
-    println!(rt; "seven steps and then one thread come to what one thread does: {same}")
+    let cases = [
+        (
+            "a judge takes a delay's lines, and no other",
+            judge_takes(alloc),
+        ),
+        ("what a judge offers is taken", judge_offers(alloc)),
+        (
+            "a book takes a delay's lines, and no other",
+            book_takes(alloc),
+        ),
+        (
+            "seven steps and then one thread come to what one thread does",
+            steps_then_drain(alloc),
+        ),
+    ];
+    for (shows, case) in cases {
+        println!(rt; "{shows}: {}", word(case))?;
+    }
+    Ok(())
 }
 
 /// Tells how devices stand.

@@ -204,46 +204,26 @@ fn fresh_book(alloc: Global, plan: Plan) -> Result<Book, NoMemory>
     }
 }
 
-/// How the device in this place stands, where the plan has so many.
-fn stand_at(book: &Book, place: usize) -> Option<Inspect> {
-    if place < book.plan().devices.len() {
-        Some(inspect(book, DevId(place as u32)))
-    } else {
-        None
+/// Whether the devices of the plan are so many, and stand so.
+fn stand_so(book: &Book, wanted: &[Inspect]) -> bool {
+    let devices = book.plan().devices.len();
+    let mut are_so = devices == wanted.len();
+    for (place, stand) in wanted.iter().enumerate() {
+        are_so &= place < devices && inspect(book, DevId(place as u32)) == *stand;
     }
+    are_so
 }
 
-/// How the devices stand, of which a plan here has three at most.
-type Stand = [Option<Inspect>; 4];
-
-fn all_stand(book: &Book) -> Stand {
-    [
-        stand_at(book, 0),
-        stand_at(book, 1),
-        stand_at(book, 2),
-        stand_at(book, 3),
-    ]
-}
-
-/// How all devices of the plan stand after its run. It alone owns a book, so that its proof stays small.
-fn stand_after(alloc: Global, plan: Plan) -> Result<Stand, NoMemory> {
+/// Whether the devices of the plan stand so after its run. It alone owns a book, so that its proof stays small.
+fn stand_after(alloc: Global, plan: Plan, wanted: &[Inspect]) -> Result<bool, NoMemory> {
     let mut book = fresh_book(alloc, plan)?;
     fresh_books_have_time();
     drain(&mut book)?;
-    Ok(all_stand(&book))
-}
-
-fn wanted(stand: &[Inspect]) -> Stand {
-    [
-        stand.get(0).copied(),
-        stand.get(1).copied(),
-        stand.get(2).copied(),
-        stand.get(3).copied(),
-    ]
+    Ok(stand_so(&book, wanted))
 }
 
 /// The devices of the plan stand as is told after its run.
 pub fn stands(alloc: Global, cut: &Cut) -> Result<bool, PlanFault> {
     let plan = plan_of(alloc, cut)?;
-    Ok(stand_after(alloc, plan)? == wanted(cut.stand))
+    Ok(stand_after(alloc, plan, cut.stand)?)
 }

@@ -4,7 +4,10 @@
 //! told. Of each it is told how the search ended, how many spots there are by at most 0, 1, .. disturbances, and the text
 //! of what they show, of all or of what differs, or how many marks there are by at most 0, 1, .. disturbances. How many
 //! spots there are at a prompt pace, of the camera, the failing parent and the panel, was counted by another program too.
+//! Behind them a small graph of numbers is searched (`numbers`), and its rounds can be counted by hand.
 #![tactic(auto)]
+
+mod numbers;
 
 use anyhow::Result;
 use pm_base::PLAN_BYTES;
@@ -35,7 +38,7 @@ fn main(rt: HostRuntime) -> Result<()> {
         let told = words.next().unwrap_or("");
         show(&rt, alloc, text.as_slice(), pace, most, limit, told)?;
     }
-    Ok(())
+    numbers::show(&rt, alloc)
 }
 
 fn pace_of(word: &str) -> Pace {
@@ -61,11 +64,7 @@ fn show<R: Print>(
         return Ok(());
     };
     let all = all_outcomes(alloc, &plan, pace, most, limit)?;
-    print!(rt; "{}:", word(all.found.ended))?;
-    for count in all.found.rounds.iter() {
-        print!(rt; " {count}")?;
-    }
-    println!(rt; " spots")?;
+    show_rounds(rt, all.found.ended, all.found.rounds.as_slice(), "spots")?;
     match told {
         "counts" => show_counts(rt, &all),
         _ => show_text(rt, alloc, &plan, &all, told == "differ"),
@@ -96,13 +95,18 @@ fn show_text<R: Print>(
     Ok(())
 }
 
-/// How a search ended.
-fn word(ended: Ended) -> &'static str {
+/// Writes how a search ended, and how many there are by at most 0, 1, .. steps that spend.
+fn show_rounds<R: Print>(rt: &R, ended: Ended, rounds: &[usize], found: &str) -> Result<()> {
     match ended {
-        Ended::Whole => "all",
-        Ended::Rounds => "these rounds",
-        Ended::Stopped(Stop::Full) => "too many spots, rounds",
-        Ended::Stopped(Stop::TooFar) => "too many lines, rounds",
-        Ended::Stopped(Stop::NoMemory) => "no memory, rounds",
+        Ended::Whole => print!(rt; "all:")?,
+        Ended::Rounds => print!(rt; "these rounds:")?,
+        Ended::Stopped(Stop::Full) => print!(rt; "too many {found}, rounds:")?,
+        Ended::Stopped(Stop::TooFar) => print!(rt; "too many lines, rounds:")?,
+        Ended::Stopped(Stop::NoMemory) => print!(rt; "no memory, rounds:")?,
     }
+    for count in rounds {
+        print!(rt; " {count}")?;
+    }
+    println!(rt; " {found}")?;
+    Ok(())
 }

@@ -259,7 +259,10 @@ fn sees(parts: &Parts, plan: &Plan, sight: Sight) -> bool
         }
         MayNotForce(may_not) => parts.may_not_force(BUS) == may_not,
         WasActive(was_active) => parts.was_active(BUS) == was_active,
-        Deadline(at) => parts.timer(CHILD).map(|armed| armed.deadline) == at,
+        Deadline(at) => match parts.timer(CHILD) {
+            Some(armed) => Some(armed.deadline) == at,
+            None => at == None,
+        },
         Expiry(at) => parts.expiry(CHILD) == at,
         AutosuspendAt(at) => parts.autosuspend_at(CHILD) == at,
         Requested(request, queued, deferred) => {

@@ -2,7 +2,7 @@
 
 use pm_base::{DevId, DomId};
 use pm_make::make_plan;
-use pm_model::{CallerRow, Command, Helper, Plan};
+use pm_model::{Command, Helper, Plan};
 use pm_planread::PlanFault;
 use std::alloc::Global;
 
@@ -25,65 +25,64 @@ type Script = (usize, u32, u32, i64);
 
 static SCRIPTS: [Script; 4] = [(0, 4, 25, 8), (1, 5, 10, 3), (2, 6, 41, 8), (3, 7, 61, 4)];
 
-fn has_device(plan: &Plan, device: &Device) -> bool {
-    let (place, parent, suspend_ms, resume_ms, domain) = *device;
-    let row = plan.devices.get(place);
-    row.is_some_and(|row| {
-        (row.parent, row.domain) == (parent, Some(domain))
-            && (row.suspend_ms, row.resume_ms) == (suspend_ms, resume_ms)
-    })
-}
-
-fn has_last_domain(plan: &Plan) -> bool {
-    let row = plan.domains.get(7);
-    row.is_some_and(|row| row.name.as_slice() == b"m7".as_slice() && row.parent == Some(DomId(3)))
+/// The places have these devices.
+fn are_devices(plan: &Plan) -> bool {
+    let mut are_so = true;
+    for (place, parent, suspend_ms, resume_ms, domain) in &DEVICES {
+        let Some(row) = plan.devices.get(*place) else {
+            return false;
+        };
+        are_so &= (row.parent, row.domain) == (*parent, Some(*domain))
+            && (row.suspend_ms, row.resume_ms) == (*suspend_ms, *resume_ms);
+    }
+    are_so
 }
 
 /// Devices and domains.
 fn has_devices(plan: &Plan) -> bool {
+    let Some(last) = plan.domains.get(7) else {
+        return false;
+    };
     (plan.lines, plan.trace) == (200_000, 1)
         && (plan.domains.len(), plan.devices.len()) == (8, 64)
-        && has_last_domain(plan)
-        && DEVICES.iter().all(|device| has_device(plan, device))
+        && last.name.as_slice() == b"m7".as_slice()
+        && last.parent == Some(DomId(3))
+        && are_devices(plan)
 }
 
 /// Links.
 fn has_links(plan: &Plan) -> bool {
     let rows = plan.links.as_slice();
-    let mut pairs = rows.iter().zip(LINKS.iter());
-    rows.len() == LINKS.len() && pairs.all(|(row, pair)| (row.consumer.0, row.supplier.0) == *pair)
-}
-
-fn command(helper: Helper, dev: u32) -> Command {
-    Command {
-        helper,
-        dev: DevId(dev),
-        number: 0,
+    let mut are_so = rows.len() == LINKS.len();
+    for (row, pair) in rows.iter().zip(LINKS.iter()) {
+        are_so &= (row.consumer.0, row.supplier.0) == *pair;
     }
+    are_so
 }
 
-fn number_at(script: &[Command], place: usize) -> Option<i64> {
-    let command = script.get(place)?;
-    Some(command.number)
-}
-
-fn is_script(row: &CallerRow, wanted: &Script) -> bool {
+/// A script of 166 commands has these in its second place, behind its delay, and at its end.
+fn is_script(script: &[Command], wanted: &Script) -> bool {
     let (_, second, last, ms) = *wanted;
-    let script = row.script.as_slice();
+    let (Some(enable), Some(delay), Some(put)) = (script.get(1), script.get(164), script.get(165))
+    else {
+        return false;
+    };
     script.len() == 166
-        && number_at(script, 164) == Some(ms)
-        && script.get(1).copied() == Some(command(Helper::Enable, second))
-        && script.last().copied() == Some(command(Helper::Put, last))
-}
-
-fn has_script(plan: &Plan, wanted: &Script) -> bool {
-    let row = plan.callers.get(wanted.0);
-    row.is_some_and(|row| is_script(row, wanted))
+        && delay.number == ms
+        && (enable.helper, enable.dev, enable.number) == (Helper::Enable, DevId(second), 0)
+        && (put.helper, put.dev, put.number) == (Helper::Put, DevId(last), 0)
 }
 
 /// Scripts.
 fn has_scripts(plan: &Plan) -> bool {
-    plan.callers.len() == 4 && SCRIPTS.iter().all(|wanted| has_script(plan, wanted))
+    let mut are_so = plan.callers.len() == 4;
+    for wanted in &SCRIPTS {
+        let Some(row) = plan.callers.get(wanted.0) else {
+            return false;
+        };
+        are_so &= is_script(row.script.as_slice(), wanted);
+    }
+    are_so
 }
 
 /// Whether the plan has its devices and domains, its links and its scripts.

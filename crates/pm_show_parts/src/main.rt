@@ -109,7 +109,7 @@ fn other_cases<R: Threads + Wait + Clock + Sync>(
         "list, each of a thousand names is found": named::thousand_are_found(alloc);
         "words, words have their numbers": Ok(words::have_numbers());
         "words, numbers have their words": Ok(words::have_words());
-        "words, other words have no number": Ok(words::have_none());
+        "words, other words have no number": Ok(words::are_helpers(&words::OTHERS));
         "generated plan, devices and domains": devices;
         "generated plan, links": links;
         "generated plan, scripts": scripts;

@@ -8,32 +8,32 @@ use std::alloc::Global;
 
 const A: DevId = DevId(0);
 
-fn begin(cb: Cb) -> Event {
-    Event::Begin { dev: A, cb }
-}
+/// A work item begins to resume the device.
+const RESUMES: Line = Line {
+    time: 0,
+    actor: ActorId::Work(0),
+    event: Event::Begin {
+        dev: A,
+        cb: Cb::Resume,
+    },
+};
 
-fn end(cb: Cb) -> Event {
-    let code = 0;
-    Event::End { dev: A, cb, code }
-}
-
-fn line(event: Event) -> Line {
-    Line {
-        time: 0,
-        actor: ActorId::Work(0),
-        event,
-    }
-}
+/// Three callbacks, of which the first is awaited, and one that hasn't ended.
+static LINES: [Line; 8] = list! {
+    RESUMES;
+    Line { event: Event::End { dev: A, cb: Cb::Resume, code: 0 }, ..RESUMES };
+    Line { event: Event::Wait { dev: A }, ..RESUMES };
+    Line { event: Event::Begin { dev: A, cb: Cb::Idle }, ..RESUMES };
+    Line { event: Event::End { dev: A, cb: Cb::Idle, code: 0 }, ..RESUMES };
+    Line { event: Event::Begin { dev: A, cb: Cb::Suspend }, ..RESUMES };
+    Line { event: Event::End { dev: A, cb: Cb::Suspend, code: 0 }, ..RESUMES };
+    RESUMES;
+};
 
 /// Begins are counted.
 pub fn begins_are_counted(alloc: Global) -> Result<bool, PlanFault> {
     let plan = read_plan(alloc, b"device = [{name = 'a'}]")?;
-    let lines = list! {
-        line(begin(Cb::Resume)); line(end(Cb::Resume)); line(Event::Wait { dev: A });
-        line(begin(Cb::Idle)); line(end(Cb::Idle)); line(begin(Cb::Suspend));
-        line(end(Cb::Suspend)); line(begin(Cb::Resume));
-    };
-    let text = summary_text(alloc, &summary(&plan, &lines, false))?;
+    let text = summary_text(alloc, &summary(&plan, &LINES, false))?;
     Ok(text.as_slice() == b"devices 1 lines 8 resumes 2 suspends 1 idles 1 limit\n".as_slice())
 }
 

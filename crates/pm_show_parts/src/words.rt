@@ -3,21 +3,32 @@
 use pm_names::{cb_words, events, helpers, req_words, status_words};
 
 /// Helpers with their numbers.
-static NUMBERS: [(&[u8], usize); 12] = list! {
-    (b"get_sync", 0); (b"resume", 5); (b"put", 7); (b"idle", 13); (b"suspend", 15);
-    (b"enable", 19); (b"set_active", 22); (b"mark_last_busy", 26); (b"delay", 30);
-    (b"ignore_children", 31); (b"link_add", 32); (b"link_del", 33);
+static NUMBERS: [(&[u8], Option<usize>); 12] = list! {
+    (b"get_sync", Some(0)); (b"resume", Some(5)); (b"put", Some(7)); (b"idle", Some(13));
+    (b"suspend", Some(15)); (b"enable", Some(19)); (b"set_active", Some(22));
+    (b"mark_last_busy", Some(26)); (b"delay", Some(30)); (b"ignore_children", Some(31));
+    (b"link_add", Some(32)); (b"link_del", Some(33));
 };
 
 /// No helpers.
-static OTHERS: [&[u8]; 7] = [b"", b"ge", b"gets", b"get\0", b"Get", b" get", b"pm_call"];
+pub static OTHERS: [(&[u8], Option<usize>); 7] = list! {
+    (b"", None); (b"ge", None); (b"gets", None); (b"get\0", None); (b"Get", None); (b" get", None);
+    (b"pm_call", None);
+};
+
+/// Words have these numbers as helpers, or none.
+pub fn are_helpers(rows: &[(&[u8], Option<usize>)]) -> bool {
+    let table = helpers();
+    let mut is_shown = true;
+    for (word, number) in rows {
+        is_shown &= table.number_of(*word) == *number;
+    }
+    is_shown
+}
 
 /// Words have their numbers.
 pub fn have_numbers() -> bool {
-    let table = helpers();
-    NUMBERS
-        .iter()
-        .all(|(word, number)| table.number_of(*word) == Some(*number))
+    are_helpers(&NUMBERS)
         && events().number_of(b"rpm_return_int") == Some(8)
         && status_words().number_of(b"deferred") == Some(3)
         && req_words().number_of(b"none") == Some(0)
@@ -28,10 +39,4 @@ pub fn have_numbers() -> bool {
 pub fn have_words() -> bool {
     helpers().name_of(29) == b"set_autosuspend_delay".as_slice()
         && events().name_of(14) == b"pm_timer".as_slice()
-}
-
-/// Other words have no number.
-pub fn have_none() -> bool {
-    let table = helpers();
-    OTHERS.iter().all(|word| table.number_of(*word).is_none())
 }

@@ -1,12 +1,12 @@
 //! A case of `pm_account`: a run without lines.
 
 use crate::plans::TWO;
-use crate::told::{Case, NotTried, one};
+use crate::told::{Case, Told};
 use pm_account::{Times, account};
-use pm_planread::read_plan;
+use pm_planread::{PlanFault, read_plan};
 use std::alloc::Global;
 
-pub fn cases(alloc: Global) -> Result<Vec<Case>, NotTried> {
+pub fn cases(alloc: Global) -> Result<Vec<Case>, PlanFault> {
     let plan = read_plan(alloc, TWO)?;
     let times = account(alloc, &plan, &[])?;
     let none = Times {
@@ -14,7 +14,7 @@ pub fn cases(alloc: Global) -> Result<Vec<Case>, NotTried> {
         suspended: 0,
         moving: 0,
     };
-    let told = one(times.as_slice() == [none, none].as_slice());
+    let told = Told::One(times.as_slice() == [none, none].as_slice());
     let cases = [("before any line no time has passed", told)];
     Ok(Vec::from_slice(alloc, &cases)?)
 }

@@ -16,17 +16,16 @@ mod told;
 mod words;
 
 use pm_io::{DiskFiles, StdErr, StdOut};
+use pm_planread::PlanFault;
 use std::io;
 use std::io::Print;
-use told::{Case, NotTried};
+use told::Case;
 
 fn main(rt: HostRuntime) -> io::Result<()> {
     let alloc = rt.alloc();
     let mut files = DiskFiles::new(&rt);
     tell(&rt, spelling::cases(alloc))?;
-    tell(&rt, reading::few_cases(alloc, &mut files))?;
-    tell(&rt, reading::alike_cases(alloc, &mut files))?;
-    tell(&rt, reading::lacking_cases(alloc, &mut files))?;
+    tell(&rt, reading::cases(alloc, &mut files))?;
     tell(&rt, scripts::cases(alloc))?;
     tell(&rt, planning::cases(alloc, &mut files))?;
     tell(&rt, words::cases(alloc, &mut files))?;
@@ -39,7 +38,7 @@ fn main(rt: HostRuntime) -> io::Result<()> {
 }
 
 /// A line for each case.
-fn tell<R: Print>(rt: &R, tried: Result<Vec<Case>, NotTried>) -> io::Result<()> {
+fn tell<R: Print>(rt: &R, tried: Result<Vec<Case>, PlanFault>) -> io::Result<()> {
     match tried {
         Ok(cases) => {
             for (shows, told) in &cases {
@@ -47,6 +46,6 @@ fn tell<R: Print>(rt: &R, tried: Result<Vec<Case>, NotTried>) -> io::Result<()> 
             }
             Ok(())
         }
-        Err(NotTried) => println!(rt; "cases weren't tried, for want of memory, a plan or a file"),
+        Err(_) => println!(rt; "cases weren't tried, for want of memory, a plan or a file"),
     }
 }

@@ -3,89 +3,43 @@
 use crate::lines::{LARGEST, SMALLEST};
 use crate::plans::{ALIKE, EMPTY, FEW, NO_CALLER, NO_DEVICE};
 use crate::rows::{stored, two_words};
-use crate::spelling::comes_back;
-use crate::told::{Case, NotTried, Told, lines, rows};
+use crate::spelling::{come_back, comes_back};
+use crate::told::{Case, Told};
 use pm_base::ActorId;
 use pm_io::Files;
 use pm_lineread::{Finders, line_start, read_line2, time_start};
 use pm_model::Plan;
-use pm_planread::read_plan;
+use pm_planread::{PlanFault, read_plan};
 use std::alloc::Global;
 
-/// Over devices and callers of a short name and of the longest.
-pub fn few_cases<F: Files>(alloc: Global, files: &mut F) -> Result<Vec<Case>, NotTried> {
-    let near = stored(alloc, files, "few.faults")?;
-    let last_bytes = stored(alloc, files, "last_bytes.list")?;
-    let plan = read_plan(alloc, FEW)?;
-    cases_over_few(alloc, &plan, near.as_str(), last_bytes.as_str())
-}
-
-fn cases_over_few(
-    alloc: Global,
-    plan: &Plan,
-    near: &str,
-    last_bytes: &str,
-) -> Result<Vec<Case>, NotTried> {
-    let smallest = rows(&SMALLEST, |row| comes_back(alloc, plan, row.0))?;
-    let largest = rows(&LARGEST, |row| comes_back(alloc, plan, row.0))?;
-    let near = lines(near, |row| Ok(is_fault_row(plan, row)))?;
-    let unseen = rows(&UNSEEN, |row| Ok(has_fault(plan, 0, row.0, Some(row.1))))?;
-    let last_bytes = lines(last_bytes, |row| loses_and_doubles(alloc, plan, row))?;
-    let times = rows(&TIMES, |row| Ok(has_time(row.0, row.1, row.2)))?;
-    let cases = [
-        ("the smallest texts come back", smallest),
-        ("the largest texts come back", largest),
-        ("bytes near a text have their faults", near),
-        ("so have bytes that aren't seen", unseen),
-        (
-            "fronts of texts say time and actor",
-            have_starts(alloc, plan, &STARTS)?,
-        ),
-        ("texts lose and double their last byte", last_bytes),
-        ("fronts of texts say their time", times),
-    ];
-    Ok(Vec::from_slice(alloc, &cases)?)
-}
-
-/// Over names that begin as others do.
-pub fn alike_cases<F: Files>(alloc: Global, files: &mut F) -> Result<Vec<Case>, NotTried> {
-    let faults = stored(alloc, files, "alike.faults")?;
-    let plan = read_plan(alloc, ALIKE)?;
-    cases_over_alike(alloc, &plan, faults.as_str())
-}
-
-fn cases_over_alike(alloc: Global, plan: &Plan, faults: &str) -> Result<Vec<Case>, NotTried> {
-    let faults = lines(faults, |row| Ok(is_fault_row(plan, row)))?;
-    let starts = have_starts(alloc, plan, &WHOLE_STARTS)?;
-    let cases = [
-        ("names are read whole", faults),
-        ("the names of actors are read whole", starts),
-    ];
-    Ok(Vec::from_slice(alloc, &cases)?)
-}
-
-/// Over plans that lack something.
-pub fn lacking_cases<F: Files>(alloc: Global, files: &mut F) -> Result<Vec<Case>, NotTried> {
+/// Over devices and callers of a short name and of the longest, over names that begin as others do, and over plans
+/// that lack something.
+pub fn cases<F: Files>(alloc: Global, files: &mut F) -> Result<Vec<Case>, PlanFault> {
+    let smallest = come_back(alloc, FEW, &SMALLEST)?;
+    let largest = come_back(alloc, FEW, &LARGEST)?;
+    let near = faults_over(alloc, FEW, files, "few.faults")?;
+    let starts = have_starts(alloc, FEW, &STARTS)?;
+    let last_bytes = lose_and_double(alloc, files)?;
+    let whole = faults_over(alloc, ALIKE, files, "alike.faults")?;
+    let actors = have_starts(alloc, ALIKE, &WHOLE_STARTS)?;
     let no_device = faults_over(alloc, NO_DEVICE, files, "no_device.faults")?;
     let no_caller = faults_over(alloc, NO_CALLER, files, "no_caller.faults")?;
     let no_actor = faults_over(alloc, EMPTY, files, "empty.faults")?;
     let cases = [
+        ("the smallest texts come back", smallest),
+        ("the largest texts come back", largest),
+        ("bytes near a text have their faults", near),
+        ("so have bytes that aren't seen", unseen(alloc)?),
+        ("fronts of texts say time and actor", starts),
+        ("texts lose and double their last byte", last_bytes),
+        ("fronts of texts say their time", have_times()),
+        ("names are read whole", whole),
+        ("the names of actors are read whole", actors),
         ("bytes have their faults over no device", no_device),
         ("bytes have their faults over no caller", no_caller),
         ("bytes have their faults over no actor", no_actor),
     ];
     Ok(Vec::from_slice(alloc, &cases)?)
-}
-
-fn faults_over<F: Files>(
-    alloc: Global,
-    plan: &[u8],
-    files: &mut F,
-    name: &str,
-) -> Result<Told, NotTried> {
-    let faults = stored(alloc, files, name)?;
-    let plan = read_plan(alloc, plan)?;
-    lines(faults.as_str(), |row| Ok(is_fault_row(&plan, row)))
 }
 
 /// Behind a line of that time the bytes have their fault there, or are a text.
@@ -111,6 +65,24 @@ fn is_fault_row(plan: &Plan, row: &str) -> bool {
     }
 }
 
+/// The rows of this file have their faults over the plan of this text.
+fn faults_over<F: Files>(
+    alloc: Global,
+    plan: &[u8],
+    files: &mut F,
+    name: &str,
+) -> Result<Told, PlanFault> {
+    let rows = stored(alloc, files, name)?;
+    let plan = read_plan(alloc, plan)?;
+    let mut told = Told::All(0);
+    for row in rows.lines() {
+        if !row.starts_with('#') {
+            told.note(is_fault_row(&plan, row));
+        }
+    }
+    Ok(told)
+}
+
 /// Bytes near a text, and where their fault is.
 static UNSEEN: [(&[u8], usize); 5] = [
     (b"0 c pm_call: enable a\r", 21),
@@ -120,9 +92,18 @@ static UNSEEN: [(&[u8], usize); 5] = [
     (b"0 c pm_wait: a\0", 14),
 ];
 
-/// Each text comes back, and is or isn't a text without its last byte and with that byte twice. A row says
-/// `yes` or `no` of both, and then the text.
-fn loses_and_doubles(alloc: Global, plan: &Plan, row: &str) -> Result<bool, NotTried> {
+fn unseen(alloc: Global) -> Result<Told, PlanFault> {
+    let plan = read_plan(alloc, FEW)?;
+    let mut told = Told::All(0);
+    for (bytes, at) in &UNSEEN {
+        told.note(has_fault(&plan, 0, *bytes, Some(*at)));
+    }
+    Ok(told)
+}
+
+/// The text comes back, and is or isn't a text without its last byte and with that byte twice. A row says `yes` or
+/// `no` of both, and then the text.
+fn loses_and_doubles(alloc: Global, plan: &Plan, row: &str) -> Result<bool, PlanFault> {
     let Some((cut, doubled, text)) = two_words(row) else {
         return Ok(false);
     };
@@ -141,6 +122,18 @@ fn fault_unless(is_text: &str, at: usize) -> Option<usize> {
     if is_text == "yes" { None } else { Some(at) }
 }
 
+fn lose_and_double<F: Files>(alloc: Global, files: &mut F) -> Result<Told, PlanFault> {
+    let rows = stored(alloc, files, "last_bytes.list")?;
+    let plan = read_plan(alloc, FEW)?;
+    let mut told = Told::All(0);
+    for row in rows.lines() {
+        if !row.starts_with('#') {
+            told.note(loses_and_doubles(alloc, &plan, row)?);
+        }
+    }
+    Ok(told)
+}
+
 /// A time, bytes behind a line of that time, and the time and the actor that their front says, or nothing.
 type Start = (u64, &'static [u8], Option<(u64, ActorId)>);
 
@@ -153,14 +146,14 @@ macro_rules! start {
     };
 }
 
-fn have_starts(alloc: Global, plan: &Plan, table: &[Start]) -> Result<Told, NotTried> {
-    let finders = Finders::new(alloc, plan)?;
-    rows(table, |row| Ok(has_start(plan, &finders, row)))
-}
-
-fn has_start(plan: &Plan, finders: &Finders, row: &Start) -> bool {
-    let (base, bytes, start) = *row;
-    base < 1 << 63 && line_start(plan, finders, base, bytes) == start
+fn have_starts(alloc: Global, plan: &[u8], table: &[Start]) -> Result<Told, PlanFault> {
+    let plan = read_plan(alloc, plan)?;
+    let finders = Finders::new(alloc, &plan)?;
+    let mut told = Told::All(0);
+    for (base, bytes, start) in table {
+        told.note(*base < 1 << 63 && line_start(&plan, &finders, *base, *bytes) == *start);
+    }
+    Ok(told)
 }
 
 /// Each kind of actor in format 1 and behind a line, and bytes that begin otherwise.
@@ -196,10 +189,6 @@ static WHOLE_STARTS: [Start; 6] = [
     start!(0, b"0 timer-1.1 pm_wait: 1-1"),
 ];
 
-fn has_time(base: u64, bytes: &[u8], start: Option<(u64, &[u8])>) -> bool {
-    base < 1 << 63 && time_start(base, bytes) == start
-}
-
 /// A time, bytes behind a line of that time, and the time that their front says and what is behind it.
 static TIMES: [(u64, &[u8], Option<(u64, &[u8])>); 8] = [
     (0, b"0 c pm_wait: a", Some((0, b"c pm_wait: a"))),
@@ -215,3 +204,11 @@ static TIMES: [(u64, &[u8], Option<(u64, &[u8])>); 8] = [
     (0, b"07 c", None),
     (0, b" c", None),
 ];
+
+fn have_times() -> Told {
+    let mut told = Told::All(0);
+    for (base, bytes, start) in &TIMES {
+        told.note(*base < 1 << 63 && time_start(*base, *bytes) == *start);
+    }
+    told
+}

@@ -1,33 +1,43 @@
 //! Cases of `pm_script`: commands over the devices a, b, delay and on.
 
 use crate::plans::WORDS;
-use crate::told::{Case, NotTried, rows};
+use crate::told::{Case, Told};
 use pm_base::DevId;
 use pm_model::{Command, Helper, Plan};
-use pm_planread::read_plan;
+use pm_planread::{PlanFault, read_plan};
 use pm_script::{ScriptFault, read_command, read_command_of};
 use std::alloc::Global;
 
-pub fn cases(alloc: Global) -> Result<Vec<Case>, NotTried> {
+pub fn cases(alloc: Global) -> Result<Vec<Case>, PlanFault> {
     let plan = read_plan(alloc, WORDS)?;
-    let read = rows(&READ, |row| Ok(is_read(&plan, row)))?;
-    let refused = rows(&REFUSED, |row| Ok(read_command(row.0, &plan) == Err(row.1)))?;
     let cases = [
-        ("commands are read", read),
-        ("other commands are refused", refused),
+        ("commands are read", are_read(&plan)),
+        ("other commands are refused", are_refused(&plan)),
     ];
     Ok(Vec::from_slice(alloc, &cases)?)
 }
 
-/// The command is read over a plan and over its devices.
-fn is_read(plan: &Plan, row: &Read) -> bool {
-    let (text, helper, dev, number) = *row;
-    let wanted = Ok(Command {
-        helper,
-        dev: DevId(dev),
-        number,
-    });
-    read_command(text, plan) == wanted && read_command_of(text, &plan.devices, None) == wanted
+/// Each command is read over a plan and over its devices.
+fn are_read(plan: &Plan) -> Told {
+    let mut told = Told::All(0);
+    for (text, helper, dev, number) in &READ {
+        let wanted = Ok(Command {
+            helper: *helper,
+            dev: DevId(*dev),
+            number: *number,
+        });
+        let is_read = read_command(*text, plan) == wanted;
+        told.note(is_read && read_command_of(*text, &plan.devices, None) == wanted);
+    }
+    told
+}
+
+fn are_refused(plan: &Plan) -> Told {
+    let mut told = Told::All(0);
+    for (text, fault) in &REFUSED {
+        told.note(read_command(*text, plan) == Err(*fault));
+    }
+    told
 }
 
 /// A text, and the helper, device and number of its command.

@@ -7,7 +7,7 @@ ghost use Rattle.pm_model.specs.LineOf.{is_line};
 
 use crate::lines::{LARGEST, LONGEST, LONGEST_SHORT, RUN, SMALLEST, Spelled, TIMED};
 use crate::plans::TWO;
-use crate::told::{Case, NotTried, Told, one, rows};
+use crate::told::{Case, Told};
 use pm_base::{ActorId, Cb, LINE_BYTES, Req};
 use pm_lineread::{read_line, read_line2};
 use pm_linetext::{
@@ -16,28 +16,29 @@ use pm_linetext::{
     takes_device, write_line, write_line2,
 };
 use pm_model::{Helper, Line, Operand, Plan, Word};
-use pm_planread::read_plan;
+use pm_planread::{PlanFault, read_plan};
 use std::alloc::Global;
 
 /// The time of the line before the longest one of a run.
 const BEFORE: u64 = 9223372036854775806;
 
-pub fn cases(alloc: Global) -> Result<Vec<Case>, NotTried> {
+pub fn cases(alloc: Global) -> Result<Vec<Case>, PlanFault> {
     let plan = read_plan(alloc, TWO)?;
     cases_over(alloc, &plan)
 }
 
-fn cases_over(alloc: Global, plan: &Plan) -> Result<Vec<Case>, NotTried> {
-    let run = rows(&RUN, |row| is_spelled(alloc, plan, row))?;
-    let smallest = rows(&SMALLEST, |row| is_spelled(alloc, plan, row))?;
-    let largest = rows(&LARGEST, |row| is_spelled(alloc, plan, row))?;
+fn cases_over(alloc: Global, plan: &Plan) -> Result<Vec<Case>, PlanFault> {
+    let run = are_spelled(alloc, plan, &RUN)?;
+    let smallest = are_spelled(alloc, plan, &SMALLEST)?;
+    let largest = are_spelled(alloc, plan, &LARGEST)?;
+    let [longest, in_place] = longest(alloc, plan)?;
     let cases = [
         ("the lines of a run have their texts", run),
         ("the smallest lines have their texts", smallest),
         ("the largest lines have their texts", largest),
         ("lines of format 2 have theirs", are_timed(alloc, plan)?),
-        ("the longest have 162 and 177 bytes", longest(alloc, plan)?),
-        ("a speller spells in place", speller_spells(alloc, plan)?),
+        ("the longest have 162 and 177 bytes", longest),
+        ("a speller spells in place", in_place),
         ("names at hand spell in place", names_spell(alloc, plan)?),
         ("words name what stands at their place", words_name()),
     ];
@@ -45,7 +46,7 @@ fn cases_over(alloc: Global, plan: &Plan) -> Result<Vec<Case>, NotTried> {
 }
 
 /// A text is read, and the line that is read has this text.
-pub fn comes_back(alloc: Global, plan: &Plan, bytes: &[u8]) -> Result<bool, NotTried> {
+pub fn comes_back(alloc: Global, plan: &Plan, bytes: &[u8]) -> Result<bool, PlanFault> {
     let Ok(line) = read_line(plan, bytes) else {
         return Ok(false);
     };
@@ -54,46 +55,61 @@ pub fn comes_back(alloc: Global, plan: &Plan, bytes: &[u8]) -> Result<bool, NotT
     Ok(text.as_slice() == bytes)
 }
 
-/// The line has this text in format 1.
-fn is_spelled(alloc: Global, plan: &Plan, row: &Spelled) -> Result<bool, NotTried> {
-    let (bytes, line) = *row;
-    Ok(read_line(plan, bytes) == Ok(line) && comes_back(alloc, plan, bytes)?)
+/// Each text comes back over the plan of this text.
+pub fn come_back(alloc: Global, plan: &[u8], table: &[Spelled]) -> Result<Told, PlanFault> {
+    let plan = read_plan(alloc, plan)?;
+    let mut told = Told::All(0);
+    for (bytes, _) in table {
+        told.note(comes_back(alloc, &plan, *bytes)?);
+    }
+    Ok(told)
 }
 
-/// The line that has this text in format 2 behind a line of that time, or nothing.
-fn timed(alloc: Global, plan: &Plan, base: u64, bytes: &[u8]) -> Result<Option<Line>, NotTried> {
+/// Each line has its text in format 1.
+fn are_spelled(alloc: Global, plan: &Plan, table: &[Spelled]) -> Result<Told, PlanFault> {
+    let mut told = Told::All(0);
+    for (bytes, line) in table {
+        told.note(read_line(plan, *bytes) == Ok(*line) && comes_back(alloc, plan, *bytes)?);
+    }
+    Ok(told)
+}
+
+/// The line has this text in format 2 behind a line of that time.
+fn is_timed(
+    alloc: Global,
+    plan: &Plan,
+    base: u64,
+    bytes: &[u8],
+    wanted: &Line,
+) -> Result<bool, PlanFault> {
     if base >= 1 << 63 {
-        return Ok(None);
+        return Ok(false);
     }
     let Ok(line) = read_line2(plan, base, bytes) else {
-        return Ok(None);
+        return Ok(false);
     };
     let mut text = Vec::new(alloc);
     write_line2(alloc, plan, base, &line, &mut text)?;
-    Ok(if text.as_slice() == bytes {
-        Some(line)
-    } else {
-        None
-    })
+    Ok(text.as_slice() == bytes && line == *wanted)
 }
 
 /// Each text has the time since the line before.
-fn are_timed(alloc: Global, plan: &Plan) -> Result<Told, NotTried> {
+fn are_timed(alloc: Global, plan: &Plan) -> Result<Told, PlanFault> {
+    let mut told = Told::All(0);
     let mut base = 0;
-    for (place, (bytes, line)) in TIMED.iter().enumerate() {
-        if timed(alloc, plan, base, *bytes)? != Some(*line) {
-            return Ok(Told::NotAt(place.saturating_add(1)));
-        }
+    for (bytes, line) in &TIMED {
+        told.note(is_timed(alloc, plan, base, *bytes, line)?);
         base = line.time;
     }
-    Ok(Told::All(TIMED.len()))
+    Ok(told)
 }
 
-/// The lengths of both texts, and that the shorter takes no more room than it is to have.
-fn longest(alloc: Global, plan: &Plan) -> Result<Told, NotTried> {
+/// The lengths of the texts of both longest lines, that the shorter takes no more room than it is to have, and that
+/// a speller spells them in place.
+fn longest(alloc: Global, plan: &Plan) -> Result<[Told; 2], PlanFault> {
     let (bytes, wanted) = LONGEST_SHORT;
     let (Ok(line), Ok(short)) = (read_line(plan, LONGEST), read_line2(plan, BEFORE, bytes)) else {
-        return Ok(Told::No);
+        return Ok([Told::One(false), Told::One(false)]);
     };
     let mut text = Vec::with_capacity(alloc, LINE_BYTES)?;
     write_line(alloc, plan, &short, &mut text)?;
@@ -101,21 +117,14 @@ fn longest(alloc: Global, plan: &Plan) -> Result<Told, NotTried> {
     text.clear();
     write_line(alloc, plan, &line, &mut text)?;
     let lengths = [short_len, capacity, text.len()];
-    Ok(one(short == wanted && lengths == [162, 162, 177]))
-}
-
-fn speller_spells(alloc: Global, plan: &Plan) -> Result<Told, NotTried> {
-    let (bytes, _) = LONGEST_SHORT;
-    let (Ok(line), Ok(short)) = (read_line(plan, LONGEST), read_line2(plan, BEFORE, bytes)) else {
-        return Ok(Told::No);
-    };
     let speller = LineSpeller::new(alloc, plan)?;
-    let mut text = TimedText::new();
-    speller.spell_line(&line, &mut text);
-    let length = text.as_slice().len();
-    speller.spell_line2(BEFORE, &short, &mut text);
-    let is_short = text.as_slice().strip_suffix(b"\n") == Some(bytes);
-    Ok(one(length == 178 && is_short))
+    let mut in_place = TimedText::new();
+    speller.spell_line(&line, &mut in_place);
+    let length = in_place.as_slice().len();
+    speller.spell_line2(BEFORE, &short, &mut in_place);
+    let is_short = in_place.as_slice().strip_suffix(b"\n") == Some(bytes);
+    let are_long = short == wanted && lengths == [162, 162, 177];
+    Ok([Told::One(are_long), Told::One(length == 178 && is_short)])
 }
 
 /// Puts the text of the line by the names, with this time in place of its own.
@@ -127,10 +136,10 @@ fn named(names: &NamesAtHand, time: u64, line: &Line, text: &mut TimedText)
     names.end_line(&line.event, text);
 }
 
-fn names_spell(alloc: Global, plan: &Plan) -> Result<Told, NotTried> {
+fn names_spell(alloc: Global, plan: &Plan) -> Result<Told, PlanFault> {
     let (bytes, wanted) = TIMED[4];
     let (Ok(line), Ok(fire)) = (read_line(plan, LONGEST), read_line2(plan, 9, bytes)) else {
-        return Ok(Told::No);
+        return Ok(Told::One(false));
     };
     let names = NamesAtHand::new(alloc, plan)?;
     let mut text = TimedText::new();
@@ -146,7 +155,7 @@ fn names_spell(alloc: Global, plan: &Plan) -> Result<Told, NotTried> {
         && names.has_actor(ActorId::Work(1))
         && !names.has_actor(ActorId::Timer(2));
     let spells = fire == wanted && length == 178 && at_ten && at_one;
-    Ok(one(spells && has_actors))
+    Ok(Told::One(spells && has_actors))
 }
 
 fn words_name() -> Told {
@@ -172,7 +181,7 @@ fn words_name() -> Told {
         req_place(Req::Resume),
         cb_place(Cb::Suspend),
     );
-    one(
+    Told::One(
         helpers
             == (
                 Some(Helper::SetAutosuspendDelay),

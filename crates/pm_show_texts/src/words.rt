@@ -1,29 +1,50 @@
 //! Cases of the words that name commands.
 
 use crate::rows::stored;
-use crate::told::{Case, NotTried, lines, rows};
+use crate::told::{Case, Told};
 use pm_cmd_ends::{Request, read_words};
 use pm_io::Files;
+use pm_planread::PlanFault;
 use std::alloc::Global;
 
-pub fn cases<F: Files>(alloc: Global, files: &mut F) -> Result<Vec<Case>, NotTried> {
+pub fn cases<F: Files>(alloc: Global, files: &mut F) -> Result<Vec<Case>, PlanFault> {
     let refused = stored(alloc, files, "words.refused")?;
-    let named = rows(&NAMED, |row| is_read(alloc, row.0, Some(row.1)))?;
-    let refused = lines(refused.as_str(), |row| is_read(alloc, row, None))?;
     let cases = [
-        ("the words of each command are read", named),
-        ("other words are none of the commands", refused),
+        ("the words of each command are read", are_read(alloc)?),
+        (
+            "other words are none of the commands",
+            are_refused(alloc, refused.as_str())?,
+        ),
     ];
     Ok(Vec::from_slice(alloc, &cases)?)
 }
 
 /// Whether these words name that, or nothing.
-fn is_read(alloc: Global, line: &str, named: Option<Request<'_>>) -> Result<bool, NotTried> {
+fn is_read(alloc: Global, line: &str, named: Option<Request<'_>>) -> Result<bool, PlanFault> {
     let mut words = Vec::new(alloc);
     for word in line.split_whitespace() {
         words.push(String::from_str(alloc, word)?)?;
     }
     Ok(read_words(&words) == named)
+}
+
+fn are_read(alloc: Global) -> Result<Told, PlanFault> {
+    let mut told = Told::All(0);
+    for (line, named) in &NAMED {
+        told.note(is_read(alloc, *line, Some(*named))?);
+    }
+    Ok(told)
+}
+
+/// The words of each line name nothing.
+fn are_refused(alloc: Global, lines: &str) -> Result<Told, PlanFault> {
+    let mut told = Told::All(0);
+    for line in lines.lines() {
+        if !line.starts_with('#') {
+            told.note(is_read(alloc, line, None)?);
+        }
+    }
+    Ok(told)
 }
 
 macro_rules! named {

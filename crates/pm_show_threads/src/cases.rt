@@ -7,7 +7,7 @@ use crate::plans::{APART, CUT, TIED, TIMED};
 use pm_base::DevId;
 use pm_book::Book;
 use pm_cmd_top::{finished, gather, locked_parts, run_islands};
-use pm_gate::{Gate, Meet, Quiet, Ticker};
+use pm_gate::{Clock, Gate, Meet, Quiet, Ticker};
 use pm_hands::run_hands;
 use pm_islands::islands;
 use pm_model::{Line, Plan};
@@ -24,18 +24,18 @@ pub fn ticker(alloc: Global) -> Result<Ticker, AllocError> {
 }
 
 /// The lines that a plan's islands come to by this many hands.
-fn lines_by<R: Threads + Wait + Sync, G: Gate + Sync>(
+pub fn lines_by<R: Threads + Wait + Sync, C: Clock + Sync, G: Gate + Sync>(
     rt: &R,
     alloc: Global,
     plan: &Plan,
     hands: u32,
+    clock: &C,
     gate: &G,
 ) -> Result<Option<Vec<Line>>, PlanFault>
     requires some { 1 ≤ hands }
     requires few { hands ≤ 16 }
 {
-    let clock = ticker(alloc)?;
-    let books = run_islands(rt, alloc, plan, hands, &clock, gate)?;
+    let books = run_islands(rt, alloc, plan, hands, clock, gate)?;
     Ok(gather(alloc, plan, books)?)
 }
 
@@ -44,7 +44,7 @@ fn lines_by<R: Threads + Wait + Sync, G: Gate + Sync>(
 pub fn hands_meet<R: Threads + Wait + Sync>(rt: &R, alloc: Global) -> Result<bool, PlanFault> {
     let plan = read_plan(alloc, TIED)?;
     let meet = Meet::new(DevId(0), DevId(1));
-    let lines = lines_by(rt, alloc, &plan, 2, &meet)?;
+    let lines = lines_by(rt, alloc, &plan, 2, &ticker(alloc)?, &meet)?;
     Ok(islands(&plan) == 1 && lines.is_some() && meet.met())
 }
 
@@ -59,7 +59,7 @@ pub fn counts_callbacks<R: Threads + Wait + Sync>(
 {
     let plan = read_plan(alloc, TIMED)?;
     let gate = Counting::new();
-    let Some(lines) = lines_by(rt, alloc, &plan, hands, &gate)? else {
+    let Some(lines) = lines_by(rt, alloc, &plan, hands, &ticker(alloc)?, &gate)? else {
         return Ok(false);
     };
     let begun = begun(&lines);
@@ -108,8 +108,10 @@ pub fn empty_plan_is_finished<R: Threads + Wait + Sync>(
     alloc: Global,
 ) -> Result<bool, PlanFault> {
     let plan = read_plan(alloc, b"")?;
-    let lines = lines_by(rt, alloc, &plan, 16, &Quiet)?;
-    Ok(lines.is_some_and(|lines| lines.is_empty()))
+    match lines_by(rt, alloc, &plan, 16, &ticker(alloc)?, &Quiet)? {
+        Some(lines) => Ok(lines.is_empty()),
+        None => Ok(false),
+    }
 }
 
 /// The queue of hints has one place, in which stands a hint of no island: each that a hand tells is lost
@@ -136,7 +138,7 @@ pub fn cut_merge_is_none<R: Threads + Wait + Sync>(
     alloc: Global,
 ) -> Result<bool, PlanFault> {
     let plan = read_plan(alloc, CUT)?;
-    Ok(lines_by(rt, alloc, &plan, 2, &Quiet)?.is_none())
+    Ok(lines_by(rt, alloc, &plan, 2, &ticker(alloc)?, &Quiet)?.is_none())
 }
 
 /// What comes from behind a lock as a book of another plan is finished as one of this plan.

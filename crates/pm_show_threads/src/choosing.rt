@@ -2,15 +2,15 @@
 
 ghost use Rattle.std.specs.Prelude.{◌≤◌};
 
+use crate::cases::lines_by;
 use crate::counting::begun;
 use crate::plans::{ASKS, LATER, TIMED, TWICE};
 use crate::resting::{Resting, Silent};
-use crate::written::desk;
+use crate::written::{Way, written};
 use pm_audit::load_trace;
 use pm_base::ActorId;
-use pm_cmd_top::{gather, run_islands};
-use pm_gate::{Clock, Quiet, Stopwatch, Ticker};
-use pm_model::{Event, Helper, Line, Plan};
+use pm_gate::{Quiet, Stopwatch, Ticker};
+use pm_model::{Event, Helper, Line};
 use pm_planread::{PlanFault, read_plan};
 use std::alloc::Global;
 use std::sync::Wait;
@@ -23,125 +23,64 @@ const RUNS: u64 = 50;
 /// Desks of one plan.
 const DESKS: u32 = 20;
 
-/// The lines that a plan's islands come to by this many hands.
-fn lines_by<R: Threads + Wait + Sync, C: Clock + Sync>(
-    rt: &R,
-    alloc: Global,
-    plan: &Plan,
-    hands: u32,
-    clock: &C,
-) -> Result<Option<Vec<Line>>, PlanFault>
-    requires some { 1 ≤ hands }
-    requires few { hands ≤ 16 }
-{
-    let books = run_islands(rt, alloc, plan, hands, clock, &Quiet)?;
-    Ok(gather(alloc, plan, books)?)
+/// What the first return of a run may show, or not.
+#[derive(Clone, Copy)]
+pub enum Shown {
+    /// Of two callers that do the same, the first is the first to return.
+    IsFirst,
+    /// A `get_if_active` beside a caller that enables its device is refused.
+    IsRefused,
 }
 
-/// What a `get_if_active` of the lines returned first.
-fn answer_of(lines: &[Line]) -> Option<i32> {
+/// Whether this is shown by the first return of the lines, which is one of a `get_if_active` where that may be
+/// refused.
+fn is_shown(shown: Shown, lines: &[Line]) -> bool {
     for line in lines {
         if let Event::Ret { helper, code, .. } = line.event {
-            if helper == Helper::GetIfActive {
-                return Some(code);
+            match shown {
+                Shown::IsFirst => return line.actor == ActorId::Caller(0),
+                Shown::IsRefused if helper == Helper::GetIfActive => return code == -22,
+                Shown::IsRefused => {}
             }
         }
     }
-    None
+    false
 }
 
-/// What runs of a plan showed.
-#[derive(Clone, Copy, Debug, PartialEq, Eq)]
-struct Shown {
-    /// In one of them.
-    one: bool,
-    /// In another.
-    other: bool,
-}
-
-impl Shown {
-    /// Nothing yet.
-    fn nothing() -> Shown {
-        Shown {
-            one: false,
-            other: false,
-        }
-    }
-
-    /// Takes note of a run that showed the one or the other.
-    fn note(&mut self, is_one: bool) {
-        if is_one {
-            self.one = true;
-        } else {
-            self.other = true;
-        }
-    }
-
-    /// Whether both were shown.
-    fn both(&self) -> bool {
-        self.one && self.other
-    }
-}
-
-/// A `get_if_active` beside a caller that enables its device is refused in some of the runs by this many hands, and
-/// in some it isn't.
-pub fn asks_before_and_behind<R: Threads + Wait + Sync>(
+/// This is shown in some of the runs by this many hands, and in some it isn't.
+pub fn in_some<R: Threads + Wait + Sync>(
     rt: &R,
     alloc: Global,
+    shown: Shown,
     hands: u32,
 ) -> Result<bool, PlanFault>
     requires some { 1 ≤ hands }
     requires few { hands ≤ 16 }
 {
-    let plan = read_plan(alloc, ASKS)?;
-    let mut shown = Shown::nothing();
+    let plan = match shown {
+        Shown::IsFirst => TWICE,
+        Shown::IsRefused => ASKS,
+    };
+    let plan = read_plan(alloc, plan)?;
+    let (mut in_some, mut in_others) = (false, false);
     for seed in 0..RUNS {
         let clock = Ticker::new(Vec::from_slice(alloc, &[seed])?);
-        let Some(lines) = lines_by(rt, alloc, &plan, hands, &clock)? else {
+        let Some(lines) = lines_by(rt, alloc, &plan, hands, &clock, &Quiet)? else {
             return Ok(false);
         };
-        shown.note(answer_of(&lines) == Some(-22));
+        let is_so = is_shown(shown, &lines);
+        in_some |= is_so;
+        in_others |= !is_so;
     }
-    Ok(shown.both())
-}
-
-/// Of two callers that do the same, each is the first to return in some of the runs by this many hands.
-pub fn each_is_first<R: Threads + Wait + Sync>(
-    rt: &R,
-    alloc: Global,
-    hands: u32,
-) -> Result<bool, PlanFault>
-    requires some { 1 ≤ hands }
-    requires few { hands ≤ 16 }
-{
-    let plan = read_plan(alloc, TWICE)?;
-    let mut shown = Shown::nothing();
-    for seed in 0..RUNS {
-        let clock = Ticker::new(Vec::from_slice(alloc, &[seed])?);
-        let Some(lines) = lines_by(rt, alloc, &plan, hands, &clock)? else {
-            return Ok(false);
-        };
-        shown.note(first_return(&lines) == Some(ActorId::Caller(0)));
-    }
-    Ok(shown.both())
-}
-
-/// Whose call returns first.
-fn first_return(lines: &[Line]) -> Option<ActorId> {
-    for line in lines {
-        if let Event::Ret { .. } = line.event {
-            return Some(line.actor);
-        }
-    }
-    None
+    Ok(in_some && in_others)
 }
 
 /// A clock goes on only while hands rest: one hand rests once for each callback, and four come to the end too.
 pub fn hands_rest<R: Threads + Wait + Sync>(rt: &R, alloc: Global) -> Result<bool, PlanFault> {
     let plan = read_plan(alloc, TIMED)?;
     let (alone, four) = (Resting::new(), Resting::new());
-    let one = lines_by(rt, alloc, &plan, 1, &alone)?;
-    let more = lines_by(rt, alloc, &plan, 4, &four)?;
+    let one = lines_by(rt, alloc, &plan, 1, &alone, &Quiet)?;
+    let more = lines_by(rt, alloc, &plan, 4, &four, &Quiet)?;
     let (Some(one), Some(_)) = (one, more) else {
         return Ok(false);
     };
@@ -155,8 +94,8 @@ pub fn silent_clock_ends<R: Threads + Wait + Sync>(
     alloc: Global,
 ) -> Result<bool, PlanFault> {
     let plan = read_plan(alloc, TIMED)?;
-    let one = lines_by(rt, alloc, &plan, 1, &Silent)?;
-    let four = lines_by(rt, alloc, &plan, 4, &Silent)?;
+    let one = lines_by(rt, alloc, &plan, 1, &Silent, &Quiet)?;
+    let four = lines_by(rt, alloc, &plan, 4, &Silent, &Quiet)?;
     Ok(one.is_some() && four.is_some())
 }
 
@@ -168,7 +107,7 @@ pub fn desk_waits_for_callers<R: Threads + Wait + SystemClock + Sync>(
 ) -> Result<bool, PlanFault> {
     for _ in 0..DESKS {
         let clock = Stopwatch::new(rt);
-        let ran = desk(rt, alloc, LATER, &clock, &Quiet)?;
+        let ran = written(rt, alloc, Way::Desk, LATER, &clock, &Quiet)?;
         if ran.status != 0 || !is_early(alloc, ran.out.taken())? {
             return Ok(false);
         }

@@ -6,7 +6,7 @@ use pm_model::{Event, Line};
 use std::sync::atomic::{AtomicU64, Ordering};
 
 /// How many callbacks of each kind there were.
-#[derive(Clone, Copy, Debug, PartialEq, Eq)]
+#[derive(Clone, Copy, PartialEq, Eq)]
 pub struct Counts {
     pub idles: u64,
     pub suspends: u64,
@@ -52,22 +52,19 @@ impl Gate for Counting {
 
 /// How many of the lines begin a callback of each kind.
 pub fn begun(lines: &[Line]) -> Counts {
-    Counts {
-        idles: begins(lines, Cb::Idle),
-        suspends: begins(lines, Cb::Suspend),
-        resumes: begins(lines, Cb::Resume),
-    }
-}
-
-/// How many of the lines begin a callback of this kind.
-fn begins(lines: &[Line], kind: Cb) -> u64 {
-    let mut count = 0u64;
+    let mut counts = Counts {
+        idles: 0,
+        suspends: 0,
+        resumes: 0,
+    };
     for line in lines {
         if let Event::Begin { cb, .. } = line.event {
-            if cb == kind {
-                count = count.saturating_add(1);
+            match cb {
+                Cb::Idle => counts.idles = counts.idles.saturating_add(1),
+                Cb::Suspend => counts.suspends = counts.suspends.saturating_add(1),
+                Cb::Resume => counts.resumes = counts.resumes.saturating_add(1),
             }
         }
     }
-    count
+    counts
 }

@@ -44,7 +44,7 @@ impl Clock for Resting {
 }
 
 /// A clock that can't be read.
-#[derive(Clone, Copy, Debug)]
+#[derive(Clone, Copy)]
 pub struct Silent;
 
 impl Clock for Silent {

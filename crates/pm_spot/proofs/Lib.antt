@@ -1,9 +1,11 @@
 mod Lists
+mod FieldsAlike
+mod CommandAlike
+mod PurposeAlike
+mod CallAlike
 mod IdleStageAlike
 mod SuspendStageAlike
-mod PurposeAlike
 mod ResumeStageAlike
-mod CommandAlike
 mod HelperStageAlike
 mod ControlStageAlike
 mod AwaitAlike

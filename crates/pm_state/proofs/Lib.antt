@@ -5,3 +5,5 @@ pub mod PlaceLemmas
 pub mod ChainLemmas
 pub mod OwnLemmas
 pub mod PileLemmas
+pub mod FewLemmas
+pub mod SeatLemmas

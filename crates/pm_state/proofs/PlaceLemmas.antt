@@ -1,5 +1,5 @@
 -- What a place that is replaced leaves as it is, and when an actor may go on.
-use Rattle.std.proofs.Common.{ℕ, ◌≡◌, ◌∙◌, Bool, true, false, ◌&&◌, List, [], length, map, replicate, ap, refl}
+use Rattle.std.proofs.Common.{ℕ, ◌≡◌, ◌+◌, ◌*◌, ◌∙◌, Bool, true, false, ◌&&◌, List, [], length, map, replicate, ap, refl}
 use Rattle.pm_base.specs.declared.ActorId.{ActorId}
 use Rattle.pm_base.specs.declared.ActorId.TheVariants.{Caller, Work, Timer}
 use Rattle.pm_model.specs.declared.plan.Plan.{Plan}
@@ -8,8 +8,10 @@ use Rattle.pm_model.specs.Views.{Views}
 use Rattle.pm_model.specs.WellFormed.{is_well_formed}
 use Rattle.pm_model.specs.World.{World, start, start_views, with_place}
 use Rattle.pm_state.specs.Places.{Stacks}
+use Rattle.pm_state.specs.Seats.{world_of}
 use Rattle.pm_state.specs.Standing.{can_go_on, is_awake}
 use Rattle.pm_state.proofs.ChainLemmas.{map_constant}
+use Rattle.pm_state.proofs.SeatLemmas.{fresh_row}
 
 -- the views stay where a place is replaced
 pub with_place_views : (w : World) (actor : ActorId) (stages : List Stage) → (with_place w actor stages).views ≡ w.views
@@ -26,15 +28,10 @@ pub well_formed_of : (plan : Plan) (v : Views) (s : Stage) → can_go_on plan v 
 well_formed_of plan v s h = first_of_two (is_well_formed plan v s) (is_awake s) h
 
 -- the world before any line
-empty_of : {A : Type 0} (rows : List A) (places : Stacks) (n room : ℕ) → n ≡ length rows → places ≡ record { stages = replicate n []; room = room } → places.stages ≡ map (λ row. []) rows
-empty_of rows places n room each is = ap (λ (p : Stacks). p.stages) is ∙ ap (λ k. replicate k []) each ∙ map_constant [] rows
-
-pub fresh_world : (plan : Plan) (v : Views) (callers works timers : Stacks) (called : List ℕ) (n m room : ℕ) → v ≡ start_views plan → n ≡ length plan.callers → m ≡ length plan.devices
-    → callers ≡ record { stages = replicate n []; room = room } → works ≡ record { stages = replicate m []; room = room } → timers ≡ record { stages = replicate m []; room = room }
-    → called ≡ map (λ row. 0) plan.callers
-    → record { views = v; caller_places = callers.stages; work_places = works.stages; timer_places = timers.stages; called = called } ≡ start plan
-fresh_world plan v callers works timers called n m room views each all a b c none =
-    let of_callers = empty_of plan.callers callers n room each a in
-    let of_works = empty_of plan.devices works m room all b in
-    let of_timers = empty_of plan.devices timers m room all c in
-    rw (views, of_callers, of_works, of_timers, none) refl
+pub fresh_world : (plan : Plan) (v : Views) (places : Stacks) (called : List ℕ) (n m room : ℕ) → v ≡ start_views plan → n ≡ length plan.callers → m ≡ length plan.devices
+    → places ≡ record { stages = replicate (n + 2 * m) []; room = room } → called ≡ map (λ row. 0) plan.callers → world_of v n m places.stages called ≡ start plan
+fresh_world plan v places called n m room views callers devices is none =
+    let empties : ℕ → List (List Stage) = λ n. replicate n [] in
+    let of_callers : empties n ≡ map (λ row. []) plan.callers = ap empties callers ∙ map_constant [] plan.callers in
+    let of_devices : empties m ≡ map (λ row. []) plan.devices = ap empties devices ∙ map_constant [] plan.devices in
+    ap (λ (p : Stacks). world_of v n m p.stages called) is ∙ fresh_row v n m called ∙ (rw (views, of_callers, of_devices, none) refl)

@@ -83,7 +83,7 @@ pub room_at : {V : Type 0} (f : V → List Stage) (all : List V) (i room : ℕ) 
 room_at f all i room x lt is fits = subst (λ (l : List Stage). length l ≤ room) (get_or-map f all i x [] lt ∙ ap f (sym is)) (fits i)
 
 -- one more place is as it is to be
-pub placed_more : {V : Type 0} (f : V → List Stage) (all : List V) (stages : List (List Stage)) (i : ℕ) (x : V) → i < length all → length stages ≡ length all → x ≡ slice_index_or all i x → take i stages ≡ take i (map f all)
+pub placed_more : {V : Type 0} (f : V → List Stage) (all : List V) (stages : List (List Stage)) (i : ℕ) (x : V) → i < length all → length all ≤ length stages → x ≡ slice_index_or all i x → take i stages ≡ take i (map f all)
     → take (i + 1) (slice_set stages i (f x)) ≡ take (i + 1) (map f all)
 placed_more f all stages i x lt long is so_far =
     take_more_set stages i (f x) (omega (arith, lt, long)) ∙ ap (λ l. l ++ f x ∷ []) so_far ∙ ap (λ z. take i (map f all) ++ z ∷ []) (ap f is ∙ sym (get_or-map f all i x [] lt))

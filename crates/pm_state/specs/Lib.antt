@@ -3,3 +3,4 @@ pub mod Standing
 pub mod Turns
 pub mod Chains
 pub mod Piles
+pub mod Seats

@@ -30,11 +30,6 @@ pub record Standing : Type 0 where
   pub world : World
   pub room : ℕ
 
--- the places of work items and of timers have as much room as those of callers
-pub record AreAlike (of_callers of_works of_timers : ℕ) : Type 0 where
-  pub works : of_works ≡ of_callers
-  pub timers : of_timers ≡ of_callers
-
 -- the counters of a standing
 abbrev pub counters : Standing → Counters
 counters s = record { shape = s.shape; views = s.world.views }

@@ -47,9 +47,9 @@ impl State {
         requires timer_room { HasRoom self.old.room (map (λ v. v.items) timers.now) }
         ensures { self.new ≡ record self.old { world = record self.old.world { caller_places = map (λ v. v.items) callers.now; work_places = map (λ v. v.items) works.now; timer_places = map (λ v. v.items) timers.now; called = called.now } } }
     {
-        self.callers.fill(callers);
-        self.works.fill(works);
-        self.timers.fill(timers);
+        self.places.fill(0, callers);
+        self.places.fill(self.callers, works);
+        self.places.fill(self.callers + self.devices, timers);
         self.called.copy_from_slice(called);
     }
 }

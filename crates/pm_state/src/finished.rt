@@ -1,9 +1,9 @@
 //! Whether a run is finished.
 
-ghost use Rattle.std.specs.Prelude.{◌≡◌, ◌+◌, ◌<◌, length, nat_le, not, slice_index_or, is_none};
+ghost use Rattle.std.specs.Prelude.{◌≡◌, ◌+◌, ◌<◌, ◌&&◌, length, nat_le, not, slice_index_or, is_none};
 ghost use Rattle.std.specs.List.{enumerate_from, list_all};
 ghost use Rattle.pm_law_counts.specs.Sizes.{HasEntries};
-ghost use Rattle.pm_model.specs.Lawful.{is_finished};
+ghost use Rattle.pm_model.specs.Lawful.{is_empty_place, is_finished};
 ghost use Rattle.pm_state.specs.Standing.{IsOf};
 
 use crate::state::State;
@@ -51,6 +51,13 @@ fn none_armed(parts: &Parts, devices: u32) -> bool
 }
 
 impl State {
+    // No stage is open at any place.
+    fn none_open(&self) -> bool
+        ensures { let w = self.now.world in result ≡ (list_all is_empty_place w.caller_places && list_all is_empty_place w.work_places && list_all is_empty_place w.timer_places) }
+    {
+        self.places.all_empty()
+    }
+
     /// Whether the run is finished: every script has ended, every place is empty, no device is queued
     /// and no timer is armed. It looks at all actors.
     pub fn is_finished(&self, plan: &Plan) -> bool
@@ -60,9 +67,7 @@ impl State {
     {
         let devices = plan.devices.len() as u32;
         scripts_ended(0, plan.callers.as_slice(), &self.called)
-            && self.callers.all_empty()
-            && self.works.all_empty()
-            && self.timers.all_empty()
+            && self.none_open()
             && none_queued(&self.parts, devices)
             && none_armed(&self.parts, devices)
     }

@@ -23,4 +23,4 @@ pub use changes::change;
 pub use devices::device_of;
 pub use events::happen;
 pub use places::Places;
-pub use state::State;
+pub use state::{State, few};

@@ -1,6 +1,6 @@
 //! The places of some actors.
 
-ghost use Rattle.std.specs.Prelude.{◌≡◌, ◌<◌, ◌≤◌, ◌++◌, [], drop, length, map, replicate, slice_index_or, slice_set, IfOk, None};
+ghost use Rattle.std.specs.Prelude.{◌≡◌, ◌<◌, ◌≤◌, ◌+◌, ◌^◌, ◌++◌, [], drop, length, map, replicate, slice_index_or, slice_set, take, IfOk, None};
 ghost use Rattle.std.specs.List.{list_all};
 ghost use Rattle.std.specs.Option.{option_copied};
 ghost use Rattle.pm_model.specs.Handing.{after_code, after_then};
@@ -200,14 +200,20 @@ impl Places {
         self.tops[actor] = fill_below(&mut self.below, actor, stages);
     }
 
-    /// The open stages become these, for each actor the one that writes next first. It takes no memory.
-    pub fn fill(&mut self, all: &[Vec<Stage>])
-        requires as_many { length all.now ≡ length self.old.stages }
+    /// The open stages of some actors, one after another from this one on, become these, for each the one that writes
+    /// next first. It takes no memory.
+    pub fn fill(&mut self, from: usize, all: &[Vec<Stage>])
+        requires within { from + length all.now ≤ length self.old.stages }
+        requires in_range { length self.old.stages < 2 ^ 64 }
         requires room { HasRoom self.old.room (map (λ v. v.items) all.now) }
-        ensures { self.new ≡ record self.old { stages = map (λ v. v.items) all.now } }
+        ensures rest { self.new ≡ record self.old { stages = self.new.stages } }
+        ensures each { length self.new.stages ≡ length self.old.stages }
+        ensures before { take from self.new.stages ≡ take from self.old.stages }
+        ensures filled { take (length all.now) (drop from self.new.stages) ≡ map (λ v. v.items) all.now }
+        ensures behind { drop (from + length all.now) self.new.stages ≡ drop (from + length all.now) self.old.stages }
     {
-        for actor in 0..all.len() {
-            self.put(actor, all[actor].as_slice());
+        for i in 0..all.len() {
+            self.put(from + i, all[i].as_slice());
         }
     }
 }

@@ -1,8 +1,9 @@
 //! The state of a run, and at which stage each actor stands.
 
-ghost use Rattle.std.specs.Prelude.{◌≡◌, ◌<◌, map, length, option_map, slice_get, IfOk, None};
+ghost use Rattle.std.specs.Prelude.{◌≡◌, ◌<◌, ◌^◌, map, length, option_map, slice_get, IfOk, None};
 ghost use Rattle.std.specs.Option.{option_and_then, option_copied};
 ghost use Rattle.pm_model.specs.World.{due, place, ready, stage_at, start, top};
+ghost use Rattle.pm_state.specs.Seats.{actor_in, seat_in, seats};
 ghost use Rattle.pm_state.specs.Standing.{IsActor, IsOf, counters};
 
 use crate::Places;
@@ -17,9 +18,10 @@ use std::marker::Model;
 /// room of each, and the number of commands that each caller has called.
 pub struct State {
     pub(crate) parts: Parts,
-    pub(crate) callers: Places,
-    pub(crate) works: Places,
-    pub(crate) timers: Places,
+    // The places of all actors, in a row by seat: callers, then work items, then timers, each in plan order.
+    pub(crate) places: Places,
+    pub(crate) callers: usize,
+    pub(crate) devices: usize,
     // How many commands each caller has called.
     pub(crate) called: Vec<u32>,
 }
@@ -28,38 +30,37 @@ impl Drop for State {
     fn drop(self) {
         let State {
             parts,
-            callers,
-            works,
-            timers,
+            places,
+            callers: _,
+            devices: _,
             called,
         } = self;
         drop(parts);
-        drop(callers);
-        drop(works);
-        drop(timers);
+        drop(places);
         drop(called);
     }
 }
 
 impl Model for State {
-    ghost use Rattle.pm_state.specs.Standing.{AreAlike, Standing};
+    ghost use Rattle.pm_state.specs.Seats.{AreSeats, world_of};
+    ghost use Rattle.pm_state.specs.Standing.{Standing};
 
     ghost Value = { Standing };
 
     ghost view = { λ s. record {
       shape = s.parts.shape;
-      world = record {
-        views = s.parts.views;
-        caller_places = s.callers.stages;
-        work_places = s.works.stages;
-        timer_places = s.timers.stages;
-        called = s.called.items;
-      };
-      room = s.callers.room;
+      world = world_of s.parts.views s.callers s.devices s.places.stages s.called.items;
+      room = s.places.room;
     } };
 
-    ghost invariant = { λ s. AreAlike s.callers.room s.works.room s.timers.room };
+    ghost invariant = { λ s. AreSeats s.callers s.devices s.places.stages };
 }
+
+/// A plan has no more actors than can be numbered.
+#[tactic(auto, using(crate::proofs::FewLemmas::few_actors))]
+pub fn few(plan: &Plan)
+    ensures { seats plan.now < 2 ^ 32 }
+{}
 
 // Nothing is called.
 fn none_called<T>(alloc: Global, rows: &[T]) -> Result<Vec<u32>, AllocError>
@@ -83,12 +84,14 @@ impl State {
         ensures is_of { IfOk result (IsOf plan.now) }
         ensures start { IfOk result (λ s. s.world ≡ start plan.now) }
     {
+        few(plan);
+        let callers = plan.callers.len();
         let devices = plan.devices.len();
         let room = stack_room(alloc, plan)?;
         Ok(State {
-            callers: Places::empty(alloc, plan.callers.len(), room)?,
-            works: Places::empty(alloc, devices, room)?,
-            timers: Places::empty(alloc, devices, room)?,
+            places: Places::empty(alloc, callers + 2 * devices, room)?,
+            callers,
+            devices,
             called: none_called(alloc, plan.callers.as_slice())?,
             parts: Parts::fresh(alloc, plan)?,
         })
@@ -100,11 +103,8 @@ impl State {
         requires in_range { IsActor plan.now actor }
         ensures { IfOk result (λ stages. stages.items ≡ place self.now.world actor) }
     {
-        match actor {
-            ActorId::Caller(caller) => self.callers.copied(alloc, caller as usize),
-            ActorId::Work(device) => self.works.copied(alloc, device as usize),
-            ActorId::Timer(device) => self.timers.copied(alloc, device as usize),
-        }
+        let seat = self.seat(plan, actor);
+        self.places.copied(alloc, seat)
     }
 
     /// How many commands each caller has called.
@@ -129,10 +129,51 @@ impl State {
         requires in_range { IsActor plan.now actor }
         ensures { option_copied result ≡ top None (place self.now.world actor) }
     {
+        let seat = self.seat(plan, actor);
+        self.top_at(plan, seat)
+    }
+
+    /// The same of the actor at a seat.
+    #[inline(always)]
+    pub fn top_at(&self, plan: &Plan, seat: usize) -> Option<&Stage>
+        requires is_of { IsOf plan.now self.now }
+        requires in_range { seat < seats plan.now }
+        ensures { option_copied result ≡ top None (place self.now.world (actor_in plan.now seat)) }
+    {
+        self.places.top(seat)
+    }
+
+    /// The seat of an actor in the row of all: callers, then work items, then timers, each in plan order.
+    #[inline(always)]
+    pub fn seat(&self, plan: &Plan, actor: ActorId) -> usize
+        requires is_of { IsOf plan.now self.now }
+        requires in_range { IsActor plan.now actor }
+        ensures is { result ≡ seat_in plan.now actor }
+        ensures below { result < seats plan.now }
+        ensures sits { actor_in plan.now result ≡ actor }
+    {
         match actor {
-            ActorId::Caller(caller) => self.callers.top(caller as usize),
-            ActorId::Work(device) => self.works.top(device as usize),
-            ActorId::Timer(device) => self.timers.top(device as usize),
+            ActorId::Caller(caller) => caller as usize,
+            ActorId::Work(device) => self.callers + device as usize,
+            ActorId::Timer(device) => self.callers + self.devices + device as usize,
+        }
+    }
+
+    /// The actor at a seat.
+    #[inline(always)]
+    pub fn actor(&self, plan: &Plan, seat: usize) -> ActorId
+        requires is_of { IsOf plan.now self.now }
+        requires in_range { seat < seats plan.now }
+        ensures is { result ≡ actor_in plan.now seat }
+        ensures within { IsActor plan.now result }
+    {
+        let timers = self.callers + self.devices;
+        if seat < self.callers {
+            ActorId::Caller(seat as u32)
+        } else if seat < timers {
+            ActorId::Work((seat - self.callers) as u32)
+        } else {
+            ActorId::Timer((seat - timers) as u32)
         }
     }
 

@@ -21,7 +21,8 @@ use Rattle.pm_law_turns.specs.Looks.{looks}
 use Rattle.pm_law_turns.specs.Told.{top_looks}
 use Rattle.pm_law_turns.proofs.Telling.{all_shown}
 use Rattle.pm_law_turns.specs.Wakes.{wakes}
-use Rattle.pm_turns.specs.Seats.{Asks, IsSeated, Seating, actor_at, moment_by, place_of, seat_after}
+use Rattle.pm_state.specs.Seats.{actor_at}
+use Rattle.pm_turns.specs.Seats.{Asks, IsSeated, Seating, moment_by, place_of, seat_after}
 use Rattle.pm_turns.specs.Turning.{AreOf, Index, IsIndex, Seen, is_listed, queue}
 use Rattle.pm_turns.proofs.IndexLemmas.{asks_none, asks_then, right_at, seated_kept, stays_right}
 use Rattle.pm_turns.proofs.QueueLemmas.{at_place, place_below, place_kept}

@@ -1,5 +1,5 @@
 -- The index of turns, as actors are asked anew.
-use Rattle.std.proofs.Common.{◌≡◌, ◌≢◌, ◌+◌, ◌*◌, ◌<◌, ◌≤◌, ◌||◌, ◌⊎◌, ℕ, Bool, true, false, List, [], Option, Some, None, slice_index_or, ap, refl, sym, ◌∙◌, subst, arith, inl, inr}
+use Rattle.std.proofs.Common.{◌≡◌, ◌≢◌, ◌+◌, ◌*◌, ◌<◌, ◌≤◌, ◌||◌, ◌⊎◌, ℕ, Bool, true, false, List, [], Option, Some, None, length, option_map, slice_index_or, ap, refl, sym, ◌∙◌, subst, arith, inl, inr}
 use Rattle.std.proofs.lemmas.Bool.{cases_lt, false≢true}
 use Rattle.std.proofs.lemmas.Option.{none-some, same_Some}
 use Rattle.pm_base.specs.declared.ActorId.{ActorId}
@@ -15,22 +15,39 @@ use Rattle.pm_index.specs.Moments.{moment_of}
 use Rattle.pm_law_turns.specs.Told.{is_actor, wait_in}
 use Rattle.pm_law_turns.proofs.Telling.{other_actor, same_actor}
 use Rattle.pm_law_turns.specs.Wakes.{turn_by, wakes}
-use Rattle.pm_turns.specs.Seats.{AreMoments, Asks, IsSeated, Seating, Sets, actor_at, moment_by, place_of, round_of, seat_after}
-use Rattle.pm_turns.specs.Turning.{Index, IsIndex, Looked, Noted, Touched, TouchedAny, is_listed, is_reached, queue}
+use Rattle.pm_state.specs.Seats.{actor_at, actor_in, seats}
+use Rattle.pm_turns.specs.Seats.{AreMoments, Asks, IsSeated, Seating, Sets, moment_by, place_of, round_of, seat_after, writer_at, writer_in}
+use Rattle.pm_turns.specs.Turning.{AreOf, Index, IsIndex, Looked, Noted, Touched, TouchedAny, is_listed, is_reached, queue}
 use Rattle.pm_turns.proofs.QueueLemmas.{at_place, at_seat, place_below, place_kept, places_apart}
 use Rattle.pm_turns.proofs.RoundLemmas.{turn_is_next}
 
 are_moments : (wake : ActorId → Option ℕ) (s : Seating) → ((a : ActorId) → IsSeated s a → moment_by s a ≡ wake a) → AreMoments wake s
 are_moments wake s each i below = let it = at_seat s i below in ap (moment_of s.moments) (sym it.1) ∙ each (actor_at s.callers s.devices i) it.0
 
-abbrev pub NextIs : Option (ActorId × ℕ) → Index → Type 0
-NextIs r x = (plan : Plan) (h : History) → IsIndex plan h x → r ≡ next_turn plan h
+-- the seats of a plan, and who sits there
+pub in_plan : (plan : Plan) (s : Seating) (i : ℕ) → AreOf plan s → actor_at s.callers s.devices i ≡ actor_in plan i
+in_plan plan s i of_plan = ap (λ n. actor_at n s.devices i) of_plan.callers ∙ ap (λ n. actor_at (length plan.callers) n i) of_plan.devices
 
-pub next_by : (r : Option (ActorId × ℕ)) (x : Index) → x.rows.seat ≤ x.rows.callers + x.rows.devices
-    → ((wake : ActorId → Option ℕ) → AreMoments wake x.rows → r ≡ turn_by wake (round_of x.rows) x.rows.time) → NextIs r x
+pub seat_here : (plan : Plan) (s : Seating) (i : ℕ) → AreOf plan s → i < seats plan → i ≡ place_of s (actor_in plan i)
+seat_here plan s i of_plan below =
+    let it = at_seat s i (omega (arith, below, of_plan.callers, of_plan.devices)) in
+    sym (ap (place_of s) (sym (in_plan plan s i of_plan)) ∙ it.1)
+
+pub sits_here : (plan : Plan) (s : Seating) (i : ℕ) (a : ActorId) → AreOf plan s → IsSeated s a → i ≡ place_of s a → actor_in plan i ≡ a
+sits_here plan s i a of_plan seated here = sym (in_plan plan s i of_plan) ∙ ap (actor_at s.callers s.devices) here ∙ at_place s a seated
+
+abbrev pub NextIs : Option (ℕ × ℕ) → Index → Type 0
+NextIs r x = (plan : Plan) (h : History) → IsIndex plan h x → option_map (writer_in plan) r ≡ next_turn plan h
+
+pub next_by : (r : Option (ℕ × ℕ)) (x : Index) → x.rows.seat ≤ x.rows.callers + x.rows.devices
+    → ((wake : ActorId → Option ℕ) → AreMoments wake x.rows → option_map (writer_at x.rows) r ≡ turn_by wake (round_of x.rows) x.rows.time) → NextIs r x
 next_by r x begins turn plan h is =
-    turn_is_next plan h x.rows r (record { callers = is.of_plan.callers; devices = is.of_plan.devices; seat = is.seat; begins = begins; time = is.time })
+    named r ∙ turn_is_next plan h x.rows (option_map (writer_at x.rows) r) (record { callers = is.of_plan.callers; devices = is.of_plan.devices; seat = is.seat; begins = begins; time = is.time })
     (turn (wakes plan (world plan h)) (are_moments (wakes plan (world plan h)) x.rows is.moments))
+  where
+    named : (o : Option (ℕ × ℕ)) → option_map (writer_in plan) o ≡ option_map (writer_at x.rows) o
+    named None = refl
+    named (Some turn) = ap (λ (a : ActorId). let t : ActorId × ℕ = (a, turn.1) in Some t) (sym (in_plan plan x.rows turn.0 is.of_plan))
 
 -- actors that are asked anew
 pub seated_kept : (s s' : Seating) (a : ActorId) → s'.callers ≡ s.callers → s'.devices ≡ s.devices → IsSeated s a → IsSeated s' a
@@ -47,6 +64,10 @@ asks_one wake s s' a m sets is = record { callers = sets.callers; devices = sets
     go : (b : ActorId) → IsSeated s b → (same : Bool) → is_actor b a ≡ same → (moment_by s' b ≡ wake b) ⊎ (moment_by s' b ≡ moment_by s b)
     go b seated true e = inl (subst (λ x. moment_by s' x ≡ wake x) (sym (same_actor b a e)) (sets.set ∙ is))
     go b seated false e = inr (sets.others b seated (other_actor b a e))
+
+-- the moment of who sits here is set by the plan's name for it
+pub asks_seat : (wake : ActorId → Option ℕ) (plan : Plan) (s s' : Seating) (i : ℕ) (m : Option ℕ) → AreOf plan s → Sets s s' (actor_at s.callers s.devices i) m → m ≡ wake (actor_in plan i) → Asks wake s s'
+asks_seat wake plan s s' i m of_plan sets is = asks_one wake s s' (actor_at s.callers s.devices i) m sets (is ∙ ap wake (sym (in_plan plan s i of_plan)))
 
 pub asks_then : (wake : ActorId → Option ℕ) (s s' s'' : Seating) → Asks wake s s' → Asks wake s' s'' → Asks wake s s''
 asks_then wake s s' s'' p q = record {

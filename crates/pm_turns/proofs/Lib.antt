@@ -1,4 +1,3 @@
-pub mod FewLemmas
 pub mod PlaceLemmas
 pub mod RoundLemmas
 pub mod QueueLemmas

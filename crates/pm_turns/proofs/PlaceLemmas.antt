@@ -1,5 +1,5 @@
 -- The first of a round, by places.
-use Rattle.std.proofs.Common.{◌≡◌, ◌+◌, ◌*◌, ◌-◌, ◌<◌, ◌≤◌, ◌⊎◌, ℕ, zero, suc, Bool, true, false, cond, List, [], ◌∷◌, ◌++◌, Option, Some, None, find, option_map, refl, ap, sym, ◌∙◌, subst, arith, inl, inr, min}
+use Rattle.std.proofs.Common.{◌≡◌, ◌+◌, ◌*◌, ◌-◌, ◌<◌, ◌≤◌, ◌⊎◌, ℕ, zero, suc, Bool, true, false, cond, List, [], ◌∷◌, ◌++◌, Option, Some, None, find, option_map, IfNone, IfSome, refl, ap, sym, ◌∙◌, subst, arith, inl, inr, min}
 use Rattle.std.proofs.lemmas.Bool.{cases_lt, true≢false}
 use Rattle.std.specs.List.{filter_map, cons_option}
 use Rattle.std.specs.Option.{option_or, option_map_or}
@@ -7,7 +7,8 @@ use Rattle.pm_base.specs.declared.ActorId.{ActorId}
 use Rattle.pm_model.specs.Serial.{least}
 use Rattle.pm_index.specs.Moments.{NoneWithin, moment_of}
 use Rattle.pm_index.specs.Moments as moments
-use Rattle.pm_turns.specs.Seats.{AreMoments, IsFirst, Seating, actor_at, round_of, span}
+use Rattle.pm_state.specs.Seats.{actor_at}
+use Rattle.pm_turns.specs.Seats.{AreMoments, IsFirst, Seating, round_of, span}
 use Rattle.pm_law_turns.specs.Wakes.{first_awake, is_within, or_least, turn_by}
 
 find_joined : {X : Type 0} (p : X → Bool) (xs ys : List X) → find p (xs ++ ys) ≡ option_or (find p xs) (find p ys)
@@ -128,6 +129,16 @@ missing_is wake s t begins are none =
 
     three : List ActorId
     three = span f row s.devices
+
+-- so the first seat, if there is one, is that of the first actor
+pub first_is : (wake : ActorId → Option ℕ) (s : Seating) (t : ℕ) (r : Option ℕ) → s.seat ≤ s.callers + s.devices → AreMoments wake s → IfSome r (IsFirst s t)
+    → IfNone r (NoneWithin s.moments t 0 (s.callers + 2 * s.devices)) → option_map (actor_at s.callers s.devices) r ≡ first_awake wake (round_of s) t
+first_is wake s t None begins are found missing = missing_is wake s t begins are missing
+first_is wake s t (Some i) begins are found missing = found_is wake s t i begins are found
+
+pub below_first : (s : Seating) (t : ℕ) (r : Option ℕ) → IfSome r (IsFirst s t) → IfSome r (λ i. i < s.callers + 2 * s.devices)
+below_first s t None found = tt
+below_first s t (Some i) found = found.below
 
 -- the least moment
 abbrev Above : (ActorId → Option ℕ) → ℕ → List ActorId → Type 0

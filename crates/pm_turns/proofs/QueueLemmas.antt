@@ -8,7 +8,8 @@ use Rattle.pm_base.specs.declared.ActorId.TheVariants.{Caller, Work, Timer}
 use Rattle.pm_index.specs.Marks.{NoneMarked, is_marked}
 use Rattle.pm_law_turns.specs.Told.{is_actor}
 use Rattle.pm_law_turns.proofs.Telling.{is_itself}
-use Rattle.pm_turns.specs.Seats.{IsSeated, Seating, actor_at, place_of}
+use Rattle.pm_state.specs.Seats.{actor_at}
+use Rattle.pm_turns.specs.Seats.{IsSeated, Seating, place_of}
 use Rattle.pm_turns.specs.Turning.{AreQueues}
 
 -- the actor at a seat has that seat

@@ -10,7 +10,8 @@ use Rattle.pm_model.specs.History.{History}
 use Rattle.pm_model.specs.Lawful.{last_time}
 use Rattle.pm_model.specs.Serial.{callers_and_works, next_turn, round, seat, timer_actors}
 use Rattle.pm_model.specs.World.{world}
-use Rattle.pm_turns.specs.Seats.{Seating, actor_at, round_of, span}
+use Rattle.pm_state.specs.Seats.{actor_at}
+use Rattle.pm_turns.specs.Seats.{Seating, round_of, span}
 use Rattle.pm_law_turns.specs.Wakes.{turn_by, wakes}
 use Rattle.pm_law_turns.proofs.Turning.{next_is}
 

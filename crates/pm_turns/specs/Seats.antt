@@ -1,8 +1,10 @@
 -- The seats of all actors in a row: callers, then work items, then timers, each in plan order (this project's own).
-use Rattle.std.specs.Prelude.{◌≡◌, ◌≢◌, ◌+◌, ◌*◌, ◌-◌, ◌<◌, ◌≤◌, ◌^◌, ◌⊎◌, ℕ, zero, suc, true, List, [], ◌∷◌, ◌++◌, Option, nat_lt, if◌then◌else◌}
+use Rattle.std.specs.Prelude.{◌≡◌, ◌≢◌, ◌+◌, ◌*◌, ◌-◌, ◌<◌, ◌≤◌, ◌^◌, ◌⊎◌, ℕ, zero, suc, true, List, [], ◌∷◌, ◌++◌, Option}
 use Rattle.pm_base.specs.declared.ActorId.{ActorId}
 use Rattle.pm_base.specs.declared.ActorId.TheVariants.{Caller, Work, Timer}
 use Rattle.pm_index.specs.Moments.{NoneWithin, is_within, moment_of}
+use Rattle.pm_model.specs.declared.plan.Plan.{Plan}
+use Rattle.pm_state.specs.Seats.{actor_at, actor_in, seat_of}
 
 -- how many callers and devices there are, the moment of each seat, the seat at which the search begins, and the time of
 -- the last line
@@ -27,14 +29,7 @@ IsSeated s (Timer d) = d < s.devices
 
 -- the seat of an actor
 abbrev pub place_of : Seating → ActorId → ℕ
-place_of s (Caller c) = c
-place_of s (Work d) = s.callers + d
-place_of s (Timer d) = s.callers + s.devices + d
-
--- the actor at a seat
-abbrev pub actor_at : ℕ → ℕ → ℕ → ActorId
-actor_at callers devices i =
-    if nat_lt i callers then Caller i else if nat_lt i (callers + devices) then Work (i - callers) else Timer (i - (callers + devices))
+place_of s actor = seat_of s.callers s.devices actor
 
 -- where the search begins after a line of this actor: at the next caller or work item, and after a timer's line at the
 -- first caller
@@ -42,6 +37,13 @@ abbrev pub seat_after : Seating → ActorId → ℕ
 seat_after s (Caller c) = c + 1
 seat_after s (Work d) = s.callers + d + 1
 seat_after s (Timer d) = 0
+
+-- who writes, and when, by the seat
+abbrev pub writer_at : Seating → ℕ × ℕ → ActorId × ℕ
+writer_at s turn = (actor_at s.callers s.devices turn.0, turn.1)
+
+abbrev pub writer_in : Plan → ℕ × ℕ → ActorId × ℕ
+writer_in plan turn = (actor_in plan turn.0, turn.1)
 
 -- the moment of an actor's seat
 abbrev pub moment_by : Seating → ActorId → Option ℕ

@@ -1,10 +1,11 @@
 //! From when the actor at each seat may write, and whose turn it is by these moments.
 
-ghost use Rattle.std.specs.Prelude.{◌≡◌, ◌+◌, ◌*◌, ◌<◌, ◌≤◌, ◌^◌, ℕ, Option, None, replicate, IfNone, IfOk, IfSome};
+ghost use Rattle.std.specs.Prelude.{◌≡◌, ◌+◌, ◌*◌, ◌<◌, ◌≤◌, ◌^◌, ℕ, Option, None, option_map, replicate, IfNone, IfOk, IfSome};
 ghost use Rattle.pm_base.specs.declared.ActorId.{ActorId as AnActor};
 ghost use Rattle.pm_index.specs.Moments.{NoneWithin};
 ghost use Rattle.pm_law_turns.specs.Wakes.{first_awake, turn_by};
-ghost use Rattle.pm_turns.specs.Seats.{AreMoments, IsFirst, IsSeated, Sets, actor_at, place_of, round_of, seat_after};
+ghost use Rattle.pm_state.specs.Seats.{actor_at};
+ghost use Rattle.pm_turns.specs.Seats.{AreMoments, IsFirst, IsSeated, Sets, place_of, round_of, seat_after, writer_at};
 
 use pm_base::{ActorId, NoMemory};
 use pm_index::Moments;
@@ -94,37 +95,29 @@ impl Rows {
         }
     }
 
-    // Where the search begins after a line of this actor.
-    fn seat_after(&self, actor: ActorId) -> usize
-        requires { IsSeated self.now actor }
-        ensures is { result ≡ seat_after self.now actor }
-    {
-        match actor {
-            ActorId::Caller(caller) => caller as usize + 1,
-            ActorId::Work(device) => self.callers + device as usize + 1,
-            ActorId::Timer(_) => 0,
-        }
-    }
-
-    /// Takes note of the writer and the time of a line.
-    pub fn note(&mut self, actor: ActorId, time: u64)
-        requires seated { IsSeated self.old actor }
+    /// Takes note of the seat of a line's writer, and of its time.
+    #[inline(always)]
+    pub fn note(&mut self, seat: usize, time: u64)
+        requires below { seat < self.old.callers + 2 * self.old.devices }
         requires in_time { time < 2 ^ 63 }
-        ensures { self.new ≡ record self.old { seat = seat_after self.old actor; time = time } }
+        ensures { self.new ≡ record self.old { seat = seat_after self.old (actor_at self.old.callers self.old.devices seat); time = time } }
     {
-        self.seat = self.seat_after(actor);
+        self.seat = if seat < self.callers + self.devices {
+            seat + 1
+        } else {
+            0
+        };
         self.time = time;
     }
 
-    /// From when an actor may write.
+    /// From when the actor at a seat may write.
     #[inline(always)]
-    pub fn set(&mut self, actor: ActorId, moment: Option<u64>)
-        requires { IsSeated self.old actor }
-        ensures { Sets self.old self.new actor moment }
+    pub fn set(&mut self, seat: usize, moment: Option<u64>)
+        requires { seat < self.old.callers + 2 * self.old.devices }
+        ensures { Sets self.old self.new (actor_at self.old.callers self.old.devices seat) moment }
     {
-        let place = self.place(actor);
-        if self.moments.get(place) != moment {
-            self.moments.set(place, moment);
+        if self.moments.get(seat) != moment {
+            self.moments.set(seat, moment);
         }
     }
 
@@ -141,29 +134,27 @@ impl Rows {
         }
     }
 
-    // Who writes at a moment.
-    fn turn_at(&self, moment: u64) -> Option<ActorId>
-        ensures first { (wake : AnActor → Option ℕ) → AreMoments wake self.now → result ≡ first_awake wake (round_of self.now) moment }
-        ensures seated { IfSome result (IsSeated self.now) }
+    // At which seat somebody writes at a moment.
+    fn seat_at(&self, moment: u64) -> Option<usize>
+        ensures first { (wake : AnActor → Option ℕ) → AreMoments wake self.now → option_map (actor_at self.now.callers self.now.devices) result ≡ first_awake wake (round_of self.now) moment }
+        ensures below { IfSome result (λ seat. seat < self.now.callers + 2 * self.now.devices) }
     {
         let _ = &self.seat;
-        match self.first_place(moment) {
-            Some(place) => Some(self.actor_at(place)),
-            None => None,
-        }
+        self.first_place(moment)
     }
 
-    /// Who writes the next line, and when: at the moment of the last line where somebody may write
+    /// At which seat the next line is written, and when: at the moment of the last line where somebody may write
     /// then, else at the least moment that a line awaits. It takes no memory, and a number of steps
     /// that is logarithmic in the number of actors.
-    pub fn next(&self) -> Option<(ActorId, u64)>
-        ensures turn { (wake : AnActor → Option ℕ) → AreMoments wake self.now → result ≡ turn_by wake (round_of self.now) self.now.time }
-        ensures seated { IfSome result (λ turn. IsSeated self.now turn.0) }
+    #[inline(always)]
+    pub fn next(&self) -> Option<(usize, u64)>
+        ensures turn { (wake : AnActor → Option ℕ) → AreMoments wake self.now → option_map (writer_at self.now) result ≡ turn_by wake (round_of self.now) self.now.time }
+        ensures below { IfSome result (λ turn. turn.0 < self.now.callers + 2 * self.now.devices) }
         ensures begins { self.now.seat ≤ self.now.callers + self.now.devices }
     {
         let _ = &self.seat;
-        match self.turn_at(self.time) {
-            Some(actor) => Some((actor, self.time)),
+        match self.seat_at(self.time) {
+            Some(seat) => Some((seat, self.time)),
             None => self.later(),
         }
     }
@@ -171,15 +162,15 @@ impl Rows {
     // The same where nobody may write at the moment of the last line. It is seldom so, and this stands out
     // of line.
     #[inline(never)]
-    fn later(&self) -> Option<(ActorId, u64)>
+    fn later(&self) -> Option<(usize, u64)>
         requires nobody { (wake : AnActor → Option ℕ) → AreMoments wake self.now → None ≡ first_awake wake (round_of self.now) self.now.time }
-        ensures turn { (wake : AnActor → Option ℕ) → AreMoments wake self.now → result ≡ turn_by wake (round_of self.now) self.now.time }
-        ensures seated { IfSome result (λ turn. IsSeated self.now turn.0) }
+        ensures turn { (wake : AnActor → Option ℕ) → AreMoments wake self.now → option_map (writer_at self.now) result ≡ turn_by wake (round_of self.now) self.now.time }
+        ensures below { IfSome result (λ turn. turn.0 < self.now.callers + 2 * self.now.devices) }
     {
         let _ = &self.seat;
         match self.moments.least() {
-            Some(later) => match self.turn_at(later) {
-                Some(actor) => Some((actor, later)),
+            Some(later) => match self.seat_at(later) {
+                Some(seat) => Some((seat, later)),
                 None => None,
             },
             None => None,

@@ -5,9 +5,10 @@ ghost use Rattle.pm_index.specs.Marks.{NoneMarked};
 ghost use Rattle.pm_model.specs.declared.event.Line.{Line as ALine};
 ghost use Rattle.pm_model.specs.History.{History};
 ghost use Rattle.pm_law_turns.specs.Told.{is_actor};
+ghost use Rattle.pm_state.specs.Seats.{actor_at, actor_in, seats};
 ghost use Rattle.pm_state.specs.Standing.{AllStandWell, IsActor, IsOf};
 ghost use Rattle.pm_law_turns.specs.Wakes.{wakes};
-ghost use Rattle.pm_turns.specs.Seats.{Asks, IsSeated, actor_at, moment_by};
+ghost use Rattle.pm_turns.specs.Seats.{Asks, IsSeated, moment_by};
 ghost use Rattle.pm_turns.specs.Turning.{AreOf, IsIndex, Leads, Looked, Touched, TouchedAny, queue};
 
 use crate::turns::Turns;
@@ -15,26 +16,6 @@ use crate::waiting::{device_in, stirs};
 use pm_base::{ActorId, DevId};
 use pm_model::{Change, Event, Plan};
 use pm_state::State;
-
-// Whether it is the same actor.
-fn is_same(actor: ActorId, other: ActorId) -> bool
-    ensures { result ≡ is_actor actor other }
-{
-    match actor {
-        ActorId::Caller(caller) => match other {
-            ActorId::Caller(number) => caller == number,
-            _ => false,
-        },
-        ActorId::Work(device) => match other {
-            ActorId::Work(number) => device == number,
-            _ => false,
-        },
-        ActorId::Timer(device) => match other {
-            ActorId::Timer(number) => device == number,
-            _ => false,
-        },
-    }
-}
 
 impl Turns {
     // The first seat at or after this one of somebody who is listed for a device.
@@ -62,8 +43,7 @@ impl Turns {
         ensures right { let actor = actor_at self.old.rows.callers self.old.rows.devices seat in moment_by self.new.rows actor ≡ wakes plan.now state.now.world actor }
         ensures queues { self.new.queues ≡ self.old.queues }
     {
-        let actor = self.rows.actor_at(seat);
-        self.refresh(plan, state, actor);
+        self.refresh_at(plan, state, seat);
     }
 
     // Looks anew at those who wait for a device; mostly that is nobody.
@@ -81,73 +61,68 @@ impl Turns {
         }
     }
 
-    // Looks anew at an actor, unless it is this one.
+    // Looks anew at who sits here, unless it is this one.
     #[tactic(auto, using(crate::proofs::IndexLemmas::asks_none))]
     #[inline(always)]
-    fn refresh_but(&mut self, plan: &Plan, state: &State, actor: ActorId, but: ActorId)
+    fn refresh_but(&mut self, plan: &Plan, state: &State, seat: usize, but: usize)
         requires is_of { IsOf plan.now state.now }
         requires stand { AllStandWell plan.now state.now.world }
         requires seats { AreOf plan.now self.old.rows }
-        requires in_range { IsActor plan.now actor }
+        requires in_range { seat < seats plan.now }
         ensures asks { Asks (wakes plan.now state.now.world) self.old.rows self.new.rows }
-        ensures right { is_actor actor but ≡ false → moment_by self.new.rows actor ≡ wakes plan.now state.now.world actor }
+        ensures right { is_actor (actor_in plan.now seat) (actor_in plan.now but) ≡ false → moment_by self.new.rows (actor_in plan.now seat) ≡ wakes plan.now state.now.world (actor_in plan.now seat) }
         ensures queues { self.new.queues ≡ self.old.queues }
     {
-        if !is_same(actor, but) {
-            self.refresh_resting(plan, state, actor);
+        if seat != but {
+            self.refresh_resting(plan, state, seat);
         }
     }
 
-    // Looks anew at the work item and the timer of a device, but for this actor.
+    // Looks anew at the work item and the timer of a device, but for who sits here.
     #[tactic(auto, using(crate::proofs::IndexLemmas::asks_none, crate::proofs::IndexLemmas::asks_then))]
     #[inline(always)]
-    fn refresh_own(&mut self, plan: &Plan, state: &State, dev: DevId, but: ActorId)
+    fn refresh_own(&mut self, plan: &Plan, state: &State, dev: DevId, but: usize)
         requires is_of { IsOf plan.now state.now }
         requires stand { AllStandWell plan.now state.now.world }
         requires seats { AreOf plan.now self.old.rows }
         ensures asks { Asks (wakes plan.now state.now.world) self.old.rows self.new.rows }
         ensures queues { self.new.queues ≡ self.old.queues }
-        ensures work { IsSeated self.old.rows (ActorId.Work dev.0) → is_actor (ActorId.Work dev.0) but ≡ false → moment_by self.new.rows (ActorId.Work dev.0) ≡ wakes plan.now state.now.world (ActorId.Work dev.0) }
-        ensures timer { IsSeated self.old.rows (ActorId.Timer dev.0) → is_actor (ActorId.Timer dev.0) but ≡ false → moment_by self.new.rows (ActorId.Timer dev.0) ≡ wakes plan.now state.now.world (ActorId.Timer dev.0) }
+        ensures work { IsSeated self.old.rows (ActorId.Work dev.0) → is_actor (ActorId.Work dev.0) (actor_in plan.now but) ≡ false → moment_by self.new.rows (ActorId.Work dev.0) ≡ wakes plan.now state.now.world (ActorId.Work dev.0) }
+        ensures timer { IsSeated self.old.rows (ActorId.Timer dev.0) → is_actor (ActorId.Timer dev.0) (actor_in plan.now but) ≡ false → moment_by self.new.rows (ActorId.Timer dev.0) ≡ wakes plan.now state.now.world (ActorId.Timer dev.0) }
     {
         if dev.0 as usize >= self.rows.devices() {
             return;
         }
-        self.refresh_but(plan, state, ActorId::Work(dev.0), but);
-        self.refresh_but(plan, state, ActorId::Timer(dev.0), but);
+        let work = self.rows.place(ActorId::Work(dev.0));
+        let timer = self.rows.place(ActorId::Timer(dev.0));
+        self.refresh_but(plan, state, work, but);
+        self.refresh_but(plan, state, timer, but);
     }
 
     // The same after a line that stirs them.
     #[tactic(auto, using(crate::proofs::IndexLemmas::asks_none))]
     #[inline(always)]
-    fn refresh_stirred(
-        &mut self,
-        plan: &Plan,
-        state: &State,
-        stirred: bool,
-        dev: DevId,
-        but: ActorId,
-    )
+    fn refresh_stirred(&mut self, plan: &Plan, state: &State, stirred: bool, dev: DevId, but: usize)
         requires is_of { IsOf plan.now state.now }
         requires stand { AllStandWell plan.now state.now.world }
         requires seats { AreOf plan.now self.old.rows }
         ensures asks { Asks (wakes plan.now state.now.world) self.old.rows self.new.rows }
         ensures queues { self.new.queues ≡ self.old.queues }
-        ensures work { stirred ≡ true → IsSeated self.old.rows (ActorId.Work dev.0) → is_actor (ActorId.Work dev.0) but ≡ false → moment_by self.new.rows (ActorId.Work dev.0) ≡ wakes plan.now state.now.world (ActorId.Work dev.0) }
-        ensures timer { stirred ≡ true → IsSeated self.old.rows (ActorId.Timer dev.0) → is_actor (ActorId.Timer dev.0) but ≡ false → moment_by self.new.rows (ActorId.Timer dev.0) ≡ wakes plan.now state.now.world (ActorId.Timer dev.0) }
+        ensures work { stirred ≡ true → IsSeated self.old.rows (ActorId.Work dev.0) → is_actor (ActorId.Work dev.0) (actor_in plan.now but) ≡ false → moment_by self.new.rows (ActorId.Work dev.0) ≡ wakes plan.now state.now.world (ActorId.Work dev.0) }
+        ensures timer { stirred ≡ true → IsSeated self.old.rows (ActorId.Timer dev.0) → is_actor (ActorId.Timer dev.0) (actor_in plan.now but) ≡ false → moment_by self.new.rows (ActorId.Timer dev.0) ≡ wakes plan.now state.now.world (ActorId.Timer dev.0) }
     {
         if stirred {
             self.refresh_own(plan, state, dev, but);
         }
     }
 
-    // Looks anew at all whom a line of this device may reach, but for this actor.
+    // Looks anew at all whom a line of this device may reach, but for who sits here.
     #[inline(always)]
-    fn touch(&mut self, plan: &Plan, state: &State, stirred: bool, dev: DevId, but: ActorId)
+    fn touch(&mut self, plan: &Plan, state: &State, stirred: bool, dev: DevId, but: usize)
         requires is_of { IsOf plan.now state.now }
         requires stand { AllStandWell plan.now state.now.world }
         requires seats { AreOf plan.now self.old.rows }
-        ensures { Touched (wakes plan.now state.now.world) stirred self.old self.new dev but }
+        ensures { Touched (wakes plan.now state.now.world) stirred self.old self.new dev (actor_in plan.now but) }
     {
         self.refresh_stirred(plan, state, stirred, dev, but);
         self.refresh_waiters(plan, state, dev);
@@ -155,16 +130,16 @@ impl Turns {
 
     // The same, out of line: most lines touch one device only.
     #[inline(never)]
-    fn touch_apart(&mut self, plan: &Plan, state: &State, stirred: bool, dev: DevId, but: ActorId)
+    fn touch_apart(&mut self, plan: &Plan, state: &State, stirred: bool, dev: DevId, but: usize)
         requires is_of { IsOf plan.now state.now }
         requires stand { AllStandWell plan.now state.now.world }
         requires seats { AreOf plan.now self.old.rows }
-        ensures { Touched (wakes plan.now state.now.world) stirred self.old self.new dev but }
+        ensures { Touched (wakes plan.now state.now.world) stirred self.old self.new dev (actor_in plan.now but) }
     {
         self.touch(plan, state, stirred, dev, but);
     }
 
-    // Looks anew at all whom a line of this device, if it is one, may reach, but for this actor.
+    // Looks anew at all whom a line of this device, if it is one, may reach, but for who sits here.
     #[tactic(auto, using(crate::proofs::IndexLemmas::touched_none, crate::proofs::IndexLemmas::touched_some))]
     #[inline(always)]
     fn touch_any(
@@ -173,12 +148,12 @@ impl Turns {
         state: &State,
         stirred: bool,
         dev: Option<DevId>,
-        but: ActorId,
+        but: usize,
     )
         requires is_of { IsOf plan.now state.now }
         requires stand { AllStandWell plan.now state.now.world }
         requires seats { AreOf plan.now self.old.rows }
-        ensures { TouchedAny (wakes plan.now state.now.world) stirred self.old self.new dev but }
+        ensures { TouchedAny (wakes plan.now state.now.world) stirred self.old self.new dev (actor_in plan.now but) }
     {
         if let Some(dev) = dev {
             self.touch(plan, state, stirred, dev, but);
@@ -194,22 +169,49 @@ impl Turns {
         state: &State,
         stirred: bool,
         dev: Option<DevId>,
-        but: ActorId,
+        but: usize,
     )
         requires is_of { IsOf plan.now state.now }
         requires stand { AllStandWell plan.now state.now.world }
         requires seats { AreOf plan.now self.old.rows }
-        ensures { TouchedAny (wakes plan.now state.now.world) stirred self.old self.new dev but }
+        ensures { TouchedAny (wakes plan.now state.now.world) stirred self.old self.new dev (actor_in plan.now but) }
     {
         if let Some(dev) = dev {
             self.touch_apart(plan, state, stirred, dev, but);
         }
     }
 
-    /// Takes note of a line by its parts, which was written at a stage of this device, if it has one, and led to
-    /// this state; its row named this change. It takes no memory, and looks anew at the line's writer, at those who
-    /// wait for the device of the stage or of the event, and at the work items and timers of these devices where the
-    /// line stirs them.
+    /// Takes note of a line by its parts, which was written by the actor at this seat, at a stage of this device, if it has
+    /// one, and led to this state; its row named this change. It takes no memory, and looks anew at the line's writer, at
+    /// those who wait for the device of the stage or of the event, and at the work items and timers of these devices where
+    /// the line stirs them.
+    #[inline(always)]
+    pub fn settle_at(
+        &mut self,
+        plan: &Plan,
+        state: &State,
+        at: Option<DevId>,
+        time: u64,
+        seat: usize,
+        event: &Event,
+        change: &Change,
+    )
+        requires is_of { IsOf plan.now state.now }
+        requires stand { AllStandWell plan.now state.now.world }
+        requires seats { AreOf plan.now self.old.rows }
+        requires in_range { seat < seats plan.now }
+        requires in_time { time < 2 ^ 63 }
+        ensures { let line : ALine = record { time = time; actor = actor_in plan.now seat; event = event.now } in (h : History) → Leads plan.now h line at change.now state.now.world → IsIndex plan.now h self.old → IsIndex plan.now (line ∷ h) self.new }
+    {
+        let of = other_than(device_in(event), at);
+        let stirred = stirs(event, change);
+        self.note(at, time, seat, event);
+        self.refresh_at(plan, state, seat);
+        self.touch_any(plan, state, stirred, at, seat);
+        self.touch_seldom(plan, state, stirred, of, seat);
+    }
+
+    /// The same by the actor.
     #[inline(always)]
     pub fn settle(
         &mut self,
@@ -228,12 +230,8 @@ impl Turns {
         requires in_time { time < 2 ^ 63 }
         ensures { let line : ALine = record { time = time; actor = actor; event = event.now } in (h : History) → Leads plan.now h line at change.now state.now.world → IsIndex plan.now h self.old → IsIndex plan.now (line ∷ h) self.new }
     {
-        let of = other_than(device_in(event), at);
-        let stirred = stirs(event, change);
-        self.note(at, time, actor, event);
-        self.refresh(plan, state, actor);
-        self.touch_any(plan, state, stirred, at, actor);
-        self.touch_seldom(plan, state, stirred, of, actor);
+        let seat = state.seat(plan, actor);
+        self.settle_at(plan, state, at, time, seat, event, change);
     }
 }
 

@@ -1,6 +1,6 @@
 //! The index of turns.
 
-ghost use Rattle.std.specs.Prelude.{◌≡◌, ◌+◌, ◌*◌, ◌<◌, ◌^◌, ℕ, Some, false, true, length, replicate, reverse, slice_get, IfOk, IfSome};
+ghost use Rattle.std.specs.Prelude.{◌≡◌, ◌+◌, ◌*◌, ◌<◌, ◌^◌, ℕ, Some, false, true, length, option_map, replicate, reverse, slice_get, IfOk, IfSome};
 ghost use Rattle.std.specs.Option.{option_copied};
 ghost use Rattle.pm_base.specs.declared.DevId.{DevId as ADevice};
 ghost use Rattle.pm_index.specs.Marks.{is_marked};
@@ -10,9 +10,10 @@ ghost use Rattle.pm_model.specs.Lawful.{IsLawful, last_time};
 ghost use Rattle.pm_model.specs.Serial.{next_turn, seat};
 ghost use Rattle.pm_model.specs.World.{place, world};
 ghost use Rattle.pm_law_turns.specs.Told.{top_looks};
+ghost use Rattle.pm_state.specs.Seats.{actor_in, seats};
 ghost use Rattle.pm_state.specs.Standing.{AllStandWell, IsActor, IsOf};
 ghost use Rattle.pm_law_turns.specs.Wakes.{wakes};
-ghost use Rattle.pm_turns.specs.Seats.{Asks, IsSeated, actor_at, moment_by};
+ghost use Rattle.pm_turns.specs.Seats.{Asks, IsSeated, moment_by, writer_in};
 ghost use Rattle.pm_turns.specs.Turning.{AreOf, IsIndex, Seen, is_listed, queue};
 
 use crate::queue::Waiters;
@@ -21,7 +22,7 @@ use crate::waiting::looked_at;
 use crate::waking::{rests_or_wakes, wakes};
 use pm_base::{ActorId, NoMemory};
 use pm_model::{Line, Plan};
-use pm_state::State;
+use pm_state::{State, few};
 use std::alloc::Global;
 use std::marker::Model;
 
@@ -51,12 +52,6 @@ impl Model for Turns {
     ghost invariant = { λ t. AreQueues t.rows t.waiters.items };
 }
 
-/// A plan has no more actors than can be numbered.
-#[tactic(auto, using(crate::proofs::FewLemmas::few_actors))]
-pub fn few(plan: &Plan)
-    ensures { length plan.now.callers + 2 * length plan.now.devices < 2 ^ 32 }
-{}
-
 // Nobody waits for any device.
 fn no_waiters(alloc: Global, devices: usize, seats: usize) -> Result<Vec<Waiters>, NoMemory>
     requires { seats < 2 ^ 32 }
@@ -77,9 +72,23 @@ fn newest(lines: &[Line]) -> Option<&Line>
 }
 
 impl Turns {
+    // Looks anew at the actor at a seat, as things stand now. It takes no memory.
+    #[inline(always)]
+    pub(crate) fn refresh_at(&mut self, plan: &Plan, state: &State, seat: usize)
+        requires is_of { IsOf plan.now state.now }
+        requires stand { AllStandWell plan.now state.now.world }
+        requires seats { AreOf plan.now self.old.rows }
+        requires in_range { seat < seats plan.now }
+        ensures asks { Asks (wakes plan.now state.now.world) self.old.rows self.new.rows }
+        ensures right { moment_by self.new.rows (actor_in plan.now seat) ≡ wakes plan.now state.now.world (actor_in plan.now seat) }
+        ensures queues { self.new.queues ≡ self.old.queues }
+    {
+        let moment = wakes(plan, state, seat);
+        self.rows.set(seat, moment);
+    }
+
     /// Looks anew at an actor, as things stand now: for one who has more to start than before. It takes
     /// no memory.
-    #[inline(always)]
     pub fn refresh(&mut self, plan: &Plan, state: &State, actor: ActorId)
         requires is_of { IsOf plan.now state.now }
         requires stand { AllStandWell plan.now state.now.world }
@@ -89,48 +98,38 @@ impl Turns {
         ensures right { moment_by self.new.rows actor ≡ wakes plan.now state.now.world actor }
         ensures queues { self.new.queues ≡ self.old.queues }
     {
-        let moment = wakes(plan, state, actor);
-        self.rows.set(actor, moment);
+        let seat = state.seat(plan, actor);
+        self.refresh_at(plan, state, seat);
     }
 
     // The same of an actor that mostly rests, as work items and timers do.
     #[inline(always)]
-    pub(crate) fn refresh_resting(&mut self, plan: &Plan, state: &State, actor: ActorId)
+    pub(crate) fn refresh_resting(&mut self, plan: &Plan, state: &State, seat: usize)
         requires is_of { IsOf plan.now state.now }
         requires stand { AllStandWell plan.now state.now.world }
         requires seats { AreOf plan.now self.old.rows }
-        requires in_range { IsActor plan.now actor }
+        requires in_range { seat < seats plan.now }
         ensures asks { Asks (wakes plan.now state.now.world) self.old.rows self.new.rows }
-        ensures right { moment_by self.new.rows actor ≡ wakes plan.now state.now.world actor }
+        ensures right { moment_by self.new.rows (actor_in plan.now seat) ≡ wakes plan.now state.now.world (actor_in plan.now seat) }
         ensures queues { self.new.queues ≡ self.old.queues }
     {
-        let moment = rests_or_wakes(plan, state, actor);
-        self.rows.set(actor, moment);
+        let moment = rests_or_wakes(plan, state, seat);
+        self.rows.set(seat, moment);
     }
 
-    // The actor at a seat.
-    fn actor_at(&self, seat: usize) -> ActorId
-        requires { seat < self.now.rows.callers + 2 * self.now.rows.devices }
-        ensures is { result ≡ actor_at self.now.rows.callers self.now.rows.devices seat }
-        ensures seated { IsSeated self.now.rows result }
-    {
-        self.rows.actor_at(seat)
-    }
-
-    // Looks anew at an actor, and lists it where it waits for a device.
-    fn look_at(&mut self, plan: &Plan, state: &State, actor: ActorId)
+    // Looks anew at the actor at a seat, and lists it where it waits for a device.
+    fn look_at(&mut self, plan: &Plan, state: &State, seat: usize)
         requires is_of { IsOf plan.now state.now }
         requires stand { AllStandWell plan.now state.now.world }
         requires seats { AreOf plan.now self.old.rows }
-        requires in_range { IsActor plan.now actor }
+        requires in_range { seat < seats plan.now }
         ensures asks { Asks (wakes plan.now state.now.world) self.old.rows self.new.rows }
-        ensures right { moment_by self.new.rows actor ≡ wakes plan.now state.now.world actor }
+        ensures right { moment_by self.new.rows (actor_in plan.now seat) ≡ wakes plan.now state.now.world (actor_in plan.now seat) }
         ensures others { (d : ADevice) (i : ℕ) → is_marked (queue self.old d) i ≡ true → is_marked (queue self.new d) i ≡ true }
-        ensures listed { (d : ADevice) → top_looks (place state.now.world actor) ≡ Some d → d.0 < self.old.rows.devices → is_listed self.new d actor ≡ true }
+        ensures listed { (d : ADevice) → top_looks (place state.now.world (actor_in plan.now seat)) ≡ Some d → d.0 < self.old.rows.devices → is_listed self.new d (actor_in plan.now seat) ≡ true }
     {
-        let seat = self.rows.place(actor);
-        self.refresh(plan, state, actor);
-        self.join_at(looked_at(plan, state, actor), seat);
+        self.refresh_at(plan, state, seat);
+        self.join_at(looked_at(plan, state, seat), seat);
     }
 
     // The same of all actors.
@@ -141,8 +140,7 @@ impl Turns {
         ensures { Seen plan.now state.now.world self.old self.new (self.old.rows.callers + 2 * self.old.rows.devices) }
     {
         for seat in 0..self.rows.seats() {
-            let actor = self.actor_at(seat);
-            self.look_at(plan, state, actor);
+            self.look_at(plan, state, seat);
         }
     }
 
@@ -162,7 +160,8 @@ impl Turns {
         let Some(line) = newest(lines) else {
             return;
         };
-        self.write_down(line.actor, line.time);
+        let seat = self.rows.place(line.actor);
+        self.write_down(seat, line.time);
     }
 
     /// The turns after the lines of a run, which led to this state: each actor is looked at. All memory is
@@ -192,13 +191,23 @@ impl Turns {
         Ok(turns)
     }
 
-    /// Who writes the next line, and when: at the moment of the last line where somebody may write
+    /// At which seat the next line is written, and when: at the moment of the last line where somebody may write
     /// then, else at the least moment that a line awaits. It takes no memory, and a number of steps
     /// that is logarithmic in the number of actors.
+    #[inline(always)]
+    pub fn next_seat(&self) -> Option<(usize, u64)>
+        ensures turn { (plan : APlan) (h : History) → IsIndex plan h self.now → option_map (writer_in plan) result ≡ next_turn plan h }
+        ensures below { IfSome result (λ turn. turn.0 < self.now.rows.callers + 2 * self.now.rows.devices) }
+    {
+        self.rows.next()
+    }
+
+    /// The same with the actor that sits there.
     pub fn next(&self) -> Option<(ActorId, u64)>
         ensures turn { (plan : APlan) (h : History) → IsIndex plan h self.now → result ≡ next_turn plan h }
         ensures seated { IfSome result (λ turn. IsSeated self.now.rows turn.0) }
     {
-        self.rows.next()
+        let (seat, time) = self.next_seat()?;
+        Some((self.rows.actor_at(seat), time))
     }
 }

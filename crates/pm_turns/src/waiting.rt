@@ -6,12 +6,13 @@ ghost use Rattle.pm_index.specs.Marks.{is_marked};
 ghost use Rattle.pm_model.specs.World.{place};
 ghost use Rattle.pm_law_turns.specs.Looks.{change_stirs, device_at, device_in, event_stirs, looks, stirs};
 ghost use Rattle.pm_law_turns.specs.Told.{top_looks, wait_in};
-ghost use Rattle.pm_state.specs.Standing.{IsActor, IsOf};
-ghost use Rattle.pm_turns.specs.Seats.{IsSeated, seat_after};
+ghost use Rattle.pm_state.specs.Seats.{actor_at, actor_in, seats};
+ghost use Rattle.pm_state.specs.Standing.{IsOf};
+ghost use Rattle.pm_turns.specs.Seats.{seat_after};
 ghost use Rattle.pm_turns.specs.Turning.{Noted, queue};
 
 use crate::turns::Turns;
-use pm_base::{ActorId, DevId};
+use pm_base::DevId;
 use pm_model::{Change, ControlStage, Event, HelperStage, Plan, ResumeStage, Stage, SuspendStage};
 use pm_state::{State, device_of};
 
@@ -96,14 +97,14 @@ fn looks(stage: &Stage) -> Option<DevId>
     }
 }
 
-// The device that an actor waits for at its open stage, if there is one.
+// The device that the actor at a seat waits for at its open stage, if there is one.
 #[tactic(auto, using(crate::proofs::AfterLemmas::looks_some, crate::proofs::AfterLemmas::looks_none))]
-pub(crate) fn looked_at(plan: &Plan, state: &State, actor: ActorId) -> Option<DevId>
+pub(crate) fn looked_at(plan: &Plan, state: &State, seat: usize) -> Option<DevId>
     requires is_of { IsOf plan.now state.now }
-    requires in_range { IsActor plan.now actor }
-    ensures { result ≡ top_looks (place state.now.world actor) }
+    requires in_range { seat < seats plan.now }
+    ensures { result ≡ top_looks (place state.now.world (actor_in plan.now seat)) }
 {
-    match state.top(plan, actor) {
+    match state.top_at(plan, seat) {
         Some(stage) => looks(stage),
         None => None,
     }
@@ -173,27 +174,26 @@ impl Turns {
         }
     }
 
-    // Takes note of the writer and the time of a line.
+    // Takes note of the seat of a line's writer, and of its time.
     #[inline(always)]
-    pub(crate) fn write_down(&mut self, actor: ActorId, time: u64)
-        requires seated { IsSeated self.old.rows actor }
+    pub(crate) fn write_down(&mut self, seat: usize, time: u64)
+        requires below { seat < self.old.rows.callers + 2 * self.old.rows.devices }
         requires in_time { time < 2 ^ 63 }
-        ensures { self.new ≡ record self.old { rows = record self.old.rows { seat = seat_after self.old.rows actor; time = time } } }
+        ensures { self.new ≡ record self.old { rows = record self.old.rows { seat = seat_after self.old.rows (actor_at self.old.rows.callers self.old.rows.devices seat); time = time } } }
     {
-        self.rows.note(actor, time);
+        self.rows.note(seat, time);
     }
 
-    // Takes note of a line of this actor at this moment with this event, that was written at a stage of this device, if
-    // it has one.
+    // Takes note of a line of the actor at this seat at this moment with this event, that was written at a stage of this
+    // device, if it has one.
     #[inline(always)]
-    pub(crate) fn note(&mut self, at: Option<DevId>, time: u64, actor: ActorId, event: &Event)
-        requires seated { IsSeated self.old.rows actor }
+    pub(crate) fn note(&mut self, at: Option<DevId>, time: u64, seat: usize, event: &Event)
+        requires below { seat < self.old.rows.callers + 2 * self.old.rows.devices }
         requires in_time { time < 2 ^ 63 }
-        ensures { Noted self.old self.new (record { time = time; actor = actor; event = event.now }) }
+        ensures { Noted self.old self.new (record { time = time; actor = actor_at self.old.rows.callers self.old.rows.devices seat; event = event.now }) }
     {
-        let seat = self.rows.place(actor);
         self.leave_at(at, seat);
         self.join_in(event, seat);
-        self.write_down(actor, time);
+        self.write_down(seat, time);
     }
 }

@@ -1,16 +1,18 @@
 //! From when an actor may write, by the stage at which it stands.
 
-ghost use Rattle.std.specs.Prelude.{◌≡◌, ◌+◌, ◌<◌, ◌^◌, Some, None, length, true, if◌then◌else◌};
+ghost use Rattle.std.specs.Prelude.{◌≡◌, ◌+◌, ◌<◌, ◌^◌, Some, None, length, option_map, true, if◌then◌else◌};
 ghost use Rattle.std.specs.Option.{option_map_or};
 ghost use Rattle.pm_device.specs.Parts.{IsFor};
 ghost use Rattle.pm_model.specs.PlanRows.{ms_of};
 ghost use Rattle.pm_model.specs.Views.{timer};
+ghost use Rattle.pm_model.specs.World.{due, ready};
 ghost use Rattle.pm_model.specs.WellFormed.{is_well_formed};
 ghost use Rattle.pm_model.specs.declared.stage.Stage.TheVariants as the_stage;
-ghost use Rattle.pm_state.specs.Standing.{IsActor, IsOf, StandsWell};
+ghost use Rattle.pm_state.specs.Seats.{actor_in, seats};
+ghost use Rattle.pm_state.specs.Standing.{IsOf, StandsWell};
 ghost use Rattle.pm_law_turns.specs.Wakes.{wakes, wakes_at};
 
-use pm_base::{ActorId, Cb, DevId};
+use pm_base::{Cb, DevId};
 use pm_device::{Parts, ms_of};
 use pm_model::{ControlStage, HelperStage, IdleStage, Plan, ResumeStage, Stage, SuspendStage};
 use pm_state::State;
@@ -134,19 +136,29 @@ fn stage_wakes_apart(plan: &Plan, parts: &Parts, stage: &Stage) -> Option<u64>
     stage_wakes(plan, parts, stage)
 }
 
-/// From when an actor may write, in milliseconds of the run, as things stand; `None` where it rests or
+// From when the actor at a seat, whose place is empty, may start, if it has something to start.
+#[inline(never)]
+fn starts(plan: &Plan, state: &State, seat: usize) -> Option<u64>
+    requires is_of { IsOf plan.now state.now }
+    requires in_range { seat < seats plan.now }
+    ensures { result ≡ option_map (due plan.now state.now.world.views) (ready plan.now state.now.world (actor_in plan.now seat)) }
+{
+    state.ready_from(plan, state.actor(plan, seat))
+}
+
+/// From when the actor at a seat may write, in milliseconds of the run, as things stand; `None` where it rests or
 /// waits. No move is made to learn it.
 #[tactic(auto, using(crate::proofs::WakeLemmas::well_at, crate::proofs::WakeLemmas::stage_wakes, crate::proofs::WakeLemmas::start_wakes))]
 #[inline(always)]
-pub fn wakes(plan: &Plan, state: &State, actor: ActorId) -> Option<u64>
+pub fn wakes(plan: &Plan, state: &State, seat: usize) -> Option<u64>
     requires is_of { IsOf plan.now state.now }
-    requires in_range { IsActor plan.now actor }
-    requires stands { StandsWell plan.now state.now.world actor }
-    ensures { result ≡ wakes plan.now state.now.world actor }
+    requires in_range { seat < seats plan.now }
+    requires stands { StandsWell plan.now state.now.world (actor_in plan.now seat) }
+    ensures { result ≡ wakes plan.now state.now.world (actor_in plan.now seat) }
 {
-    match state.top(plan, actor) {
+    match state.top_at(plan, seat) {
         Some(stage) => stage_wakes(plan, state.parts(), stage),
-        None => state.ready_from(plan, actor),
+        None => starts(plan, state, seat),
     }
 }
 
@@ -154,14 +166,14 @@ pub fn wakes(plan: &Plan, state: &State, actor: ActorId) -> Option<u64>
 /// little, and inlined.
 #[tactic(auto, using(crate::proofs::WakeLemmas::well_at, crate::proofs::WakeLemmas::stage_wakes, crate::proofs::WakeLemmas::start_wakes))]
 #[inline(always)]
-pub fn rests_or_wakes(plan: &Plan, state: &State, actor: ActorId) -> Option<u64>
+pub fn rests_or_wakes(plan: &Plan, state: &State, seat: usize) -> Option<u64>
     requires is_of { IsOf plan.now state.now }
-    requires in_range { IsActor plan.now actor }
-    requires stands { StandsWell plan.now state.now.world actor }
-    ensures { result ≡ wakes plan.now state.now.world actor }
+    requires in_range { seat < seats plan.now }
+    requires stands { StandsWell plan.now state.now.world (actor_in plan.now seat) }
+    ensures { result ≡ wakes plan.now state.now.world (actor_in plan.now seat) }
 {
-    match state.top(plan, actor) {
+    match state.top_at(plan, seat) {
         Some(stage) => stage_wakes_apart(plan, state.parts(), stage),
-        None => state.ready_from(plan, actor),
+        None => starts(plan, state, seat),
     }
 }

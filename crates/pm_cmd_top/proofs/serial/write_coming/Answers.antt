@@ -9,7 +9,7 @@ use Rattle.pm_model.specs.declared.plan.Plan.{Plan}
 use Rattle.pm_model.specs.LineOf.{is_line_of}
 use Rattle.pm_model.specs.Serial.{serial}
 use Rattle.pm_serial.specs.Coming.{Coming}
-use Rattle.pm_cmd_top.proofs.SerialLemmas.{all_came, in_time_here, no_pieces, pieces_here, there}
+use Rattle.pm_cmd_top.proofs.SerialLemmas.{all_came, by_actor, in_time_here, no_pieces, pieces_here, there}
 use Rattle.pm_cmd_top.proofs.serial.write_coming.Goals as goal
 
 pub loop-turn-init : goal.loop-turn-init
@@ -29,15 +29,15 @@ loop-turn-init g c =
 pub spell-requires-clause-of_plan : goal.spell-requires-clause-of_plan
 spell-requires-clause-of_plan g c =
     let plan = c.args.lines.now.plan in
-    let line : Line = record { time = c.in-Some.turn.time; actor = c.in-Some.turn.actor; event = c.event-said.result.now } in
-    let here = there plan c.loop-turn.lines.plan c.loop-turn.lines.came line c.loop-turn.invariant.plan (sym c.event-said.ensures) in
+    let line : Line = record { time = c.in-Some.turn.time; actor = c.actor-actor.result; event = c.event-said.result.now } in
+    let here = there plan c.loop-turn.lines.plan c.loop-turn.lines.came line c.loop-turn.invariant.plan (by_actor _ c.in-Some.turn.time c.actor-actor.result _ c.event-said.result.now c.actor-actor.ensures (sym c.event-said.ensures)) in
     subst (λ (q : Plan). is_line_of q line ≡ true) (sym c.requires.plan) (c.requires.of_plan c.loop-turn.lines.came line here)
 
 pub spell-requires-clause-in_time : goal.spell-requires-clause-in_time
 spell-requires-clause-in_time g c =
     let plan = c.args.lines.now.plan in
-    let line : Line = record { time = c.in-Some.turn.time; actor = c.in-Some.turn.actor; event = c.event-said.result.now } in
-    let here = there plan c.loop-turn.lines.plan c.loop-turn.lines.came line c.loop-turn.invariant.plan (sym c.event-said.ensures) in
+    let line : Line = record { time = c.in-Some.turn.time; actor = c.actor-actor.result; event = c.event-said.result.now } in
+    let here = there plan c.loop-turn.lines.plan c.loop-turn.lines.came line c.loop-turn.invariant.plan (by_actor _ c.in-Some.turn.time c.actor-actor.result _ c.event-said.result.now c.actor-actor.ensures (sym c.event-said.ensures)) in
     (in_time_here c.loop-turn.base (serial plan) c.loop-turn.lines.came line here c.loop-turn.invariant.in_time).0
 
 pub returns-in_err-write_whole-clause-plan : goal.returns-in_err-write_whole-clause-plan
@@ -47,8 +47,8 @@ pub returns-in_err-write_whole-clause-prefix : goal.returns-in_err-write_whole-c
 returns-in_err-write_whole-clause-prefix g c =
     let taken = g.O.Sink.taken in
     let plan = c.args.lines.now.plan in
-    let line : Line = record { time = c.in-Some.turn.time; actor = c.in-Some.turn.actor; event = c.event-said.result.now } in
-    let here = there plan c.loop-turn.lines.plan c.loop-turn.lines.came line c.loop-turn.invariant.plan (sym c.event-said.ensures) in
+    let line : Line = record { time = c.in-Some.turn.time; actor = c.actor-actor.result; event = c.event-said.result.now } in
+    let here = there plan c.loop-turn.lines.plan c.loop-turn.lines.came line c.loop-turn.invariant.plan (by_actor _ c.in-Some.turn.time c.actor-actor.result _ c.event-said.result.now c.actor-actor.ensures (sym c.event-said.ensures)) in
     behind_err c.from_residual.result
     (under_way_part (taken c.args.out.now) (taken c.loop-turn.out) (taken c.write_whole.new.sink) _ _ c.as_slice.result.now _ c.loop-turn.invariant.way
     (pieces_here c.args.format c.args.speller.now c.loop-turn.base (serial plan) c.loop-turn.lines.came line c.as_slice.result.now here (c.as_slice.ensures ∙ c.spell.ensures))
@@ -63,8 +63,8 @@ returns-in_err-write_whole-clause-failed g c =
 pub loop-turn-smaller : goal.loop-turn-smaller
 loop-turn-smaller g c =
     let plan = c.args.lines.now.plan in
-    let line : Line = record { time = c.in-Some.turn.time; actor = c.in-Some.turn.actor; event = c.event-said.result.now } in
-    let here = there plan c.loop-turn.lines.plan c.loop-turn.lines.came line c.loop-turn.invariant.plan (sym c.event-said.ensures) in
+    let line : Line = record { time = c.in-Some.turn.time; actor = c.actor-actor.result; event = c.event-said.result.now } in
+    let here = there plan c.loop-turn.lines.plan c.loop-turn.lines.came line c.loop-turn.invariant.plan (by_actor _ c.in-Some.turn.time c.actor-actor.result _ c.event-said.result.now c.actor-actor.ensures (sym c.event-said.ensures)) in
     let within = slice_get_within (serial plan) c.loop-turn.lines.came line here in
     let more = ap (λ (x : Coming). x.came) c.go_on.ensures in
     omega (arith, within, more)
@@ -74,8 +74,8 @@ loop-turn-preserved g c =
     let taken = g.O.Sink.taken in
     let plan = c.args.lines.now.plan in
     let lines = serial plan in
-    let line : Line = record { time = c.in-Some.turn.time; actor = c.in-Some.turn.actor; event = c.event-said.result.now } in
-    let here = there plan c.loop-turn.lines.plan c.loop-turn.lines.came line c.loop-turn.invariant.plan (sym c.event-said.ensures) in
+    let line : Line = record { time = c.in-Some.turn.time; actor = c.actor-actor.result; event = c.event-said.result.now } in
+    let here = there plan c.loop-turn.lines.plan c.loop-turn.lines.came line c.loop-turn.invariant.plan (by_actor _ c.in-Some.turn.time c.actor-actor.result _ c.event-said.result.now c.actor-actor.ensures (sym c.event-said.ensures)) in
     let within = slice_get_within lines c.loop-turn.lines.came line here in
     let more = ap (λ (x : Coming). x.came) c.go_on.ensures in
     record {

@@ -1,10 +1,8 @@
-use Rattle.std.proofs.Common.{◌≡◌, ◌<◌, ◌∙◌, ◌++◌, ◌∷◌, [], ap, arith, length, map, subst, sym}
+use Rattle.std.proofs.Common.{◌≡◌, ◌<◌, ◌∙◌, ◌++◌, ◌∷◌, [], ap, arith, length, map}
 use Rattle.std.proofs.lemmas.List.{length-map, map-append}
-use Rattle.pm_search.specs.Growing.{Grows}
-use Rattle.pm_search.specs.Trees.{IsTree}
-use Rattle.pm_search.proofs.Lists.{Grows-map, Grows-refl, some_within}
+use Rattle.pm_search.proofs.Lists.{Grows-map, Grows-refl, Grows-same, some_within}
 use Rattle.pm_search.proofs.Putting.{Has, putting-first, putting-has, putting-last, putting-next}
-use Rattle.pm_search.proofs.TreeLemmas.{parents_adds, tree_adds}
+use Rattle.pm_search.proofs.TreeLemmas.{parents_adds, tree_adds, tree_same}
 use Rattle.pm_search.proofs.spread.spread.Goals as goal
 
 pub loop-node-init : goal.loop-node-init
@@ -41,16 +39,15 @@ loop-node-preserved g c =
 
 pub returns-in_err-add-clause-tree : goal.returns-in_err-add-clause-tree
 returns-in_err-add-clause-tree g c =
-    let f = g.G.Graph.point c.args.graph.now in
-    let T = IsTree (g.G.Graph.Follows c.args.graph.now) (g.G.Graph.start c.args.graph.now) in
-    subst (T (map f c.add.new.tree.nodes.keys)) (sym c.in_err-add.ensures.same_parents) (subst (λ l. T (map f l) c.loop-node.tree.parents.items) (sym c.in_err-add.ensures.same_nodes) c.loop-node.invariant.tree)
+    tree_same (g.G.Graph.Follows c.args.graph.now) (g.G.Graph.start c.args.graph.now) (g.G.Graph.point c.args.graph.now) c.loop-node.tree.nodes.keys c.add.new.tree.nodes.keys c.loop-node.tree.parents.items c.add.new.tree.parents.items
+    c.in_err-add.ensures.same_nodes c.in_err-add.ensures.same_parents c.loop-node.invariant.tree
 
 pub returns-in_err-add-clause-points : goal.returns-in_err-add-clause-points
 returns-in_err-add-clause-points g c p h =
     let f = g.G.Graph.point c.args.graph.now in
     let F = g.G.Graph.Follows c.args.graph.now c.args.spends p in
     let first = map f c.args.tree.now.nodes.keys in
-    subst (Grows F first) (sym (ap (map f) c.in_err-add.ensures.same_nodes))
+    Grows-same F f first c.loop-node.tree.nodes.keys c.add.new.tree.nodes.keys c.in_err-add.ensures.same_nodes
     (Grows-map (Has (map f c.in_ok-next.next.items)) F first (map f c.loop-node.tree.nodes.keys) (λ q has. (c.in_ok-next.ensures.all p h).sound has.0 q has.1) c.loop-node.invariant.putting.grows)
 
 pub returns-clause-points : goal.returns-clause-points

@@ -1,12 +1,14 @@
-use Rattle.std.proofs.Common.{subst}
+use Rattle.std.proofs.Common.{subst, sym}
 use Rattle.pm_law_turns.specs.Wakes.{wakes}
 use Rattle.pm_turns.specs.Seats.{Asks}
-use Rattle.pm_turns.specs.Turning.{Index}
-use Rattle.pm_turns.proofs.IndexLemmas.{asks_one}
+use Rattle.pm_turns.specs.Turning.{AreOf, Index}
+use Rattle.pm_turns.proofs.IndexLemmas.{asks_seat}
 use Rattle.pm_turns.proofs.turns.Turns.refresh_resting.Goals as goal
 
 pub returns-clause-asks : goal.returns-clause-asks
 returns-clause-asks c =
-    let wake = wakes c.args.plan.now c.args.state.now.world in
+    let plan = c.args.plan.now in
+    let wake = wakes plan c.args.state.now.world in
+    let of_plan = subst (λ (x : Index). AreOf plan x.rows) (sym c.self.view_is) c.requires.seats in
     subst (λ (x : Index). Asks wake x.rows c.set.new.self) c.self.view_is
-    (asks_one wake c.self.inside.rows c.set.new.self c.args.actor c.rests_or_wakes-moment.result c.set.ensures c.rests_or_wakes-moment.ensures)
+    (asks_seat wake plan c.self.inside.rows c.set.new.self c.args.seat c.rests_or_wakes-moment.result of_plan c.set.ensures c.rests_or_wakes-moment.ensures)

@@ -1,4 +1,4 @@
--- A small graph, for tests: from a number to the next freely, and to its double by a step that spends.
+-- A small graph: from a number to the next freely, and to its double by a step that spends.
 use Rattle.std.proofs.lemmas.Bool.{eqb-true}
 use Rattle.std.specs.Prelude.{nat_eq, ℕ, ◌≡◌, ◌+◌, ◌*◌, ◌%◌, ◌≤◌, Bool, true, false}
 

@@ -1,6 +1,6 @@
 use Rattle.std.proofs.Common.{subst}
 use Rattle.pm_turns.proofs.IndexLemmas.{NextIs, next_by}
-use Rattle.pm_turns.proofs.turns.Turns.next.Goals as goal
+use Rattle.pm_turns.proofs.turns.Turns.next_seat.Goals as goal
 
 pub returns-clause-turn : goal.returns-clause-turn
 returns-clause-turn c =
