@@ -11,7 +11,6 @@ ghost use Rattle.pm_account.specs.Kept.{AreKept, IsReady, until};
 ghost use Rattle.pm_account.specs.AllKept.{AreTimes, Stayed, account_of};
 ghost use Rattle.pm_account.specs.Times.{active, moving, suspended};
 
-mod shown;
 mod stay;
 mod stays;
 mod texts;
@@ -24,7 +23,7 @@ use std::alloc::Global;
 pub use texts::times_text;
 
 /// For how many milliseconds of a run a device was in which status.
-#[derive(Clone, Copy, Debug, PartialEq, Eq)]
+#[derive(Clone, Copy, PartialEq, Eq)]
 pub struct Times {
     pub active: u64,
     /// From moment 0 on, since a device starts Suspended.

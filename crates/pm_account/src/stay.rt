@@ -10,7 +10,7 @@ use crate::Times;
 use pm_base::{Cb, DevId, Status};
 use pm_model::{Event, Line, Word};
 
-#[derive(Clone, Copy, Debug, PartialEq, Eq)]
+#[derive(Clone, Copy, PartialEq, Eq)]
 pub struct Stay {
     // What was last said, and when, in milliseconds of the run.
     pub status: Status,

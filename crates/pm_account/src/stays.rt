@@ -7,7 +7,7 @@ ghost use Rattle.pm_account.specs.AllKept.{AreTimes};
 use crate::Times;
 use crate::stay::{Stay, UNSAID, keep};
 use pm_base::{DevId, NoMemory};
-use pm_keeper::Keeper;
+use pm_model::keeper::Keeper;
 use pm_model::{Line, Plan};
 use std::alloc::Global;
 use std::marker::Model;

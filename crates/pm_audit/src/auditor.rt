@@ -18,12 +18,12 @@ use crate::takers::{Follower, LineTaker};
 use bstr::ByteSlice;
 use pm_base::NoMemory;
 use pm_book::{Judge, Taker};
-use pm_keeper::Keeper;
 use pm_model::Plan;
+use pm_model::keeper::Keeper;
 use std::alloc::Global;
 
 /// What is said of a trace.
-#[derive(Clone, Copy, Debug, PartialEq, Eq)]
+#[derive(Clone, Copy, PartialEq, Eq)]
 pub enum Verdict {
     /// It is the text of a lawful list that is finished.
     YesFinished,
@@ -38,7 +38,7 @@ pub enum Verdict {
 }
 
 /// The first bad line.
-#[derive(Clone, Copy, Debug, PartialEq, Eq)]
+#[derive(Clone, Copy, PartialEq, Eq)]
 pub struct BadLine {
     /// Its number, counted from 1 behind the header, where there is one.
     pub line: u64,

@@ -14,7 +14,7 @@ use pm_model::Plan;
 use std::alloc::Global;
 
 /// Why no book is made of a trace.
-#[derive(Clone, Copy, Debug, PartialEq, Eq)]
+#[derive(Clone, Copy, PartialEq, Eq)]
 pub enum LoadFault {
     /// It is the text of no lawful list.
     No {

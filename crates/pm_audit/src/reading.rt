@@ -13,7 +13,7 @@ use crate::takers::LineTaker;
 pub const HEADER: &[u8] = b"pm_trace 2";
 
 /// Why a line is bad. The first that holds, in this order, is the reason.
-#[derive(Clone, Copy, Debug, PartialEq, Eq)]
+#[derive(Clone, Copy, PartialEq, Eq)]
 pub enum NoWhy {
     /// It lacks its newline.
     Cut,

@@ -12,7 +12,7 @@ ghost use Rattle.pm_state.specs.Standing.{IsActor};
 
 use pm_base::{ActorId, NoMemory};
 use pm_book::{Bad, Judge, Taker};
-use pm_keeper::Keeper;
+use pm_model::keeper::Keeper;
 use pm_model::{Change, Event, Line, Plan, Then};
 use std::alloc::Global;
 

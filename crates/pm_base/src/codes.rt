@@ -3,6 +3,10 @@
 //! The kernel names an error by a positive number and answers it negated. Here a name stands for
 //! the answer itself: `EAGAIN` is -11.
 
+ghost use Rattle.std.specs.Prelude.{◌≡◌};
+ghost use Rattle.pm_base.specs.Numbers.{errno_eacces, errno_eagain, errno_ebusy, errno_einprogress, errno_einval, errno_eio, errno_eperm, errno_etimedout, negated, rpm_async, rpm_auto, rpm_get_put, rpm_nowait};
+ghost use Rattle.pm_base.specs.declared.codes.TheConstants.{ASYNC, AUTO, EACCES, EAGAIN, EBUSY, EINPROGRESS, EINVAL, EIO, EPERM, ETIMEDOUT, GET_PUT, NOWAIT};
+
 /// Not permitted. No helper answers it; a callback may.
 pub const EPERM: i32 = -1;
 
@@ -38,3 +42,19 @@ pub const GET_PUT: u8 = 4;
 
 /// Go by the autosuspend delay (`RPM_AUTO`).
 pub const AUTO: u8 = 8;
+
+/// The codes and flags that definitions and code go by are the kernel's numbers.
+pub fn codes_are_numbers()
+    ensures eperm { EPERM ≡ negated errno_eperm }
+    ensures eio { EIO ≡ negated errno_eio }
+    ensures eagain { EAGAIN ≡ negated errno_eagain }
+    ensures eacces { EACCES ≡ negated errno_eacces }
+    ensures ebusy { EBUSY ≡ negated errno_ebusy }
+    ensures einval { EINVAL ≡ negated errno_einval }
+    ensures etimedout { ETIMEDOUT ≡ negated errno_etimedout }
+    ensures einprogress { EINPROGRESS ≡ negated errno_einprogress }
+    ensures async_flag { ASYNC ≡ rpm_async }
+    ensures nowait_flag { NOWAIT ≡ rpm_nowait }
+    ensures get_put_flag { GET_PUT ≡ rpm_get_put }
+    ensures auto_flag { AUTO ≡ rpm_auto }
+{}

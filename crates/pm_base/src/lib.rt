@@ -9,7 +9,8 @@ mod errors;
 mod limits;
 
 pub use codes::{
-    ASYNC, AUTO, EACCES, EAGAIN, EBUSY, EINPROGRESS, EINVAL, EIO, EPERM, ETIMEDOUT, GET_PUT, NOWAIT,
+    ASYNC, AUTO, EACCES, EAGAIN, EBUSY, EINPROGRESS, EINVAL, EIO, EPERM, ETIMEDOUT, GET_PUT,
+    NOWAIT, codes_are_numbers,
 };
 pub use errors::{Failed, NoMemory};
 pub use limits::{
@@ -19,15 +20,15 @@ pub use limits::{
 };
 
 /// A device, by its place in the plan's list of devices, counted from 0.
-#[derive(Clone, Copy, Debug, PartialEq, Eq, PartialOrd, Ord, Hash)]
+#[derive(Clone, Copy, PartialEq, Eq, PartialOrd, Ord, Hash)]
 pub struct DevId(pub u32);
 
 /// A power domain, by its place in the plan's list of domains, counted from 0.
-#[derive(Clone, Copy, Debug, PartialEq, Eq, PartialOrd, Ord, Hash)]
+#[derive(Clone, Copy, PartialEq, Eq, PartialOrd, Ord, Hash)]
 pub struct DomId(pub u32);
 
 /// Who writes a line (this project's own).
-#[derive(Clone, Copy, Debug, PartialEq, Eq, PartialOrd, Ord, Hash)]
+#[derive(Clone, Copy, PartialEq, Eq, PartialOrd, Ord, Hash)]
 pub enum ActorId {
     /// A caller that runs its script, by its place in the plan's list of callers.
     Caller(u32),
@@ -51,7 +52,7 @@ pub enum Status {
 }
 
 /// A callback of a device (`runtime_pm.rst`, section 2).
-#[derive(Clone, Copy, Debug, PartialEq, Eq, Hash)]
+#[derive(Clone, Copy, PartialEq, Eq, Hash)]
 pub enum Cb {
     /// `runtime_idle`.
     Idle,
@@ -77,7 +78,7 @@ pub enum Req {
 }
 
 /// Why a usage count is held (this project's own; the kernel keeps one number).
-#[derive(Clone, Copy, Debug, PartialEq, Eq, Hash)]
+#[derive(Clone, Copy, PartialEq, Eq, Hash)]
 pub enum Why {
     /// A caller's helper took it.
     Caller,

@@ -14,7 +14,7 @@ use Rattle.pm_model.specs.LineOf.{is_line_of}
 use Rattle.pm_model.specs.NoWhy.{at_time}
 use Rattle.pm_model.specs.World.{World, due, move, row, stage_at, world}
 use Rattle.pm_state.specs.Standing.{Standing, StandsWell, after_write, can_go_on}
-use Rattle.pm_law_bounds.proofs.Deciding.{event_move, move_event}
+use Rattle.pm_laws.proofs.bounds.Deciding.{event_move, move_event}
 use Rattle.pm_book.specs.declared.judge.Bad.{Bad}
 use Rattle.pm_book.specs.declared.judge.Bad.TheVariants as bad
 use Rattle.pm_book.specs.Judging.{IsAnswer, JudgeStandsFor, Judged, StandsForSome}

@@ -30,8 +30,8 @@ use Rattle.pm_model.specs.SuspendTable.{may_not_wait, suspend_ends, suspend_verd
 use Rattle.pm_model.specs.Views.{Views}
 use Rattle.pm_model.specs.WellFormed.{is_well_formed}
 use Rattle.pm_model.specs.World.{due}
-use Rattle.pm_law_bounds.specs.Times.{arms_for, event_at, event_of, expiry_of}
-use Rattle.pm_law_bounds.proofs.Timeless.{event_same}
+use Rattle.pm_laws.specs.bounds.Times.{arms_for, event_at, event_of, expiry_of}
+use Rattle.pm_laws.proofs.bounds.Timeless.{event_same}
 use Rattle.pm_book.specs.Sometime.{Comes, Follows, awaited, is_put_off, once_expired, tested_at}
 
 -- a line that is due some time after an earlier one has the same event at all times; every other is due at once

@@ -17,10 +17,10 @@ use Rattle.pm_model.specs.PlanRows.{parent}
 use Rattle.pm_model.specs.Serial.{seat}
 use Rattle.pm_model.specs.Views.{Views}
 use Rattle.pm_model.specs.World.{World, stage_at, world}
-use Rattle.pm_law_stacks.specs.Depth.{greatest, longest_chain, longest_of, of_supplier}
-use Rattle.pm_law_stacks.proofs.Tests.{same_self}
+use Rattle.pm_laws.specs.stacks.Depth.{greatest, longest_chain, longest_of, of_supplier}
+use Rattle.pm_laws.proofs.stacks.Tests.{same_self}
 use Rattle.pm_state.specs.Standing.{IsOf, Standing}
-use Rattle.pm_law_turns.specs.Wakes.{wakes, wakes_at}
+use Rattle.pm_laws.specs.turns.Wakes.{wakes, wakes_at}
 use Rattle.pm_turns.specs.Seats.{Asks, IsSeated, Seating, moment_by}
 use Rattle.pm_turns.specs.Turning.{AreOf, Index, IsIndex, is_listed}
 use Rattle.pm_model.specs.Scripts.{with_command}

@@ -25,10 +25,10 @@ use Rattle.pm_model.specs.Row.{Row, writes, waits, timed}
 use Rattle.pm_model.specs.Views.{Views}
 use Rattle.pm_model.specs.WellFormed.{called_for, is_well_formed}
 use Rattle.pm_model.specs.World.{World, after_line, called_by, counts_call, due, move, place, row, stage_at, with_place, world}
-use Rattle.pm_law_stacks.specs.Depth.{AreShallow, command_chain, greatest, longest_chain}
-use Rattle.pm_law_stacks.proofs.Chains.{quiet_le}
+use Rattle.pm_laws.specs.stacks.Depth.{AreShallow, command_chain, greatest, longest_chain}
+use Rattle.pm_laws.proofs.stacks.Chains.{quiet_le}
 use Rattle.pm_state.specs.Standing.{HasRoomFor, IsActor, IsOf, IsRoomy, Standing, StandsWell, Takes, after_write, can_count, can_go_on, is_awake}
-use Rattle.pm_law_bounds.specs.Times.{event_of}
+use Rattle.pm_laws.specs.bounds.Times.{event_of}
 use Rattle.pm_book.specs.Sometime.{MayCome, Writes}
 
 -- a line that is due is not late: its row writes, or waits

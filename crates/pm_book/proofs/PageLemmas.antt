@@ -17,7 +17,7 @@ use Rattle.pm_model.specs.History.{History}
 use Rattle.pm_model.specs.Lawful.{IsFinished, IsLawful, Permits, last_time}
 use Rattle.pm_model.specs.LineOf.{is_event_of}
 use Rattle.pm_model.specs.World.{World, move, stage_at, start, world}
-use Rattle.pm_law_turns.specs.Looks.{device_at}
+use Rattle.pm_laws.specs.turns.Looks.{device_at}
 use Rattle.pm_state.specs.Standing.{IsOf, Standing, StandsWell, after_write, can_go_on}
 use Rattle.pm_state.specs.Turns.{running_due}
 use Rattle.pm_turns.specs.Turning.{Index, IsIndex, Leads}

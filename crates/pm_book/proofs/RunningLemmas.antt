@@ -32,16 +32,16 @@ use Rattle.pm_model.specs.Row.{Row, goes, timed, writes, waits}
 use Rattle.pm_model.specs.SuspendTable.{suspend_ends}
 use Rattle.pm_model.specs.Views.{Views}
 use Rattle.pm_model.specs.World.{World, counts_call, due, move, place, row, row_at, start, world}
-use Rattle.pm_law_counts.specs.Sums.{one, tally, weigh}
-use Rattle.pm_law_counts.proofs.Tally.{weigh_is}
-use Rattle.pm_law_counts.proofs.Places.{IsHanded, IsWeight, is_placed, shown, shown_of, tally_goes}
-use Rattle.pm_law_counts.proofs.Runs.{lawful_holds, permitted, places_moved, start_tally, written}
-use Rattle.pm_law_stacks.specs.Shape.{Call, IsNested, Nested, call_of}
-use Rattle.pm_law_stacks.proofs.Nesting.{nested_goes}
-use Rattle.pm_law_stacks.proofs.Stacks.{stacked, told}
-use Rattle.pm_law_stacks.proofs.Standing.{stands}
-use Rattle.pm_law_stacks.proofs.Telling.{IsFresh, LeavesFit}
-use Rattle.pm_law_bounds.specs.Running.{runs_callback}
+use Rattle.pm_laws.specs.counts.Sums.{one, tally, weigh}
+use Rattle.pm_laws.proofs.counts.Tally.{weigh_is}
+use Rattle.pm_laws.proofs.counts.Places.{IsHanded, IsWeight, is_placed, shown, shown_of, tally_goes}
+use Rattle.pm_laws.proofs.counts.Runs.{lawful_holds, permitted, places_moved, start_tally, written}
+use Rattle.pm_laws.specs.stacks.Shape.{Call, IsNested, Nested, call_of}
+use Rattle.pm_laws.proofs.stacks.Nesting.{nested_goes}
+use Rattle.pm_laws.proofs.stacks.Stacks.{stacked, told}
+use Rattle.pm_laws.proofs.stacks.Standing.{stands}
+use Rattle.pm_laws.proofs.stacks.Telling.{IsFresh, LeavesFit}
+use Rattle.pm_laws.specs.bounds.Running.{runs_callback}
 use Rattle.pm_state.specs.Standing.{after_write}
 use Rattle.pm_state.specs.Turns.{is_running, running_due, runs_at}
 use Rattle.pm_book.specs.Pages.{MayWrite, runs_here, running}

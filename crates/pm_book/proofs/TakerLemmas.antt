@@ -8,7 +8,7 @@ use Rattle.pm_model.specs.History.{History}
 use Rattle.pm_model.specs.Lawful.{IsLawful, Permits}
 use Rattle.pm_model.specs.World.{World, world}
 use Rattle.pm_book.specs.Judging.{IsAnswer, JudgeStandsFor, Judged}
-use Rattle.pm_law_counts.specs.Sums.{one}
+use Rattle.pm_laws.specs.counts.Sums.{one}
 use Rattle.pm_state.specs.Standing.{IsOf, Standing}
 use Rattle.pm_turns.specs.Turning.{Index, IsIndex}
 use Rattle.pm_book.specs.Pages.{IsKept, MayWrite, running}

@@ -24,13 +24,13 @@ use Rattle.pm_model.specs.Lawful.{IsFinished, last_time}
 use Rattle.pm_model.specs.Serial.{least, move_at, next_line, next_turn, round, writes_line, written}
 use Rattle.pm_model.specs.Views.{Views}
 use Rattle.pm_model.specs.World.{due, move, stage_at, world}
-use Rattle.pm_law_turns.specs.Blocks.{blocks}
+use Rattle.pm_laws.specs.turns.Blocks.{blocks}
 use Rattle.pm_model.proofs.SerialLemmas.{permits_next}
 use Rattle.pm_state.specs.Standing.{IsActor}
 use Rattle.pm_state.specs.Turns.{end_due, is_running, running_due, runs_at}
-use Rattle.pm_law_turns.specs.Wakes.{first_awake, is_within, or_least, turn_by, wakes, wakes_at}
-use Rattle.pm_law_turns.proofs.Turning.{next_is, turn_awake}
-use Rattle.pm_law_turns.proofs.Waking.{actor_timed}
+use Rattle.pm_laws.specs.turns.Wakes.{first_awake, is_within, or_least, turn_by, wakes, wakes_at}
+use Rattle.pm_laws.proofs.turns.Turning.{next_is, turn_awake}
+use Rattle.pm_laws.proofs.turns.Waking.{actor_timed}
 use Rattle.pm_book.specs.declared.steps.EndStep.{EndStep}
 use Rattle.pm_book.specs.declared.steps.EndStep.TheVariants as end
 use Rattle.pm_book.specs.declared.steps.Step.{Step}

@@ -15,9 +15,9 @@ use Rattle.pm_model.specs.History.{History}
 use Rattle.pm_model.specs.Lawful.{IsLawful, Permits, last_time}
 use Rattle.pm_model.specs.Views.{Views}
 use Rattle.pm_model.specs.World.{World, move, stage_at, world}
-use Rattle.pm_law_counts.specs.Sums.{one, tally}
-use Rattle.pm_law_counts.specs.Owners.{places}
-use Rattle.pm_law_bounds.specs.Running.{runs_callback}
+use Rattle.pm_laws.specs.counts.Sums.{one, tally}
+use Rattle.pm_laws.specs.counts.Owners.{places}
+use Rattle.pm_laws.specs.bounds.Running.{runs_callback}
 use Rattle.pm_state.specs.Standing.{IsOf, Standing}
 use Rattle.pm_state.specs.Turns.{end_due, running_due}
 use Rattle.pm_turns.specs.Turning.{Index, IsIndex}

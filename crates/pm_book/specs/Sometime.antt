@@ -26,7 +26,7 @@ use Rattle.pm_model.specs.PlanRows.{no_callbacks}
 use Rattle.pm_model.specs.SuspendTable.{suspend_request}
 use Rattle.pm_model.specs.Views.{Views}
 use Rattle.pm_model.specs.World.{World, due, move, stage_at}
-use Rattle.pm_law_bounds.specs.Times.{event_at}
+use Rattle.pm_laws.specs.bounds.Times.{event_at}
 
 -- from some time on the line of a stage is due, and once it is, its row writes this event
 abbrev pub Comes : Plan → Views → Stage → ℕ → Event → Type 0

@@ -12,7 +12,7 @@ use pm_base::{ActorId, MAX_COMMANDS, NoMemory};
 use pm_model::{Command, Plan};
 
 /// Why a script doesn't become longer. The first that holds, in this order, is the answer.
-#[derive(Clone, Copy, Debug, PartialEq, Eq)]
+#[derive(Clone, Copy, PartialEq, Eq)]
 pub enum ExtendFault {
     /// The script has 1,000 commands.
     Full,

@@ -14,15 +14,15 @@ use crate::deciding::decide;
 use crate::judge_laws::{all_stand_well, each_line_fits, each_line_is_taken};
 use crate::offering::offered;
 use pm_base::{ActorId, NoMemory};
-use pm_law_bounds::lines_are_of_plan;
-use pm_law_counts::sizes;
+use pm_laws::bounds::lines_are_of_plan;
+use pm_laws::counts::sizes;
 use pm_model::{Change, Event, Line, Move, Plan, Then};
 use pm_state::State;
 use std::alloc::Global;
 use std::marker::Model;
 
 /// What is wrong with a line. The first that holds, in this order, is the answer.
-#[derive(Clone, Copy, Debug, PartialEq, Eq)]
+#[derive(Clone, Copy, PartialEq, Eq)]
 pub enum Bad {
     /// There are as many lines as the plan allows.
     Limit,

@@ -11,8 +11,8 @@ ghost use Rattle.pm_model.specs.World.{World, world};
 ghost use Rattle.pm_state.specs.Standing.{AllStandWell, HasRoomFor, IsActor, IsOf, Standing, Takes};
 ghost use Rattle.pm_book.specs.Sometime.{Writes};
 
-use pm_law_bounds::{counts_have_room, lines_are_taken, stages_can_be_told, stages_have_moves};
-use pm_law_stacks::stacks_are_shallow;
+use pm_laws::bounds::{counts_have_room, lines_are_taken, stages_can_be_told, stages_have_moves};
+use pm_laws::stacks::stacks_are_shallow;
 
 // Each actor stands at a well formed stage that awaits no call, or at none.
 pub fn all_stand_well()

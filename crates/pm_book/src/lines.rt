@@ -3,7 +3,7 @@
 ghost use Rattle.std.specs.Prelude.{◌≡◌, ◌+◌, ◌-◌, ◌*◌, ◌<◌, ◌≤◌, ◌^◌, ◌++◌, ◌∷◌, [], length, min, reverse, IsOk, OnErr, OnOk};
 ghost use Rattle.pm_book.specs.Sheets.{HasLine, Sheet};
 ghost use Rattle.pm_model.specs.Lawful.{last_time};
-ghost use Rattle.pm_law_counts.specs.Sums.{one};
+ghost use Rattle.pm_laws.specs.counts.Sums.{one};
 
 use pm_base::NoMemory;
 use pm_model::Line;

@@ -11,12 +11,12 @@ ghost use Rattle.pm_model.specs.SuspendTable.{suspend_request};
 ghost use Rattle.pm_model.specs.WellFormed.{is_well_formed};
 ghost use Rattle.pm_model.specs.World.{due};
 ghost use Rattle.pm_state.specs.Standing.{IsOf, can_go_on};
-ghost use Rattle.pm_law_bounds.specs.Times.{arms_for, event_at};
+ghost use Rattle.pm_laws.specs.bounds.Times.{arms_for, event_at};
 
 use crate::standing::{event_of, same};
 use pm_base::{ASYNC, AUTO, Cb, DevId, Req};
 use pm_device::{Parts, has, no_callbacks};
-use pm_law_bounds::dependence;
+use pm_laws::bounds::dependence;
 use pm_model::{
     ControlStage, Event, Helper, HelperStage, IdleStage, Plan, ResumeStage, Stage, SuspendStage,
     TimerAct, Word, WorkAct,

@@ -9,7 +9,7 @@ ghost use Rattle.pm_model.specs.declared.stage.Move.TheVariants.{Write};
 ghost use Rattle.pm_model.specs.declared.stage.Then.{Then as AThen};
 ghost use Rattle.pm_model.specs.World.{due, move, stage_at};
 ghost use Rattle.pm_state.specs.Standing.{IsOf, can_go_on};
-ghost use Rattle.pm_law_bounds.specs.Times.{event_at};
+ghost use Rattle.pm_laws.specs.bounds.Times.{event_at};
 
 use crate::deciding::Permitted;
 use pm_model::{Event, Line, Move, Plan, Stage};

@@ -4,7 +4,7 @@ use pm_base::{Cb, DevId};
 
 /// What came of a step of an actor. The first that holds, in this order, is the answer; all but `Begun`
 /// and `Wrote` change nothing.
-#[derive(Clone, Copy, Debug, PartialEq, Eq)]
+#[derive(Clone, Copy, PartialEq, Eq)]
 pub enum Step {
     /// The list has all the lines that the plan allows.
     AtLimit,
@@ -26,7 +26,7 @@ pub enum Step {
 
 /// What came of the end of a callback. The first that holds is the answer; all but `Wrote` change
 /// nothing.
-#[derive(Clone, Copy, Debug, PartialEq, Eq)]
+#[derive(Clone, Copy, PartialEq, Eq)]
 pub enum EndStep {
     /// The list has all the lines that the plan allows.
     AtLimit,

@@ -7,7 +7,7 @@ ghost use Rattle.pm_book.specs.Sometime.{Writes};
 ghost use Rattle.pm_model.specs.declared.event.Line.{Line};
 ghost use Rattle.pm_model.specs.Lawful.{IsLawful};
 ghost use Rattle.pm_state.specs.Standing.{IsActor};
-ghost use Rattle.pm_law_counts.specs.Sums.{one};
+ghost use Rattle.pm_laws.specs.counts.Sums.{one};
 ghost use Rattle.pm_book.specs.Sheets.{KeepsLine, begins_callback};
 ghost use Rattle.pm_book.specs.Takings.{TakerStandsFor};
 

@@ -13,7 +13,7 @@ use pm_base::NoMemory;
 use pm_model::Line;
 
 /// Why a line isn't taken. The first that holds, in this order, is the answer.
-#[derive(Clone, Copy, Debug, PartialEq, Eq)]
+#[derive(Clone, Copy, PartialEq, Eq)]
 pub enum TakeFault {
     /// The list has all the lines that the plan allows.
     Limit,

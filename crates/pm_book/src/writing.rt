@@ -11,7 +11,7 @@ use crate::book::Book;
 use crate::laws::{all_stand_well, each_line_is_taken, stacks_have_room};
 use crate::steps::{EndStep, Step};
 use pm_base::{ActorId, NoMemory};
-use pm_law_bounds::lines_are_of_plan;
+use pm_laws::bounds::lines_are_of_plan;
 use pm_model::{Change, Event, Line, Move, Stage, Then};
 use pm_turns::device_at;
 

@@ -3,7 +3,7 @@ use Rattle.std.specs.Prelude.{⊤, ℕ, Bool, Option, List, [], Result, Ok, Err,
 use Rattle.pm_audit.specs.Auditing.{reason_of}
 use Rattle.pm_io.specs.declared.reading.FileFault.{FileFault}
 use Rattle.pm_io.specs.declared.reading.FileFault.TheVariants as file
-use Rattle.pm_plantree.specs.declared.place.Section.TheVariants.{Top}
+use Rattle.pm_planread.specs.declared.tree.place.Section.TheVariants.{Top}
 use Rattle.pm_planread.specs.declared.refusal.PlanFault.{PlanFault}
 use Rattle.pm_planread.specs.declared.refusal.PlanFault.TheVariants as plan
 use Rattle.pm_planread.specs.declared.refusal.PlanWhy.TheVariants.{TooLong}

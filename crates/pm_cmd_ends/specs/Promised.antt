@@ -3,7 +3,7 @@ use Rattle.std.specs.Prelude.{◌≡◌, true, List}
 use Rattle.pm_model.specs.declared.event.Line.{Line}
 use Rattle.pm_model.specs.declared.plan.Plan.{Plan}
 use Rattle.pm_model.specs.Promises.{gets_succeed, is_exclusive, is_kept, is_safe}
-use Rattle.pm_law_gets.specs.Alone.{IsAlone}
+use Rattle.pm_laws.specs.gets.Alone.{IsAlone}
 
 -- the promises of a run: it is safe, exclusive and kept, where nothing disturbs its gets succeed, and one call alone resumes
 -- each device at most once

@@ -1,8 +1,8 @@
 -- What a command that reads a plan may come to (this project's own).
 use Rattle.std.specs.Prelude.{◌≡◌, ℕ, ◌<◌, ◌≤◌, Bool, Option, List, Ok, Err, length, IfSome, IsSome, IsTrue}
 use Rattle.pm_model.specs.declared.plan.Plan.{Plan}
-use Rattle.pm_plantree.specs.declared.place.Section.{Section}
-use Rattle.pm_plantree.specs.declared.place.Section.TheVariants.{Top}
+use Rattle.pm_planread.specs.declared.tree.place.Section.{Section}
+use Rattle.pm_planread.specs.declared.tree.place.Section.TheVariants.{Top}
 use Rattle.pm_planread.specs.declared.refusal.PlanFault.TheVariants as plan
 use Rattle.pm_planread.specs.declared.refusal.PlanWhy.{PlanWhy}
 use Rattle.pm_planread.specs.declared.refusal.PlanWhy.TheVariants.{TooLong}

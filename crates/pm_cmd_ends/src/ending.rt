@@ -53,7 +53,7 @@ const USAGE: &[u8] =
     b"usage: pm_top serial PLAN | run PLAN [--hands N] | audit PLAN TRACE | check PLAN | make NUMBER DEVICES | convert PLAN TRACE | times PLAN TRACE | why PLAN TRACE DEVICE | desk PLAN\n";
 
 /// Why a command didn't do everything.
-#[derive(Clone, Copy, Debug, PartialEq, Eq)]
+#[derive(Clone, Copy, PartialEq, Eq)]
 pub enum Fault {
     /// The plan is refused, at this item of the section and this part of the item.
     Refused {

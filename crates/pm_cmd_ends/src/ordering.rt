@@ -10,7 +10,7 @@ ghost use Rattle.pm_cmd_ends.specs.Ordering.{hands_of, ordered_of};
 ghost use Rattle.pm_cmd_ends.specs.Words.{before_option, before_separator, behind_separator, from_option, hands_first, hands_joined, hands_spaced, is_option, is_separator, ordered, ordered_around, ordered_by};
 
 /// The words behind a command's word, in order.
-#[derive(Clone, Copy, Debug)]
+#[derive(Clone, Copy)]
 pub(crate) struct Words<'a> {
     /// The positional words before `--` and before the option.
     front: &'a [String],
@@ -45,7 +45,7 @@ impl<'a> Words<'a> {
 }
 
 /// An option, and what stands behind it.
-#[derive(Clone, Copy, Debug)]
+#[derive(Clone, Copy)]
 struct Hands<'a> {
     number: &'a [u8],
     behind: &'a [String],

@@ -15,7 +15,7 @@ use pm_linetext::{LineSpeller, TimedText};
 use pm_model::{Event, Line, Plan};
 
 /// A format of traces.
-#[derive(Clone, Copy, Debug, PartialEq, Eq)]
+#[derive(Clone, Copy, PartialEq, Eq)]
 pub enum Format {
     /// Each line with its time.
     One,

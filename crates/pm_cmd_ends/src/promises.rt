@@ -5,8 +5,8 @@ ghost use Rattle.pm_model.specs.History.{History};
 ghost use Rattle.pm_model.specs.Lawful.{IsLawful};
 ghost use Rattle.pm_cmd_ends.specs.Promised.{KeepsPromises};
 
-use pm_law_gets::{gets_succeed, kept, one_call_alone};
-use pm_law_safe::{runs_are_exclusive, runs_are_safe};
+use pm_laws::gets::{gets_succeed, kept, one_call_alone};
+use pm_laws::safe::{runs_are_exclusive, runs_are_safe};
 
 /// Each lawful list is safe, exclusive and kept, where nothing disturbs its gets succeed, and one call alone
 /// resumes each device at most once.

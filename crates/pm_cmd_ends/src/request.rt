@@ -16,7 +16,7 @@ pub const MAX_HANDS: u32 = 16;
 pub const DEFAULT_HANDS: u32 = 4;
 
 /// A command, with what its words name. A plan and a trace are named by the paths of their files.
-#[derive(Clone, Copy, Debug, PartialEq, Eq)]
+#[derive(Clone, Copy, PartialEq, Eq)]
 pub enum Request<'a> {
     /// `serial PLAN`: runs the plan on one thread.
     Serial {

@@ -8,7 +8,7 @@ use Rattle.pm_model.specs.declared.rows.CallerRow.{CallerRow}
 use Rattle.pm_model.specs.IsPlan.{is_command}
 use Rattle.pm_model.specs.Lawful.{IsFinished, IsLawful}
 use Rattle.pm_model.specs.LineOf.{is_line_of}
-use Rattle.pm_law_stacks.proofs.PlanLaw.{command_lawful}
+use Rattle.pm_laws.proofs.stacks.PlanLaw.{command_lawful}
 use Rattle.pm_book.specs.Pages.{Pages}
 use Rattle.pm_cmd_top.specs.Gathering.{IsFinishedRun}
 

@@ -12,7 +12,7 @@ use Rattle.pm_model.specs.History.{History}
 use Rattle.pm_model.specs.Islands.{Numbering, merge_in, merged, put_in}
 use Rattle.pm_model.specs.Lawful.{IsFinished, IsLawful, last_time}
 use Rattle.pm_model.specs.LineOf.{is_line_of}
-use Rattle.pm_law_islands.specs.Apart.{EachPasses, IsFinishedOn, IsInTime, MergeIsFinished, MergeIsLawful}
+use Rattle.pm_laws.specs.islands.Apart.{EachPasses, IsFinishedOn, IsInTime, MergeIsFinished, MergeIsLawful}
 use Rattle.pm_book.specs.Pages.{Pages}
 use Rattle.pm_islands.specs.Next.{AreInTime}
 use Rattle.pm_cmd_top.specs.Gathering.{EachIsWhole, IsFinishedRun, lists}

@@ -8,3 +8,4 @@ pub mod SummaryLemmas
 pub mod FeedLemmas
 pub mod TraceLemmas
 pub mod WriteLemmas
+pub mod HeadlineLemmas

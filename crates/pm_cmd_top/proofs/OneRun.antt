@@ -9,8 +9,8 @@ use Rattle.pm_model.specs.History.{History}
 use Rattle.pm_model.specs.Islands.{Numbering, merged}
 use Rattle.pm_model.specs.Lawful.{is_finished}
 use Rattle.pm_model.specs.World.{world}
-use Rattle.pm_law_islands.proofs.OneNumbering.{one_count}
-use Rattle.pm_law_islands.proofs.OnePart.{one_part}
+use Rattle.pm_laws.proofs.islands.OneNumbering.{one_count}
+use Rattle.pm_laws.proofs.islands.OnePart.{one_part}
 use Rattle.pm_book.specs.Pages.{Pages}
 use Rattle.pm_serial.specs.Ends.{whole}
 use Rattle.pm_cmd_top.specs.Gathering.{AllFinish, ComesTo, Finishes, Gathered, IsKeptOf, IsPartOf, SomeIsCut, all_lines, lists, merges, no_lines, not_one_each, one_is_cut, too_many_lines}

@@ -7,3 +7,5 @@ pub mod TraceCommands
 pub mod Feeding
 pub mod Following
 pub mod Traces
+pub mod answers
+pub mod Headline

@@ -11,8 +11,8 @@ use crate::feeding::feed_trace;
 use pm_audit::{Auditor, BadLine, Follower};
 use pm_cmd_ends::Fault;
 use pm_io::Files;
-use pm_keeper::Keeper;
 use pm_model::Plan;
+use pm_model::keeper::Keeper;
 use std::alloc::Global;
 
 /// Reads the trace from its file, to its end, and has of its lines what the keeper keeps. All memory but the keeper's

@@ -3,6 +3,7 @@
 //! sinks, clocks and hints are handed in.
 #![tactic(auto)]
 
+pub mod answers;
 mod audit;
 mod books;
 mod check;
@@ -12,6 +13,7 @@ mod desks;
 mod dispatch;
 mod feeding;
 mod following;
+mod headline;
 mod laws;
 mod lists;
 mod locks;
@@ -32,6 +34,7 @@ pub use convert::convert_top;
 pub use counts::counts_text;
 pub use desks::desk_top;
 pub use dispatch::top;
+pub use headline::headline_holds;
 pub use laws::gathered_once;
 pub use lists::gather;
 pub use locks::{locked_parts, run_islands};

@@ -10,8 +10,8 @@ use crate::books::finished;
 use pm_base::NoMemory;
 use pm_book::Book;
 use pm_islands::{islands, merge, part};
-use pm_law_bounds::lines_are_of_plan;
-use pm_law_islands::merge_is_lawful;
+use pm_laws::bounds::lines_are_of_plan;
+use pm_laws::islands::merge_is_lawful;
 use pm_model::{Line, Plan};
 use std::alloc::Global;
 

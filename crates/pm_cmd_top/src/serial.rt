@@ -18,7 +18,7 @@ use crate::running::ended;
 use pm_base::Failed;
 use pm_cmd_ends::{Fault, Format, finish, load, promises_are_kept, spell, write_header};
 use pm_io::{Files, Sink, write_whole};
-use pm_law_turns::serial_ends;
+use pm_laws::turns::serial_ends;
 use pm_linetext::{LineSpeller, TimedText};
 use pm_model::{Move, Plan};
 use pm_serial::{SerialLines, serial_lines_are_lawful};

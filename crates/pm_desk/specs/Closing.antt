@@ -3,7 +3,7 @@ use Rattle.std.specs.Prelude.{◌≡◌, ◌+◌, ◌<◌, ℕ, Bool, true, fals
 use Rattle.pm_model.specs.declared.event.Line.{Line}
 use Rattle.pm_model.specs.declared.plan.Plan.{Plan}
 use Rattle.pm_model.specs.Lawful.{IsLawful}
-use Rattle.pm_law_gets.specs.Alone.{IsAlone}
+use Rattle.pm_laws.specs.gets.Alone.{IsAlone}
 use Rattle.pm_book.specs.Growing.{script_of}
 use Rattle.pm_book.specs.Pages.{Pages, is_full}
 use Rattle.pm_serial.specs.declared.running.End.{End}

@@ -20,7 +20,7 @@ use std::sync::Wait;
 const NAPS: u32 = 500;
 
 /// What a call found in one hold of the lock.
-#[derive(Clone, Copy, Debug, PartialEq, Eq)]
+#[derive(Clone, Copy, PartialEq, Eq)]
 enum Found {
     /// Its command has returned this code.
     Returned(i32),
@@ -33,7 +33,7 @@ enum Found {
 }
 
 /// What a call found, and how many lines it has looked at.
-#[derive(Clone, Copy, Debug, PartialEq, Eq)]
+#[derive(Clone, Copy, PartialEq, Eq)]
 struct Look {
     found: Found,
     seen: usize,

@@ -1,7 +1,7 @@
 //! The closing of a desk.
 
 ghost use Rattle.std.specs.Prelude.{◌≡◌, ◌<◌, ◌^◌, IfErr, IfNone, IfOk, IfSome, IsTrue, length, reverse, true};
-ghost use Rattle.pm_law_gets.specs.Alone.{IsAlone};
+ghost use Rattle.pm_laws.specs.gets.Alone.{IsAlone};
 ghost use Rattle.pm_book.specs.Growing.{script_of};
 ghost use Rattle.pm_model.specs.Lawful.{IsLawful};
 ghost use Rattle.pm_book.specs.Turn.{HasTime};
@@ -17,7 +17,7 @@ use crate::returns::calls_of;
 use pm_base::{MAX_COMMANDS, NoMemory};
 use pm_book::Book;
 use pm_islands::blank;
-use pm_law_gets::one_call_alone;
+use pm_laws::gets::one_call_alone;
 use pm_model::{Line, Plan};
 use pm_serial::{End, drain, fresh_books_have_time, has_time};
 use std::alloc::Global;
@@ -66,7 +66,7 @@ impl From<NoMemory> for CloseFault {
 }
 
 /// Where the receipts of a caller and the calls that the list has differ first.
-#[derive(Clone, Copy, Debug, PartialEq, Eq)]
+#[derive(Clone, Copy, PartialEq, Eq)]
 struct Difference {
     caller: u32,
     nth: u32,
@@ -75,7 +75,7 @@ struct Difference {
 }
 
 /// What is wrong with the passes to a drained book.
-#[derive(Clone, Copy, Debug, PartialEq, Eq)]
+#[derive(Clone, Copy, PartialEq, Eq)]
 enum Wrong {
     Differs(Difference),
     NotFull(u32),

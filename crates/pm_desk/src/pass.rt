@@ -10,7 +10,7 @@ use std::alloc::{AllocError, Global};
 use std::marker::Model;
 
 /// A command of a caller that has returned.
-#[derive(Clone, Copy, Debug, PartialEq, Eq)]
+#[derive(Clone, Copy, PartialEq, Eq)]
 pub struct Receipt {
     pub command: Command,
     /// What it returned: 0 or more, or an error code below 0.
@@ -18,7 +18,7 @@ pub struct Receipt {
 }
 
 /// Why a call was stopped.
-#[derive(Clone, Copy, Debug, PartialEq, Eq)]
+#[derive(Clone, Copy, PartialEq, Eq)]
 pub enum Stop {
     /// The list has all the lines that the plan allows, or the caller's script has 1,000 commands.
     Limit,

@@ -36,7 +36,6 @@ use std::marker::Model;
 
 /// The counters of all devices, links and domains. Contracts see the views that they keep, and what
 /// they were made for.
-#[derive(Debug)]
 pub struct Parts {
     devices: Vec<Device>,
     requests: Requests,

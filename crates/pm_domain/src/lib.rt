@@ -23,7 +23,7 @@ use walk::{count_off, home, is_always_on, parent, switch};
 
 /// Which domains are on, and which devices keep theirs on. Contracts see both, with the domain of each
 /// device and the one above each domain.
-#[derive(Debug, Drop)]
+#[derive(Drop)]
 pub struct Domains {
     // A device is marked where it keeps its domain on: it isn't Suspended, or it is disabled.
     awake: Tally,

@@ -7,8 +7,8 @@ use Rattle.std.specs.Option.{option_map_or}
 use Rattle.toml.specs.Data.{Data, Items, as_array}
 use Rattle.toml.specs.View.{items_view, view}
 use Rattle.toml.specs.declared.value.Value.{Value}
-use Rattle.pm_plantree.proofs.TreeLemmas.{items_list_view}
-use Rattle.pm_plantree.specs.Tree.{items_list}
+use Rattle.pm_planread.proofs.tree.TreeLemmas.{items_list_view}
+use Rattle.pm_planread.specs.tree.Tree.{items_list}
 use Rattle.pm_expect.specs.Expected.{few_of, items_of}
 use Rattle.pm_expect.specs.Tables.{◌>>=◌}
 use Rattle.pm_expect.specs.declared.refusal.Why.{Why}

@@ -3,8 +3,8 @@ use Rattle.std.specs.Prelude.{◌≡◌, ⊤, ℕ, ◌+◌, List, [], ◌∷◌,
 use Rattle.std.specs.Option.{option_map_or}
 use Rattle.toml.specs.Data.{Data, Members, as_array, as_table, get_member}
 use Rattle.pm_model.specs.declared.plan.Plan.{Plan}
-use Rattle.pm_plantree.specs.Places.{capped}
-use Rattle.pm_plantree.specs.Tree.{document, items_list}
+use Rattle.pm_planread.specs.tree.Places.{capped}
+use Rattle.pm_planread.specs.tree.Tree.{document, items_list}
 use Rattle.pm_expect.specs.Rows.{answer_in, end_in, use_in}
 use Rattle.pm_expect.specs.Tables.{◌>>=◌, known_keys}
 use Rattle.pm_expect.specs.Words.{section_word}

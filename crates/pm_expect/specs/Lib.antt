@@ -5,3 +5,6 @@ pub mod Fields
 pub mod Rows
 pub mod Expected
 pub mod Over
+pub mod verdicts
+pub mod uses
+pub mod text

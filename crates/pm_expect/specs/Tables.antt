@@ -2,8 +2,8 @@
 use Rattle.std.specs.Prelude.{ℕ, ℤ, Bool, true, false, not, ◌||◌, List, Option, Some, None, Result, Ok, Err, codes, ok_or, is_some, is_none, option_map}
 use Rattle.std.specs.Str.{bytes_eq}
 use Rattle.toml.specs.Data.{Data, Members, as_array, as_integer, as_str, as_table, get_member}
-use Rattle.pm_plantree.specs.Places.{capped, first_place}
-use Rattle.pm_plantree.specs.Tree.{items_list, member_keys}
+use Rattle.pm_planread.specs.tree.Places.{capped, first_place}
+use Rattle.pm_planread.specs.tree.Tree.{items_list, member_keys}
 use Rattle.pm_expect.specs.Words.{key_word, section_word}
 use Rattle.pm_expect.specs.declared.refusal.Key.{Key}
 use Rattle.pm_expect.specs.declared.refusal.Key.TheVariants as key

@@ -4,7 +4,7 @@ use pm_base::DevId;
 use pm_model::{Command, Items};
 
 /// Which of the calls of a command in its caller's script.
-#[derive(Clone, Copy, Debug, PartialEq, Eq)]
+#[derive(Clone, Copy, PartialEq, Eq)]
 pub enum Which {
     /// Each of them.
     Each,
@@ -13,7 +13,7 @@ pub enum Which {
 }
 
 /// A call answers a code.
-#[derive(Clone, Copy, Debug, PartialEq, Eq)]
+#[derive(Clone, Copy, PartialEq, Eq)]
 pub struct Answer {
     /// The caller, by its place in the plan.
     pub caller: u32,
@@ -25,14 +25,14 @@ pub struct Answer {
 }
 
 /// How a device is left.
-#[derive(Clone, Copy, Debug, PartialEq, Eq)]
+#[derive(Clone, Copy, PartialEq, Eq)]
 pub enum Left {
     Suspended,
     Active,
 }
 
 /// A finished run leaves a device so.
-#[derive(Clone, Copy, Debug, PartialEq, Eq)]
+#[derive(Clone, Copy, PartialEq, Eq)]
 pub struct End {
     pub dev: DevId,
     pub left: Left,
@@ -41,7 +41,7 @@ pub struct End {
 }
 
 /// A caller uses a device while it is in each of its calls of a command.
-#[derive(Clone, Copy, Debug, PartialEq, Eq)]
+#[derive(Clone, Copy, PartialEq, Eq)]
 pub struct Use {
     pub dev: DevId,
     /// The caller, by its place in the plan.
@@ -51,7 +51,7 @@ pub struct Use {
 }
 
 /// What a file expects, each list in the order of its tables.
-#[derive(Debug, Drop)]
+#[derive(Drop)]
 pub struct Expectations {
     pub answers: Items<Answer>,
     pub ends: Items<End>,

@@ -9,7 +9,10 @@ mod fields;
 mod reading;
 mod refusal;
 mod rows;
+pub mod text;
 mod tree;
+pub mod uses;
+pub mod verdicts;
 
 pub use expectation::{Answer, End, Expectations, Left, Use, Which};
 pub use fields::{is_same_command, times_by};

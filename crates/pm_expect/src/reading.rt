@@ -12,7 +12,7 @@ use crate::refusal::{Fault, Refusal, Section, Why};
 use crate::rows::{Row, refused, rows_in};
 use crate::tree::{items_in, known_keys};
 use pm_model::{Items, Plan};
-use pm_plantree::document;
+use pm_planread::tree::document;
 use std::alloc::Global;
 use toml::Table;
 

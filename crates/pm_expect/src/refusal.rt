@@ -8,7 +8,7 @@ use pm_script::ScriptFault;
 use std::alloc::{AllocError, AllocFailed};
 
 /// A part of a file of expectations (this project's own).
-#[derive(Clone, Copy, Debug, PartialEq, Eq)]
+#[derive(Clone, Copy, PartialEq, Eq)]
 pub enum Section {
     /// The top keys.
     Top,
@@ -18,7 +18,7 @@ pub enum Section {
 }
 
 /// A key of its tables (this project's own).
-#[derive(Clone, Copy, Debug, PartialEq, Eq)]
+#[derive(Clone, Copy, PartialEq, Eq)]
 pub enum Key {
     Caller,
     Command,
@@ -61,7 +61,7 @@ impl Key {
 }
 
 /// Why a file of expectations is refused (this project's own).
-#[derive(Clone, Copy, Debug, PartialEq, Eq)]
+#[derive(Clone, Copy, PartialEq, Eq)]
 pub enum Why {
     /// It has more than 262,144 bytes.
     TooLong,
@@ -94,7 +94,7 @@ pub enum Why {
 }
 
 /// A refusal, and the item of the section, counted from 0, that is refused.
-#[derive(Clone, Copy, Debug, PartialEq, Eq)]
+#[derive(Clone, Copy, PartialEq, Eq)]
 pub struct Refusal {
     pub section: Section,
     pub item: u32,
@@ -102,7 +102,7 @@ pub struct Refusal {
 }
 
 /// Why a file of expectations isn't read.
-#[derive(Clone, Copy, Debug, PartialEq, Eq)]
+#[derive(Clone, Copy, PartialEq, Eq)]
 pub enum Fault {
     /// The first refusal.
     Refused { refusal: Refusal },

@@ -4,15 +4,15 @@ ghost use Rattle.std.specs.Prelude.{◌≡◌, Ok, map, option_map};
 ghost use Rattle.std.specs.Str.{bytes_eq};
 ghost use Rattle.toml.specs.Data.{get_member};
 ghost use Rattle.toml.specs.View.{table_view, view};
-ghost use Rattle.pm_plantree.specs.Places.{capped};
-ghost use Rattle.pm_plantree.specs.Tree.{items_list, member_keys};
+ghost use Rattle.pm_planread.specs.tree.Places.{capped};
+ghost use Rattle.pm_planread.specs.tree.Tree.{items_list, member_keys};
 ghost use Rattle.pm_expect.specs.Expected.{few_of, items_of};
 ghost use Rattle.pm_expect.specs.Words.{section_word};
 ghost use Rattle.pm_expect.specs.Tables.{◌>>=◌ as ◌▹◌, is_key_of, is_word, known_keys, number_at, optional_at, text_at, unknown_key};
 
 use crate::reading::MAX_TABLES;
 use crate::refusal::{Key, Section, Why};
-use pm_plantree::Text;
+use pm_planread::tree::Text;
 use toml::{Table, Value};
 
 /// Whether a key is this one.
@@ -131,7 +131,7 @@ pub(crate) fn optional_at(key: Key, table: &Table) -> Result<Option<i64>, Why>
 }
 
 /// The items of a section, of which there are no more than it may have.
-#[tactic(auto, using(pm_plantree::proofs::TreeLemmas::items_list_view))]
+#[tactic(auto, using(pm_planread::proofs::tree::TreeLemmas::items_list_view))]
 pub(crate) fn items_in<'a>(section: Section, tree: &'a Table) -> Result<&'a [Value], Why>
     ensures { (result ▹ λ items. Ok (map view items.now)) ≡ (items_of (get_member (section_word section) (table_view tree.now)) ▹ few_of) }
 {

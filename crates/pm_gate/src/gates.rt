@@ -15,7 +15,7 @@ pub trait Gate {
 }
 
 /// A gate that returns at once.
-#[derive(Clone, Copy, Debug)]
+#[derive(Clone, Copy)]
 pub struct Quiet;
 
 impl Gate for Quiet {
@@ -26,7 +26,7 @@ impl Gate for Quiet {
 const TURNS: u32 = 1_000_000;
 
 /// One of the two devices of a `Meet`.
-#[derive(Clone, Copy, Debug, PartialEq, Eq)]
+#[derive(Clone, Copy, PartialEq, Eq)]
 pub(crate) enum Side {
     /// The first that was named.
     One,

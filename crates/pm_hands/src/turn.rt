@@ -15,7 +15,7 @@ use pm_device::ms_of;
 use pm_model::{Event, Line, Plan};
 
 /// A callback that a hand began.
-#[derive(Clone, Copy, Debug, PartialEq, Eq)]
+#[derive(Clone, Copy, PartialEq, Eq)]
 pub struct Callback {
     /// Who began it.
     pub actor: ActorId,
@@ -29,7 +29,7 @@ pub struct Callback {
 }
 
 /// A line that was written.
-#[derive(Clone, Copy, Debug, PartialEq, Eq)]
+#[derive(Clone, Copy, PartialEq, Eq)]
 pub enum Wrote {
     /// It began this callback.
     Began(Callback),
@@ -38,7 +38,7 @@ pub enum Wrote {
 }
 
 /// What came of a hand's turn with a book.
-#[derive(Clone, Copy, Debug, PartialEq, Eq)]
+#[derive(Clone, Copy, PartialEq, Eq)]
 pub enum Turn {
     /// A line was written.
     Wrote(Wrote),

@@ -10,7 +10,7 @@ use std::alloc::Global;
 use std::marker::Model;
 
 /// A set of numbers below a bound. Contracts see a mark for each number.
-#[derive(Debug, Drop)]
+#[derive(Drop)]
 pub struct Bits {
     bound: usize,
     // A bit for each number.

@@ -14,7 +14,7 @@ use std::marker::Model;
 
 /// From which moment on the actor at each place may move, in milliseconds of the run, or `None`
 /// where it waits for none. Contracts see the list of these moments by place.
-#[derive(Debug, Drop)]
+#[derive(Drop)]
 pub struct Moments {
     places: usize,
     // The places whose moment is 0: they may move now.

@@ -10,7 +10,7 @@ use std::marker::Model;
 
 /// A mark at each place, and for each owner how many of its places are marked. Contracts see the owner
 /// and the mark of each place.
-#[derive(Debug, Drop)]
+#[derive(Drop)]
 pub struct Tally {
     owners: Vec<Option<u32>>,
     bits: Vec<bool>,

@@ -9,7 +9,7 @@ use Rattle.pm_model.specs.declared.plan.Plan.{Plan}
 use Rattle.pm_model.specs.Islands.{Connected}
 use Rattle.pm_islands.specs.Labels.{AreLabels, Keeps, joined, label_at, put_for, relabelled}
 use Rattle.pm_islands.specs.Places.{node_at, nodes}
-use Rattle.pm_law_islands.proofs.Walks.{goes_back, goes_further}
+use Rattle.pm_laws.proofs.islands.Walks.{goes_back, goes_further}
 
 puts : (from to x : ℕ) → ((x ≡ from) × (put_for from to x ≡ to)) ⊎ (put_for from to x ≡ x)
 puts from to x = go (nat_eq x from) refl

@@ -7,9 +7,9 @@ use Rattle.std.proofs.lemmas.List.{map-set, reverse-append}
 use Rattle.std.proofs.lemmas.List.Elements.{All-cons}
 use Rattle.std.proofs.lemmas.Option.{same_Some}
 use Rattle.pm_model.specs.declared.event.Line.{Line}
-use Rattle.pm_law_islands.specs.Apart.{IsInTime}
+use Rattle.pm_laws.specs.islands.Apart.{IsInTime}
 use Rattle.pm_model.specs.Islands.{put_in, merge_in, merged}
-use Rattle.pm_law_islands.proofs.MergeOrder.{is_rising, no_later, merged_rises}
+use Rattle.pm_laws.proofs.islands.MergeOrder.{is_rising, no_later, merged_rises}
 use Rattle.pm_islands.specs.Next.{AreInTime, earlier, moved, next}
 
 put_passes : (p : Line → Bool) (x : Line) (ys : List Line) → p x ≡ true → list_all p ys ≡ true → list_all p (put_in x ys) ≡ true

@@ -12,10 +12,10 @@ use Rattle.pm_islands.specs.Numbers.{AreIslands, AreNumbers, NodeNumbers, actor_
 use Rattle.pm_islands.specs.Places.{has_node, node_at, nodes, place}
 use Rattle.pm_islands.specs.Ranks.{is_among, number_of, of_callers, rank}
 use Rattle.pm_islands.proofs.NodeOrder.{is_order, is_placed, order_is, stands_at, stands_there}
-use Rattle.pm_law_islands.proofs.OneNumbering.{one_number}
+use Rattle.pm_laws.proofs.islands.OneNumbering.{one_number}
 use Rattle.pm_islands.proofs.Ranking.{each_among, has_rank, one_rank, ranks_less, ranks_rise, stands}
 use Rattle.pm_islands.proofs.Ties.{has_tie, ties_touch}
-use Rattle.pm_law_islands.proofs.Walks.{goes_back, goes_further}
+use Rattle.pm_laws.proofs.islands.Walks.{goes_back, goes_further}
 
 -- how many islands there are
 abbrev count_by : Plan → List ℕ → ℕ

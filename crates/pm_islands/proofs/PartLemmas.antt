@@ -10,7 +10,7 @@ use Rattle.pm_model.specs.declared.rows.DomainRow.{DomainRow}
 use Rattle.pm_model.specs.declared.rows.LinkRow.{LinkRow}
 use Rattle.pm_model.specs.Islands.{Node, the_caller, with_scripts}
 use Rattle.pm_model.specs.IsPlan.{is_plan}
-use Rattle.pm_law_islands.proofs.Isles.{law_in}
+use Rattle.pm_laws.proofs.islands.Isles.{law_in}
 use Rattle.pm_islands.specs.Numbers.{AreNumbers, is_of}
 use Rattle.pm_islands.specs.Places.{nodes}
 

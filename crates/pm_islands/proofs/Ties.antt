@@ -18,8 +18,8 @@ use Rattle.pm_model.specs.IsPlan.{each_at, is_device, is_domain, is_link, is_ope
 use Rattle.pm_model.specs.Islands.{Node, is_some_device, is_some_domain, names_device, the_caller, the_device, the_domain, touch}
 use Rattle.pm_model.specs.PlanRows.{domain, parent}
 use Rattle.pm_model.specs.Spelling.{operand_of, takes_device}
-use Rattle.pm_law_stacks.proofs.PlanLaw.{all_get, command_lawful, device_lawful}
-use Rattle.pm_law_stacks.proofs.Tests.{front, rear, same_self}
+use Rattle.pm_laws.proofs.stacks.PlanLaw.{all_get, command_lawful, device_lawful}
+use Rattle.pm_laws.proofs.stacks.Tests.{front, rear, same_self}
 use Rattle.pm_islands.specs.declared.touching.Tie.{Tie}
 use Rattle.pm_islands.specs.declared.touching.Tie.TheVariants.{OfCaller, OfDomains, ToDomain, ToParent, ToSupplier}
 use Rattle.pm_islands.specs.Places.{has_node, place, rows, tied}

@@ -1,7 +1,7 @@
 -- Which of several lists gives the next line of their merge (this project's own).
 use Rattle.std.specs.Prelude.{ℕ, suc, List, [], ◌∷◌, Option, Some, None, All, nat_lt, option_map, reverse, if◌then◌else◌}
 use Rattle.pm_model.specs.declared.event.Line.{Line}
-use Rattle.pm_law_islands.specs.Apart.{IsInTime}
+use Rattle.pm_laws.specs.islands.Apart.{IsInTime}
 
 -- a list with its first line at this time stands before lists of which the place and the time of the next are known
 abbrev pub earlier : ℕ → Option (ℕ × ℕ) → ℕ × ℕ

@@ -73,7 +73,7 @@ fn of_callers<'a>(plan: &Plan, labels: &'a [u32]) -> &'a [u32]
 /// The numbers of the islands of a plan's nodes: devices, callers and domains. An island is all that
 /// is connected with one of the plan's callers, by parents, runtime links, domains and scripts (this
 /// project's own).
-#[derive(Debug, Drop)]
+#[derive(Drop)]
 pub struct IslandNumbers {
     count: u32,
     devices: Vec<Option<u32>>,

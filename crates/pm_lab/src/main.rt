@@ -1,10 +1,10 @@
-//! What people look at in a plan and in its runs. `say` tells what is wrong with a refused plan, `find` what stands out in
-//! a run, and `kernel` writes the plan as a module for a Linux kernel.
+//! What people look at in a plan and in its runs, over the real files and streams: `say`, `find`, `picture`, `orders`, `order`,
+//! `kernel` and `help`.
 #![tactic(auto)]
 
+use pm_cmd_lab::ends::{Fault, finish, refuse_words};
+use pm_cmd_lab::others::top;
 use pm_io::{DiskFiles, StdErr, StdOut};
-use pm_lab_cmd::top;
-use pm_lab_ends::{Fault, finish, refuse_words};
 use std::process::ExitCode;
 use std::rt::Env;
 use std::{env, io};

@@ -4,7 +4,7 @@ ghost use Rattle.std.specs.Prelude.{◌≡◌};
 ghost use Rattle.pm_lab_words.specs.Options.{command_of, has_value, name_of, takes};
 
 /// A command of `pm_lab`, but `help`.
-#[derive(Clone, Copy, Debug, PartialEq, Eq)]
+#[derive(Clone, Copy, PartialEq, Eq)]
 pub enum Command {
     Say,
     Find,
@@ -15,7 +15,7 @@ pub enum Command {
 }
 
 /// An option of some command.
-#[derive(Clone, Copy, Debug, PartialEq, Eq)]
+#[derive(Clone, Copy, PartialEq, Eq)]
 pub enum Name {
     Notes,
     Ktap,

@@ -11,7 +11,7 @@ use crate::options::Options;
 use pm_base::Status;
 
 /// How far the orders of a plan are looked through.
-#[derive(Clone, Copy, Debug, PartialEq, Eq)]
+#[derive(Clone, Copy, PartialEq, Eq)]
 pub struct Bounds {
     /// Whether anybody may be late.
     pub late: bool,
@@ -22,7 +22,7 @@ pub struct Bounds {
 }
 
 /// What an order is to show.
-#[derive(Clone, Copy, Debug, PartialEq, Eq)]
+#[derive(Clone, Copy, PartialEq, Eq)]
 pub enum Sought<'a> {
     /// The `number`-th command of a caller's script, counted from 1, returns this code.
     Return {
@@ -40,7 +40,7 @@ pub enum Sought<'a> {
 }
 
 /// A command, with what its words name. Files are named by their paths.
-#[derive(Clone, Copy, Debug, PartialEq, Eq)]
+#[derive(Clone, Copy, PartialEq, Eq)]
 pub enum Request<'a> {
     /// `help`: the usage and a line for each command.
     Help,

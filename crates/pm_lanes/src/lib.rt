@@ -1,6 +1,7 @@
 //! What a picture of a run shows: for callers, devices, domains and links what each lane shows from which line on.
 #![tactic(auto)]
 
+pub mod calls;
 mod gather;
 mod nexts;
 mod pushing;

@@ -11,7 +11,7 @@ use pm_base::{DevId, NoMemory, Status};
 use pm_device::Parts;
 
 /// What is seen of a device between two lines (`runtime_pm.rst`, section 3).
-#[derive(Clone, Copy, Debug, PartialEq, Eq)]
+#[derive(Clone, Copy, PartialEq, Eq)]
 pub struct Seen {
     pub status: Status,
     /// The counts that are held on it.

@@ -7,7 +7,7 @@ use pm_base::{ActorId, Cb, DevId, DomId, Status};
 use pm_model::Command;
 
 /// A lane of the picture: whom it is about, and what of it.
-#[derive(Clone, Copy, Debug, PartialEq, Eq, Hash)]
+#[derive(Clone, Copy, PartialEq, Eq, Hash)]
 pub enum Lane {
     /// The calls of a caller, by its place in the plan.
     Calls(u32),
@@ -34,7 +34,7 @@ pub enum Lane {
 }
 
 /// What a lane shows from a line on.
-#[derive(Clone, Copy, Debug, PartialEq, Eq)]
+#[derive(Clone, Copy, PartialEq, Eq)]
 pub enum Shown {
     /// A caller called a helper.
     Called {
@@ -106,7 +106,7 @@ pub enum Shown {
 }
 
 /// What a lane shows from a line on, and that line, counted from 1.
-#[derive(Clone, Copy, Debug, PartialEq, Eq)]
+#[derive(Clone, Copy, PartialEq, Eq)]
 pub struct Piece {
     pub line: u32,
     pub shown: Shown,

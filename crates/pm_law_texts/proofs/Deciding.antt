@@ -23,8 +23,8 @@ use Rattle.pm_model.specs.Spelling.{line_text}
 use Rattle.pm_model.specs.Text.{IsTextBehind, names_of}
 use Rattle.pm_model.specs.World.{move, stage_at, world}
 use Rattle.pm_law_texts.proofs.Formats.{line_is, one_line}
-use Rattle.pm_law_bounds.specs.Times.{IsPermittedAt, moments}
-use Rattle.pm_law_bounds.proofs.Deciding.{found}
+use Rattle.pm_laws.specs.bounds.Times.{IsPermittedAt, moments}
+use Rattle.pm_laws.proofs.bounds.Deciding.{found}
 use Rattle.pm_law_texts.specs.Next.{IsNext}
 
 abbrev pub Decided : Type 0 → Type 0

@@ -11,7 +11,7 @@ use Rattle.pm_model.specs.LineOf.{is_line_of}
 use Rattle.pm_model.specs.Spelling.{newline}
 use Rattle.pm_model.specs.Text.{text, text1, text2}
 use Rattle.pm_linetext.proofs.Lengths.{text_fits, text_len}
-use Rattle.pm_law_bounds.proofs.Limits.{lines_bounded}
+use Rattle.pm_laws.proofs.bounds.Limits.{lines_bounded}
 use Rattle.pm_law_texts.proofs.Formats.{line_in, one_more, text_in}
 
 rising : (plan : Plan) (h : List Line) → IsLawful plan h → TimesDontFall h

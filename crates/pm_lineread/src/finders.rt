@@ -7,7 +7,7 @@ use std::alloc::Global;
 
 /// Finds the devices and callers of a plan by their names, sooner than the plan itself does. It serves for
 /// each plan, and for the one that it was made for soon.
-#[derive(Debug, Drop)]
+#[derive(Drop)]
 pub struct Finders {
     devices: Finder,
     callers: Finder,

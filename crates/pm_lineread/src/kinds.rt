@@ -4,7 +4,7 @@ ghost use Rattle.std.specs.Prelude.{◌≡◌, slice_get};
 ghost use Rattle.pm_lineread.specs.Kinds.{all_kinds};
 
 /// What the word in front of an event's colon tells. A callback's begin and end have one word.
-#[derive(Clone, Copy, Debug, PartialEq, Eq)]
+#[derive(Clone, Copy, PartialEq, Eq)]
 pub(crate) enum Kind {
     Call,
     Ret,

@@ -27,7 +27,7 @@ pub use finders::Finders;
 use pm_model::{Line, Plan};
 
 /// The bytes are no line's text.
-#[derive(Clone, Copy, Debug, PartialEq, Eq)]
+#[derive(Clone, Copy, PartialEq, Eq)]
 pub struct TextFault {
     /// How many bytes of these, from the front, some line's text begins with, at most; 0 where no line
     /// has a text.

@@ -27,7 +27,7 @@ use std::marker::Model;
 
 /// Which links are held and which are present. Contracts see the links of the plan for which it was
 /// made, and both lists in the plan's order.
-#[derive(Debug, Drop)]
+#[derive(Drop)]
 pub struct Links {
     rows: Vec<LinkRow>,
     // The places of the links, sorted by consumer and then by supplier.

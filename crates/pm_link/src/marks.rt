@@ -11,7 +11,7 @@ use std::alloc::Global;
 
 /// Links by their places in the order. A link is live where it is present and has
 /// `DL_FLAG_PM_RUNTIME`.
-#[derive(Debug, Drop)]
+#[derive(Drop)]
 pub struct Marks {
     /// Those that are held, live or not.
     pub held: Bits,

@@ -4,7 +4,7 @@ use pm_base::{ActorId, Cb, DevId, Req, Why};
 
 /// A helper that a script may call (`runtime_pm.rst`, section 4), named as `pm_runtime_NAME` is; the
 /// last three and `delay` are this project's own.
-#[derive(Clone, Copy, Debug, PartialEq, Eq, Hash)]
+#[derive(Clone, Copy, PartialEq, Eq, Hash)]
 pub enum Helper {
     GetSync,
     Get,
@@ -43,7 +43,7 @@ pub enum Helper {
 }
 
 /// What a helper takes besides its device.
-#[derive(Clone, Copy, Debug, PartialEq, Eq, Hash)]
+#[derive(Clone, Copy, PartialEq, Eq, Hash)]
 pub enum Operand {
     Nothing,
     /// A number of milliseconds.
@@ -55,7 +55,7 @@ pub enum Operand {
 }
 
 /// One command of a script.
-#[derive(Clone, Copy, Debug, PartialEq, Eq, Hash)]
+#[derive(Clone, Copy, PartialEq, Eq, Hash)]
 pub struct Command {
     pub helper: Helper,
     /// The device; for the link helpers the consumer, for `delay` 0.
@@ -67,7 +67,7 @@ pub struct Command {
 
 /// The payload of the kernel's `rpm_*` trace events (`include/trace/events/rpm.h`). Its field `irq`
 /// is always 0 here.
-#[derive(Clone, Copy, Debug, PartialEq, Eq)]
+#[derive(Clone, Copy, PartialEq, Eq)]
 pub struct Fields {
     /// The flags of the call.
     pub flags: u8,
@@ -98,7 +98,7 @@ pub enum Word {
 }
 
 /// What a `pm_work` line tells.
-#[derive(Clone, Copy, Debug, PartialEq, Eq)]
+#[derive(Clone, Copy, PartialEq, Eq)]
 pub enum WorkAct {
     /// The work item is queued with this request, which isn't `Nothing`.
     Queue(Req),
@@ -109,7 +109,7 @@ pub enum WorkAct {
 }
 
 /// What a `pm_timer` line tells.
-#[derive(Clone, Copy, Debug, PartialEq, Eq)]
+#[derive(Clone, Copy, PartialEq, Eq)]
 pub enum TimerAct {
     /// The timer is armed for this moment, in milliseconds of the run.
     Arm { at: u64, autosuspends: bool },
@@ -119,7 +119,7 @@ pub enum TimerAct {
 
 /// What one line of a trace tells. The four payload events are the kernel's; the others are this
 /// project's own.
-#[derive(Clone, Copy, Debug, PartialEq, Eq)]
+#[derive(Clone, Copy, PartialEq, Eq)]
 pub enum Event {
     Call {
         command: Command,
@@ -190,7 +190,7 @@ pub enum Event {
 }
 
 /// One line of a trace: one atomic step of one actor.
-#[derive(Clone, Copy, Debug, PartialEq, Eq)]
+#[derive(Clone, Copy, PartialEq, Eq)]
 pub struct Line {
     /// Milliseconds since the run began, below 2^63 in a line of a plan.
     pub time: u64,

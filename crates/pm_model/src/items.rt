@@ -7,7 +7,7 @@ use std::marker::Model;
 
 /// A list, which contracts see as the list of its items. It is made of a `Vec` and gives
 /// it back, and takes no memory for either.
-#[derive(Debug, Drop)]
+#[derive(Drop)]
 pub struct Items<T> {
     items: Vec<T>,
 }

@@ -7,6 +7,7 @@
 mod event;
 mod handing;
 mod items;
+pub mod keeper;
 mod named;
 mod plan;
 mod rows;

@@ -26,7 +26,7 @@ pub trait Named {
 }
 
 /// A list of rows with names, which contracts see as the list of its rows.
-#[derive(Debug, Drop)]
+#[derive(Drop)]
 pub struct NamedList<T: Named> {
     rows: Vec<T>,
     // The places of the rows, sorted by name, and rows of one name by place.

@@ -7,7 +7,6 @@ use crate::rows::{CallerList, DeviceList, DomainList, LinkList};
 
 /// What is run and what a trace is judged against (this project's own). Each value of the type is a
 /// plan: whoever makes one proves it.
-#[derive(Debug)]
 pub struct Plan {
     /// How many lines a run may have, 1 to 200,000.
     pub lines: u32,

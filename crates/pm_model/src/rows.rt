@@ -29,7 +29,7 @@ pub type DeviceList = NamedList<DeviceRow>;
 pub type CallerList = NamedList<CallerRow>;
 
 /// A power domain, after the kernel's generic power domains.
-#[derive(Debug, Drop)]
+#[derive(Drop)]
 pub struct DomainRow {
     pub name: Name,
     /// The domain that supplies this one, which stands earlier.
@@ -47,7 +47,7 @@ impl Named for DomainRow {
 }
 
 /// A device (`runtime_pm.rst`, sections 2, 3 and 8).
-#[derive(Debug, Drop)]
+#[derive(Drop)]
 pub struct DeviceRow {
     pub name: Name,
     /// Its parent, which stands earlier.
@@ -82,7 +82,7 @@ impl Named for DeviceRow {
 }
 
 /// A link from a consumer to its supplier (`device_link.rst`).
-#[derive(Clone, Copy, Debug, PartialEq, Eq)]
+#[derive(Clone, Copy, PartialEq, Eq)]
 pub struct LinkRow {
     pub consumer: DevId,
     /// The supplier, which stands earlier than the consumer.
@@ -94,7 +94,7 @@ pub struct LinkRow {
 }
 
 /// A caller of helpers (this project's own).
-#[derive(Debug, Drop)]
+#[derive(Drop)]
 pub struct CallerRow {
     pub name: Name,
     pub script: Script,

@@ -21,7 +21,7 @@ const LOOKS: usize = 4;
 const NO_PLACE: u32 = u32::MAX;
 
 /// Where the rows of a list stand, by their names.
-#[derive(Debug, Drop)]
+#[derive(Drop)]
 pub struct Finder {
     places: Vec<u32>,
 }

@@ -17,7 +17,7 @@ pub use finder::{Finder, find, is_same};
 use std::marker::Model;
 
 /// `N` words, no two of them alike. Contracts see the list of the words.
-#[derive(Debug, Drop)]
+#[derive(Drop)]
 pub struct NameTable<const N: usize> {
     words: &'static [&'static [u8]],
 }

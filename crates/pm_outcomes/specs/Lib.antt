@@ -1,2 +1,9 @@
-pub mod Had
-pub mod Seen
+pub mod paths
+pub mod observe
+pub mod list
+pub mod find
+pub mod islands
+pub mod wanted
+pub mod witness
+pub mod text
+pub mod kernel_log

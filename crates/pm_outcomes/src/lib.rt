@@ -1,10 +1,13 @@
-//! What the orders of a plan show: each code that a command returns in some order and each way in which a device ends,
-//! with the least number of disturbances (this project's own).
+//! What the orders of a plan show, each with the least number of disturbances; a run that shows what is asked for; and what
+//! a kernel's log tells of a run (this project's own).
 #![tactic(auto)]
 
-mod finding;
-mod firsts;
-mod witness;
-
-pub use finding::{Outcomes, all_outcomes};
-pub use witness::witness_of;
+pub mod find;
+pub mod islands;
+pub mod kernel_log;
+pub mod list;
+pub mod observe;
+pub mod paths;
+pub mod text;
+pub mod wanted;
+pub mod witness;

@@ -1,36 +1,6 @@
-//! An order that shows an outcome.
+//! A list of a plan's lines, as an order of them, gone on with on one thread until the run is finished (this project's
+//! own).
 
-ghost use Rattle.std.specs.Prelude.{ℕ, ◌≡◌, ◌<◌, IfOk, IfSome, None, Some, length, map, slice_get};
-ghost use Rattle.pm_listed.specs.declared.marks.Outcome.{Outcome as AnOutcome};
-ghost use Rattle.pm_orders.specs.Spots.{Follows, start_spot};
-ghost use Rattle.pm_outcomes.specs.Had.{AreShown, IsWitness};
-ghost use Rattle.pm_search.specs.Trees.{AreLed, IsTree};
-ghost use Rattle.pm_spot.specs.SpotOf.{spot_of};
-ghost use Rattle.pm_ways.specs.Found.{IsTooFar};
+mod going;
 
-use crate::finding::Outcomes;
-use pm_base::NoMemory;
-use pm_model::{Line, Plan};
-use pm_orders::Pace;
-use pm_ways::order_to;
-use std::alloc::Global;
-
-/// The lines of a lawful order that has the mark of an outcome, and of which no more disturb than its number says;
-/// none where the way there has more lines than the plan allows.
-pub fn witness_of(
-    alloc: Global,
-    plan: &Plan,
-    pace: Pace,
-    all: &Outcomes,
-    index: usize,
-) -> Result<Option<Vec<Line>>, NoMemory>
-    requires within { index < length all.now.marks.items }
-    requires tree { IsTree (Follows pace plan.now) (start_spot plan.now) (map spot_of all.now.found.tree.nodes.keys) all.now.found.tree.parents.items }
-    requires led { AreLed (Follows pace plan.now) (map spot_of all.now.found.tree.nodes.keys) all.now.found.tree.parents.items all.now.found.rounds.items }
-    requires shown { AreShown plan.now (map spot_of all.now.found.tree.nodes.keys) all.now.found.rounds.items all.now.marks.items }
-    ensures witness { IfOk result (λ found. IfSome found (λ lines. (o : AnOutcome) → slice_get all.now.marks.items index ≡ Some o → IsWitness pace plan.now all.now.found.rounds.items o lines.items)) }
-    ensures far { IfOk result (λ found. found ≡ None → (at : ℕ) × IsTooFar plan.now all.now.found.tree.parents.items at) }
-{
-    let outcome = all.marks[index];
-    order_to(alloc, plan, pace, &all.found.tree, outcome.place)
-}
+pub use going::{Gone, go_on, orders_are_near};

@@ -3,13 +3,13 @@ use Rattle.std.proofs.Common.{ℕ, ◌≡◌, ◌≤◌, ◌<◌, ◌+◌, ◌-�
 use Rattle.std.specs.List.{flat_map}
 use Rattle.std.proofs.lemmas.Grind.{flat_map-append}
 use Rattle.std.proofs.lemmas.List.{map-append, take_more}
-use Rattle.pm_calls.specs.declared.call.Call.{Call}
-use Rattle.pm_calls.specs.Calls.{calls_from}
-use Rattle.pm_columns.specs.Axis.{rises, x_of}
-use Rattle.pm_columns.specs.declared.axis.Span.{Span}
+use Rattle.pm_lanes.specs.declared.calls.call.Call.{Call}
+use Rattle.pm_lanes.specs.calls.Calls.{calls_from}
+use Rattle.pm_sheet.specs.columns.Axis.{rises, x_of}
+use Rattle.pm_sheet.specs.declared.columns.axis.Span.{Span}
 use Rattle.pm_model.specs.declared.event.Line.{Line}
-use Rattle.pm_svg.proofs.DrawLemmas.{draws_both}
-use Rattle.pm_svg.specs.Shapes.{AreShapes, Draws, Extent, IsPicture, extents, head_text, shape_text}
+use Rattle.pm_sheet.proofs.svg.DrawLemmas.{draws_both}
+use Rattle.pm_sheet.specs.svg.Shapes.{AreShapes, Draws, Extent, IsPicture, extents, head_text, shape_text}
 use Rattle.pm_picture.specs.Calls.{IsPictureOf, Reaches, bar_of, end_of}
 
 -- the bar of a call with its words

@@ -1,13 +1,13 @@
 -- Where the calls of a run stand on its picture (this project's own). Places are in pixels; lines are counted from 1.
 use Rattle.std.specs.Prelude.{ℕ, ◌≡◌, ◌≤◌, ◌+◌, ◌-◌, List, ◌++◌, Option, Some, None, true, codes, length, map, max, min}
 use Rattle.std.specs.List.{flat_map}
-use Rattle.pm_calls.specs.declared.call.Answer.{Answer}
-use Rattle.pm_calls.specs.declared.call.Call.{Call}
-use Rattle.pm_calls.specs.Calls.{calls_from}
-use Rattle.pm_columns.specs.Axis.{rises, x_of}
-use Rattle.pm_columns.specs.declared.axis.Span.{Span}
+use Rattle.pm_lanes.specs.declared.calls.call.Answer.{Answer}
+use Rattle.pm_lanes.specs.declared.calls.call.Call.{Call}
+use Rattle.pm_lanes.specs.calls.Calls.{calls_from}
+use Rattle.pm_sheet.specs.columns.Axis.{rises, x_of}
+use Rattle.pm_sheet.specs.declared.columns.axis.Span.{Span}
 use Rattle.pm_model.specs.declared.event.Line.{Line}
-use Rattle.pm_svg.specs.Shapes.{Extent, Shape, extents, head_text, shape_text}
+use Rattle.pm_sheet.specs.svg.Shapes.{Extent, Shape, extents, head_text, shape_text}
 
 -- where a call ends on the axis: at the line of its return, or where the run ends
 abbrev pub end_of : List ℕ → ℕ → Option Answer → ℕ

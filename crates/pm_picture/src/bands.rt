@@ -1,12 +1,12 @@
 //! Bands: the status of devices, domains that are on, links that are held, devices that are disabled; and callbacks on them.
 
 use pm_base::{Cb, DevId, NoMemory, Status};
-use pm_columns::Span;
-use pm_findingtext::{push, push_code, push_number};
+use pm_find::text::{push, push_code, push_number};
 use pm_lanes::{Piece, Shown};
-use pm_rows::{Holding, Row, Subject};
+use pm_sheet::columns::Span;
+use pm_sheet::rows::{Holding, Row, Subject};
+use pm_sheet::svg::Style;
 use pm_sheet::{Canvas, text_width};
-use pm_svg::Style;
 
 /// How the band of a status looks.
 fn status_style(status: Status) -> Style {

@@ -2,20 +2,20 @@
 
 ghost use Rattle.std.specs.Prelude.{◌≡◌, ◌∷◌, [], ℕ, List, IfOk, OnOk, map, true};
 ghost use Rattle.pm_picture.specs.Calls.{Reaches, bar_of};
-ghost use Rattle.pm_svg.specs.Shapes.{Draws};
+ghost use Rattle.pm_sheet.specs.svg.Shapes.{Draws};
 
 use pm_base::{ActorId, EAGAIN, EBUSY, EINPROGRESS, NoMemory};
-use pm_calls::{Answer, Call};
-use pm_columns::{Columns, Span};
-use pm_findings::{Kind, Weight};
-use pm_findingtext::{push, push_actor, push_code, push_number};
+use pm_find::findings::{Kind, Weight};
+use pm_find::text::{push, push_actor, push_code, push_number};
+use pm_lanes::calls::{Answer, Call};
 use pm_lanes::{Piece, Shown};
 use pm_model::Helper;
 use pm_module::push_command;
-use pm_rows::{Row, Rows, Subject};
-use pm_scene::{Notes, Run};
+use pm_sheet::columns::{Columns, Span};
+use pm_sheet::rows::{Row, Rows, Subject};
+use pm_sheet::scene::{Notes, Run};
+use pm_sheet::svg::{Drawing, Style};
 use pm_sheet::{Frame, Pen, text_width};
-use pm_svg::{Drawing, Style};
 use std::alloc::Global;
 
 /// The room of a caller's row but for words that lean, in pixels.

@@ -6,7 +6,9 @@
 
 mod bands;
 mod calls;
+pub mod events;
 mod picture;
+pub mod timeline;
 mod works;
 
 pub use picture::picture_text;

@@ -5,24 +5,24 @@ ghost use Rattle.std.specs.List.{list_all};
 ghost use Rattle.pm_model.specs.Lawful.{IsLawful};
 ghost use Rattle.pm_model.specs.LineOf.{is_line_of};
 ghost use Rattle.pm_picture.specs.Calls.{IsPictureOf};
-ghost use Rattle.pm_svg.specs.Shapes.{IsPicture};
+ghost use Rattle.pm_sheet.specs.svg.Shapes.{IsPicture};
 
 use crate::bands::{draw_bands, draw_callbacks, draw_grounds, draw_hatches, write_usages};
 use crate::calls::{Ground, Room, draw_calls};
 use crate::works::{BAND, STRIP, draw_works};
 use pm_base::NoMemory;
-use pm_calls::calls;
-use pm_columns::Columns;
-use pm_findings::{Finding, faults, findings};
+use pm_find::findings::{Finding, faults, findings};
+use pm_lanes::calls::calls;
 use pm_lanes::{all_pieces, next_places};
 use pm_model::{Line, Plan};
-use pm_rows::{Heights, Rows};
-use pm_scene::{Glance, LeftOn, Notes, Run, Survey, left_on, notes_of};
+use pm_sheet::columns::Columns;
+use pm_sheet::rows::{Heights, Rows};
+use pm_sheet::scene::{Glance, LeftOn, Notes, Run, Survey, left_on, notes_of};
+use pm_sheet::svg::picture;
 use pm_sheet::{
     Canvas, Head, draw_head, draw_moments, draw_rows, ends_width, frame_of, write_numbers,
     write_quiet,
 };
-use pm_svg::picture;
 use std::alloc::Global;
 
 // How high the row of a device is in a picture of all, in pixels: below its band are its timer, its work item, and words: what

@@ -1,13 +1,13 @@
 //! Work items and timers of devices, in a picture of all.
 
 use pm_base::{ActorId, DevId, NoMemory, Req};
-use pm_columns::Span;
-use pm_findingtext::push;
+use pm_find::text::push;
 use pm_lanes::Shown;
 use pm_model::{Event, WorkAct};
-use pm_rows::Subject;
+use pm_sheet::columns::Span;
+use pm_sheet::rows::Subject;
+use pm_sheet::svg::Style;
 use pm_sheet::{Canvas, text_width};
-use pm_svg::Style;
 
 /// How high the part of a device's row with its band is, in pixels.
 pub(crate) const BAND: u32 = 34;

@@ -4,7 +4,7 @@ use Rattle.std.proofs.lemmas.Bool.Decides.{nat_tests}
 use Rattle.std.proofs.lemmas.List.Sums.{fails_before_first}
 use Rattle.std.specs.List.{list_any, position_or_len}
 use Rattle.pm_model.specs.IsPlan.{are_distinct}
-use Rattle.pm_planrows.specs.Names.{is_earlier}
+use Rattle.pm_planread.specs.rows.Names.{is_earlier}
 
 none_passes : {A : Type 0} (p : A → Bool) (xs : List A) → ((j : ℕ) (d : A) → j < length xs → p (get_or xs j d) ≡ false) → list_any p xs ≡ false
 none_passes p [] fails = refl

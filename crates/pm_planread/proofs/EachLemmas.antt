@@ -8,21 +8,21 @@ use Rattle.pm_base.specs.declared.limits.TheConstants.{MAX_COMMANDS}
 use Rattle.pm_model.specs.IsPlan.{each_at, is_caller, is_caller_name, is_command, is_device, is_domain, is_link, is_name, lacks_callbacks}
 use Rattle.pm_model.specs.declared.rows.DomainRow.{DomainRow}
 use Rattle.pm_model.specs.declared.rows.DeviceRow.{DeviceRow}
-use Rattle.pm_plantree.specs.Places.{first_fault}
-use Rattle.pm_plantree.specs.declared.place.Section.{Section}
-use Rattle.pm_plantree.specs.declared.place.Section.TheVariants.{Domain, Device, Link, Caller}
-use Rattle.pm_plantree.specs.declared.raw.RawDomain.{RawDomain}
-use Rattle.pm_plantree.specs.declared.raw.RawDevice.{RawDevice}
-use Rattle.pm_plantree.specs.declared.raw.RawLink.{RawLink}
-use Rattle.pm_plantree.specs.declared.raw.RawCaller.{RawCaller}
-use Rattle.pm_planrows.proofs.FaultLemmas.{each_all, each_both, each_map, each_of, right}
+use Rattle.pm_planread.specs.tree.Places.{first_fault}
+use Rattle.pm_planread.specs.declared.tree.place.Section.{Section}
+use Rattle.pm_planread.specs.declared.tree.place.Section.TheVariants.{Domain, Device, Link, Caller}
+use Rattle.pm_planread.specs.declared.tree.raw.RawDomain.{RawDomain}
+use Rattle.pm_planread.specs.declared.tree.raw.RawDevice.{RawDevice}
+use Rattle.pm_planread.specs.declared.tree.raw.RawLink.{RawLink}
+use Rattle.pm_planread.specs.declared.tree.raw.RawCaller.{RawCaller}
+use Rattle.pm_planread.proofs.rows.FaultLemmas.{each_all, each_both, each_map, each_of, right}
 use Rattle.pm_planread.proofs.LinkLemmas.{link_ok}
 use Rattle.pm_planread.proofs.RowLemmas.{device_ok, domain_ok, false_not, not_false, not_true}
-use Rattle.pm_planrows.specs.Names.{bad_name, first_bad_name, is_name_in, is_unknown, link_unknown}
-use Rattle.pm_planrows.specs.Orders.{device_later, domain_later, idle_consumer, idle_in_domain, link_later}
-use Rattle.pm_planrows.specs.Rows.{device_row, domain_row, link_row}
+use Rattle.pm_planread.specs.rows.Names.{bad_name, first_bad_name, is_name_in, is_unknown, link_unknown}
+use Rattle.pm_planread.specs.rows.Orders.{device_later, domain_later, idle_consumer, idle_in_domain, link_later}
+use Rattle.pm_planread.specs.rows.Rows.{device_row, domain_row, link_row}
 use Rattle.pm_planread.specs.Scripts.{are_commands, caller_row, commands_in}
-use Rattle.pm_planrows.specs.TooMany.{has_many_codes, has_many_commands}
+use Rattle.pm_planread.specs.rows.TooMany.{has_many_codes, has_many_commands}
 
 named_each : (section : Section) (names : List (List ℕ)) → first_bad_name section names ≡ None → each_at (λ i name. is_name_in section name) 0 names ≡ true
 named_each section names none =

@@ -3,16 +3,16 @@ use Rattle.std.proofs.Common.{◌≡◌, ℕ, ◌+◌, ◌<◌, ◌≤◌, Bool,
 use Rattle.std.proofs.lemmas.Bool.Decides.{nat_tests}
 use Rattle.pm_base.specs.declared.limits.TheConstants.{MAX_CALLERS, MAX_CODES, MAX_COMMANDS, MAX_DEVICES, MAX_DOMAINS, MAX_LINKS}
 use Rattle.pm_model.specs.IsPlan.{each_at}
-use Rattle.pm_plantree.specs.Places.{first_fault}
-use Rattle.pm_plantree.specs.declared.place.Place.{Place}
-use Rattle.pm_plantree.specs.declared.place.Section.{Section}
-use Rattle.pm_plantree.specs.declared.place.Section.TheVariants.{Domain, Device, Link, Caller}
-use Rattle.pm_plantree.specs.declared.raw.RawDevice.{RawDevice}
-use Rattle.pm_plantree.specs.declared.raw.RawCaller.{RawCaller}
-use Rattle.pm_plantree.specs.declared.raw.RawPlan.{RawPlan}
-use Rattle.pm_planrows.proofs.FaultLemmas.{each_of, neither}
-use Rattle.pm_planrows.specs.Few.{AreFew}
-use Rattle.pm_planrows.specs.TooMany.{caller_too_many, device_too_many, has_many_codes, has_many_commands, item_too_many, past_limit, too_many_fault}
+use Rattle.pm_planread.specs.tree.Places.{first_fault}
+use Rattle.pm_planread.specs.declared.tree.place.Place.{Place}
+use Rattle.pm_planread.specs.declared.tree.place.Section.{Section}
+use Rattle.pm_planread.specs.declared.tree.place.Section.TheVariants.{Domain, Device, Link, Caller}
+use Rattle.pm_planread.specs.declared.tree.raw.RawDevice.{RawDevice}
+use Rattle.pm_planread.specs.declared.tree.raw.RawCaller.{RawCaller}
+use Rattle.pm_planread.specs.declared.tree.raw.RawPlan.{RawPlan}
+use Rattle.pm_planread.proofs.rows.FaultLemmas.{each_of, neither}
+use Rattle.pm_planread.specs.rows.Few.{AreFew}
+use Rattle.pm_planread.specs.rows.TooMany.{caller_too_many, device_too_many, has_many_codes, has_many_commands, item_too_many, past_limit, too_many_fault}
 
 within_limit : (section : Section) (limit count : ℕ) → past_limit section limit count ≡ None → count ≤ limit
 within_limit section limit count none = grind (arith, nat_tests)

@@ -11,22 +11,22 @@ use Rattle.pm_model.specs.declared.rows.LinkRow.{LinkRow}
 use Rattle.pm_model.specs.declared.rows.CallerRow.{CallerRow}
 use Rattle.pm_names.proofs.PlanNames.{distinct_names as all_differ}
 use Rattle.pm_names.specs.Table.{all_distinct}
-use Rattle.pm_plantree.specs.Places.{first_fault}
-use Rattle.pm_plantree.specs.declared.place.Section.TheVariants.{Domain, Device, Caller}
-use Rattle.pm_plantree.specs.declared.raw.RawCaller.{RawCaller}
-use Rattle.pm_plantree.specs.declared.raw.RawPlan.{RawPlan}
+use Rattle.pm_planread.specs.tree.Places.{first_fault}
+use Rattle.pm_planread.specs.declared.tree.place.Section.TheVariants.{Domain, Device, Caller}
+use Rattle.pm_planread.specs.declared.tree.raw.RawCaller.{RawCaller}
+use Rattle.pm_planread.specs.declared.tree.raw.RawPlan.{RawPlan}
 use Rattle.pm_planread.proofs.EachLemmas.{callers_each, devices_each, domains_each, links_each}
-use Rattle.pm_planrows.proofs.FaultLemmas.{neither}
+use Rattle.pm_planread.proofs.rows.FaultLemmas.{neither}
 use Rattle.pm_planread.proofs.FewLemmas.{short_of}
 use Rattle.pm_planread.proofs.LinkLemmas.{distinct_links, distinct_names}
 use Rattle.pm_planread.proofs.RangeLemmas.{at_least, at_most}
 use Rattle.pm_planread.proofs.RowLemmas.{names_of_callers, names_of_domains, names_of_rows}
 use Rattle.pm_planread.specs.Named.{AreNamed, AreOrdered}
-use Rattle.pm_planrows.specs.Names.{caller_names, device_names, device_unknown, domain_names, domain_unknown, first_bad_name, first_repeat, link_unknown, name_fault, repeat_fault, repeated_link, unknown_fault}
-use Rattle.pm_planrows.specs.Numbers.{code_fault, number_fault}
-use Rattle.pm_planrows.specs.Orders.{device_later, domain_fault, domain_later, idle_consumer, idle_in_domain, later_fault, link_fault, link_later}
+use Rattle.pm_planread.specs.rows.Names.{caller_names, device_names, device_unknown, domain_names, domain_unknown, first_bad_name, first_repeat, link_unknown, name_fault, repeat_fault, repeated_link, unknown_fault}
+use Rattle.pm_planread.specs.rows.Numbers.{code_fault, number_fault}
+use Rattle.pm_planread.specs.rows.Orders.{device_later, domain_fault, domain_later, idle_consumer, idle_in_domain, later_fault, link_fault, link_later}
 use Rattle.pm_planread.specs.PlanOf.{contents_in, counted_plan}
-use Rattle.pm_planrows.specs.Rows.{device_row, device_rows, domain_row, domain_rows, link_row, link_rows, natural_within}
+use Rattle.pm_planread.specs.rows.Rows.{device_row, device_rows, domain_row, domain_rows, link_row, link_rows, natural_within}
 use Rattle.pm_planread.specs.Scripts.{are_commands, caller_row, caller_rows, script_fault}
 
 -- the parts of the refusals

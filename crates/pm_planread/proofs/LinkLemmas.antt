@@ -10,16 +10,16 @@ use Rattle.pm_model.proofs.PlaceNamed.{not_same, place_named-found}
 use Rattle.pm_model.specs.IsPlan.{are_distinct, is_link, is_same_pair, lacks_callbacks}
 use Rattle.pm_model.specs.NamedList.{place_named}
 use Rattle.pm_model.specs.declared.rows.DeviceRow.{DeviceRow}
-use Rattle.pm_plantree.specs.Places.{first_fault}
-use Rattle.pm_plantree.specs.declared.place.Section.{Section}
-use Rattle.pm_plantree.specs.declared.place.Section.TheVariants.{Link}
-use Rattle.pm_plantree.specs.declared.raw.RawLink.{RawLink}
+use Rattle.pm_planread.specs.tree.Places.{first_fault}
+use Rattle.pm_planread.specs.declared.tree.place.Section.{Section}
+use Rattle.pm_planread.specs.declared.tree.place.Section.TheVariants.{Link}
+use Rattle.pm_planread.specs.declared.tree.raw.RawLink.{RawLink}
 use Rattle.pm_planread.proofs.DistinctLemmas.{distinct_by_place, none_before}
-use Rattle.pm_planrows.proofs.FaultLemmas.{none_at, right}
-use Rattle.pm_planrows.proofs.PositionLemmas.{place_below}
+use Rattle.pm_planread.proofs.rows.FaultLemmas.{none_at, right}
+use Rattle.pm_planread.proofs.rows.PositionLemmas.{place_below}
 use Rattle.pm_planread.proofs.RowLemmas.{false_not}
-use Rattle.pm_planrows.specs.Names.{first_repeat, is_earlier, is_same_link, is_unknown, link_unknown, repeated_link, repeated_name}
-use Rattle.pm_planrows.specs.Rows.{link_row}
+use Rattle.pm_planread.specs.rows.Names.{first_repeat, is_earlier, is_same_link, is_unknown, link_unknown, repeated_link, repeated_name}
+use Rattle.pm_planread.specs.rows.Rows.{link_row}
 
 either_parts : (a b : Bool) → (a || b) ≡ false → (a ≡ false) × (b ≡ false)
 either_parts false b neither = (refl, neither)

@@ -1,9 +1,9 @@
 -- The pieces of a message are short.
 use Rattle.std.proofs.Common.{ℕ, ◌<◌, ◌≤◌, ◌^◌, length, decimal, arith, lit<}
 use Rattle.std.proofs.lemmas.Fmt.{length-decimal-le}
-use Rattle.pm_plantree.specs.Keys.{section_key}
-use Rattle.pm_plantree.specs.declared.place.Section.{Section}
-use Rattle.pm_plantree.specs.declared.place.Section.TheVariants as section
+use Rattle.pm_planread.specs.tree.Keys.{section_key}
+use Rattle.pm_planread.specs.declared.tree.place.Section.{Section}
+use Rattle.pm_planread.specs.declared.tree.place.Section.TheVariants as section
 use Rattle.pm_planread.specs.WhyWords.{why_word}
 use Rattle.pm_planread.specs.declared.refusal.PlanWhy.{PlanWhy}
 use Rattle.pm_planread.specs.declared.refusal.PlanWhy.TheVariants as why

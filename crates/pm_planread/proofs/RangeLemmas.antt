@@ -5,8 +5,8 @@ use Rattle.std.proofs.lemmas.Bool.Decides.{nat_tests}
 use Rattle.std.specs.List.{list_all}
 use Rattle.pm_base.specs.declared.limits.TheConstants.{MAX_CODES}
 use Rattle.pm_model.specs.IsPlan.{are_codes, is_code}
-use Rattle.pm_planrows.specs.Rows.{codes_of, natural_within}
-use Rattle.pm_planrows.specs.TooMany.{are_many_codes}
+use Rattle.pm_planread.specs.rows.Rows.{codes_of, natural_within}
+use Rattle.pm_planread.specs.rows.TooMany.{are_many_codes}
 
 pub at_most : (low high : ℕ) (n : ℤ) → low ≤ high → nat_le (natural_within low high n) high ≡ true
 at_most low high (pos n) ordered = grind (arith, nat_tests)

@@ -8,16 +8,16 @@ use Rattle.pm_base.specs.declared.DomId.{DomId}
 use Rattle.pm_base.specs.declared.limits.TheConstants.{MAX_MS}
 use Rattle.pm_model.specs.IsPlan.{are_codes, is_device, is_domain, is_name, is_time}
 use Rattle.pm_model.specs.NamedList.{place_named}
-use Rattle.pm_plantree.specs.declared.raw.RawDomain.{RawDomain}
-use Rattle.pm_plantree.specs.declared.raw.RawDevice.{RawDevice}
-use Rattle.pm_plantree.specs.declared.raw.RawCaller.{RawCaller}
-use Rattle.pm_plantree.specs.declared.raw.RawPlan.{RawPlan}
-use Rattle.pm_planrows.proofs.PositionLemmas.{place_below}
+use Rattle.pm_planread.specs.declared.tree.raw.RawDomain.{RawDomain}
+use Rattle.pm_planread.specs.declared.tree.raw.RawDevice.{RawDevice}
+use Rattle.pm_planread.specs.declared.tree.raw.RawCaller.{RawCaller}
+use Rattle.pm_planread.specs.declared.tree.raw.RawPlan.{RawPlan}
+use Rattle.pm_planread.proofs.rows.PositionLemmas.{place_below}
 use Rattle.pm_planread.proofs.RangeLemmas.{at_most, codes_are}
-use Rattle.pm_planrows.specs.Names.{caller_names, device_names, domain_names}
+use Rattle.pm_planread.specs.rows.Names.{caller_names, device_names, domain_names}
 use Rattle.pm_planread.specs.Scripts.{caller_row, caller_rows}
-use Rattle.pm_planrows.specs.Rows.{codes_of, device_of, device_row, device_rows, domain_of, domain_row, domain_rows, ms_of}
-use Rattle.pm_planrows.specs.TooMany.{are_many_codes, has_many_codes}
+use Rattle.pm_planread.specs.rows.Rows.{codes_of, device_of, device_row, device_rows, domain_of, domain_row, domain_rows, ms_of}
+use Rattle.pm_planread.specs.rows.TooMany.{are_many_codes, has_many_codes}
 
 names_of_list : (domains devices : List (List ℕ)) (rows : List RawDevice) → map (λ row. row.name) (map (device_row domains devices) rows) ≡ map (λ row. row.name) rows
 unfolding device_row

@@ -2,9 +2,9 @@
 use Rattle.std.proofs.Common.{◌≡◌, ℕ, suc, ◌+◌, ◌<◌, List, ◌∷◌, drop, get_or, length, Option, Some, None, subst, sym, ◌∙◌, ap}
 use Rattle.std.proofs.Math.Seq.{drop-cons}
 use Rattle.std.specs.Option.{option_or}
-use Rattle.pm_plantree.specs.Places.{first_fault}
-use Rattle.pm_plantree.specs.declared.place.Place.{Place}
-use Rattle.pm_plantree.specs.declared.raw.RawCaller.{RawCaller}
+use Rattle.pm_planread.specs.tree.Places.{first_fault}
+use Rattle.pm_planread.specs.declared.tree.place.Place.{Place}
+use Rattle.pm_planread.specs.declared.tree.raw.RawCaller.{RawCaller}
 use Rattle.pm_planread.specs.Faults.{IsScriptFault}
 use Rattle.pm_planread.specs.Scripts.{bad_command, script_fault}
 use Rattle.pm_planread.specs.declared.refusal.PlanFault.{PlanFault}

@@ -1,6 +1,6 @@
 -- The first of several refusals (this project's own).
 use Rattle.std.specs.Prelude.{◌≡◌, ⊤, Option, Some, None, Result, Err}
-use Rattle.pm_plantree.specs.declared.place.Place.{Place}
+use Rattle.pm_planread.specs.declared.tree.place.Place.{Place}
 use Rattle.pm_planread.specs.declared.refusal.PlanFault.{PlanFault}
 use Rattle.pm_planread.specs.declared.refusal.PlanFault.TheVariants.{NoMemory, Refused}
 use Rattle.pm_planread.specs.declared.refusal.PlanWhy.{PlanWhy}

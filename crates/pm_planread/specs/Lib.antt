@@ -4,3 +4,5 @@ pub mod Faults
 pub mod Scripts
 pub mod Named
 pub mod PlanOf
+pub mod tree
+pub mod rows

@@ -1,8 +1,8 @@
 -- The message of a fault (this project's own): one line, with its newline.
 use Rattle.std.specs.Prelude.{ℕ, List, ◌++◌, codes, decimal}
 use Rattle.pm_model.specs.Spelling.{newline, space}
-use Rattle.pm_plantree.specs.Keys.{section_key}
-use Rattle.pm_plantree.specs.declared.place.Section.{Section}
+use Rattle.pm_planread.specs.tree.Keys.{section_key}
+use Rattle.pm_planread.specs.declared.tree.place.Section.{Section}
 use Rattle.pm_planread.specs.WhyWords.{why_word}
 use Rattle.pm_planread.specs.declared.refusal.PlanFault.{PlanFault}
 use Rattle.pm_planread.specs.declared.refusal.PlanFault.TheVariants.{Refused, NoMemory}

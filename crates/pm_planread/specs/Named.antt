@@ -1,10 +1,10 @@
 -- A plan whose names are names, stand once and are there, and whose rows stand in order (this project's own).
 use Rattle.std.specs.Prelude.{◌≡◌, None}
-use Rattle.pm_plantree.specs.declared.raw.RawPlan.{RawPlan}
-use Rattle.pm_planrows.specs.Names.{name_fault, repeat_fault, unknown_fault}
-use Rattle.pm_planrows.specs.Orders.{domain_fault, later_fault, link_fault}
-use Rattle.pm_planrows.specs.Rows.{device_rows, domain_rows, link_rows}
-use Rattle.pm_planrows.specs.TooMany.{too_many_fault}
+use Rattle.pm_planread.specs.declared.tree.raw.RawPlan.{RawPlan}
+use Rattle.pm_planread.specs.rows.Names.{name_fault, repeat_fault, unknown_fault}
+use Rattle.pm_planread.specs.rows.Orders.{domain_fault, later_fault, link_fault}
+use Rattle.pm_planread.specs.rows.Rows.{device_rows, domain_rows, link_rows}
+use Rattle.pm_planread.specs.rows.TooMany.{too_many_fault}
 
 pub record AreNamed (raw : RawPlan) : Type 0 where
   pub few : too_many_fault raw ≡ None

@@ -7,20 +7,20 @@ use Rattle.pm_model.specs.declared.rows.DomainRow.{DomainRow}
 use Rattle.pm_model.specs.declared.rows.DeviceRow.{DeviceRow}
 use Rattle.pm_model.specs.declared.rows.LinkRow.{LinkRow}
 use Rattle.pm_model.specs.declared.rows.CallerRow.{CallerRow}
-use Rattle.pm_plantree.specs.KeyFault.{key_fault}
-use Rattle.pm_plantree.specs.KindFault.{kind_fault}
-use Rattle.pm_plantree.specs.Places.{place}
-use Rattle.pm_plantree.specs.Raw.{raw_plan}
-use Rattle.pm_plantree.specs.Tree.{document}
-use Rattle.pm_plantree.specs.declared.place.Section.TheVariants.{Top}
-use Rattle.pm_plantree.specs.declared.raw.RawPlan.{RawPlan}
+use Rattle.pm_planread.specs.tree.KeyFault.{key_fault}
+use Rattle.pm_planread.specs.tree.KindFault.{kind_fault}
+use Rattle.pm_planread.specs.tree.Places.{place}
+use Rattle.pm_planread.specs.tree.Raw.{raw_plan}
+use Rattle.pm_planread.specs.tree.Tree.{document}
+use Rattle.pm_planread.specs.declared.tree.place.Section.TheVariants.{Top}
+use Rattle.pm_planread.specs.declared.tree.raw.RawPlan.{RawPlan}
 use Rattle.pm_planread.specs.Faults.{refused, unless}
-use Rattle.pm_planrows.specs.Names.{device_names, name_fault, repeat_fault, unknown_fault}
-use Rattle.pm_planrows.specs.Numbers.{code_fault, number_fault}
-use Rattle.pm_planrows.specs.Orders.{domain_fault, later_fault, link_fault}
-use Rattle.pm_planrows.specs.Rows.{device_rows, domain_rows, link_rows, natural_within}
+use Rattle.pm_planread.specs.rows.Names.{device_names, name_fault, repeat_fault, unknown_fault}
+use Rattle.pm_planread.specs.rows.Numbers.{code_fault, number_fault}
+use Rattle.pm_planread.specs.rows.Orders.{domain_fault, later_fault, link_fault}
+use Rattle.pm_planread.specs.rows.Rows.{device_rows, domain_rows, link_rows, natural_within}
 use Rattle.pm_planread.specs.Scripts.{caller_rows, script_fault}
-use Rattle.pm_planrows.specs.TooMany.{too_many_fault}
+use Rattle.pm_planread.specs.rows.TooMany.{too_many_fault}
 use Rattle.pm_planread.specs.declared.refusal.PlanFault.{PlanFault}
 use Rattle.pm_planread.specs.declared.refusal.PlanFault.TheVariants.{NoMemory}
 use Rattle.pm_planread.specs.declared.refusal.PlanWhy.TheVariants as why

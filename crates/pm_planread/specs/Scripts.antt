@@ -6,12 +6,12 @@ use Rattle.std.specs.Result.{result_ok}
 use Rattle.pm_model.specs.IsPlan.{is_command}
 use Rattle.pm_model.specs.declared.event.Command.{Command}
 use Rattle.pm_model.specs.declared.rows.CallerRow.{CallerRow}
-use Rattle.pm_plantree.specs.Places.{first_fault, first_place, place}
-use Rattle.pm_plantree.specs.declared.place.Place.{Place}
-use Rattle.pm_plantree.specs.declared.place.Section.TheVariants.{Caller}
-use Rattle.pm_plantree.specs.declared.raw.RawCaller.{RawCaller}
-use Rattle.pm_plantree.specs.declared.raw.RawPlan.{RawPlan}
-use Rattle.pm_planrows.specs.Names.{device_names}
+use Rattle.pm_planread.specs.tree.Places.{first_fault, first_place, place}
+use Rattle.pm_planread.specs.declared.tree.place.Place.{Place}
+use Rattle.pm_planread.specs.declared.tree.place.Section.TheVariants.{Caller}
+use Rattle.pm_planread.specs.declared.tree.raw.RawCaller.{RawCaller}
+use Rattle.pm_planread.specs.declared.tree.raw.RawPlan.{RawPlan}
+use Rattle.pm_planread.specs.rows.Names.{device_names}
 use Rattle.pm_script.specs.Command.{command_of}
 
 abbrev pub is_no_command : List (List ℕ) → List ℕ → Bool

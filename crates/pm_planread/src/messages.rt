@@ -4,9 +4,9 @@ ghost use Rattle.std.specs.Prelude.{◌≡◌, ◌+◌, ◌≤◌, ◌++◌, [],
 ghost use Rattle.pm_planread.specs.Messages.{fault_text, refusal_text};
 
 use crate::refusal::{PlanFault, PlanWhy};
+use crate::tree::Section;
 use arrayvec::ArrayVec;
 use itoa::Buffer;
-use pm_plantree::Section;
 use std::marker::Model;
 
 /// The bytes of the longest message: that of a refusal with the longest words and two numbers of ten

@@ -2,24 +2,24 @@
 
 ghost use Rattle.std.specs.Prelude.{◌≡◌, None, Ok, IfErr, IfOk};
 ghost use Rattle.toml.specs.View.{table_view};
-ghost use Rattle.pm_planrows.specs.Few.{AreFew};
+ghost use Rattle.pm_planread.specs.rows.Few.{AreFew};
 ghost use Rattle.pm_planread.specs.Named.{AreNamed, AreOrdered};
-ghost use Rattle.pm_planrows.specs.Names.{AreNamesOf, name_fault, repeat_fault};
-ghost use Rattle.pm_planrows.specs.TooMany.{too_many_fault};
-ghost use Rattle.pm_planrows.specs.Rows.{device_rows, domain_rows, link_rows, natural_within};
+ghost use Rattle.pm_planread.specs.rows.Names.{AreNamesOf, name_fault, repeat_fault};
+ghost use Rattle.pm_planread.specs.rows.TooMany.{too_many_fault};
+ghost use Rattle.pm_planread.specs.rows.Rows.{device_rows, domain_rows, link_rows, natural_within};
 ghost use Rattle.pm_planread.specs.PlanOf.{IsFaultOf, contents_of, counted_plan, known_plan, named_plan, ordered_plan, plan_of, tree_plan};
 
 use crate::refusal::{PlanFault, PlanWhy, refuse, refused};
-use crate::scripts::caller_rows;
-use pm_base::{MAX_LINES, PLAN_BYTES};
-use pm_model::{DeviceList, DomainList, LinkList, Plan};
-use pm_names::Finder;
-use pm_planrows::names::{Names, names_of};
-use pm_planrows::{
+use crate::rows::names::{Names, names_of};
+use crate::rows::{
     code_fault, device_rows, domain_fault, domain_rows, later_fault, link_fault, link_rows,
     name_fault, natural_within, number_fault, repeat_fault, too_many_fault, unknown_fault,
 };
-use pm_plantree::{Place, RawPlan, Section, document, is_sound, key_fault, kind_fault, raw_plan};
+use crate::scripts::caller_rows;
+use crate::tree::{Place, RawPlan, Section, document, is_sound, key_fault, kind_fault, raw_plan};
+use pm_base::{MAX_LINES, PLAN_BYTES};
+use pm_model::{DeviceList, DomainList, LinkList, Plan};
+use pm_names::Finder;
 use std::alloc::Global;
 use toml::Table;
 

@@ -5,8 +5,8 @@ ghost use Rattle.pm_planread.specs.Faults.{refused, unless};
 ghost use Rattle.pm_planread.specs.WhyWords.{why_word};
 ghost use Rattle.pm_planread.specs.declared.refusal.PlanFault.TheVariants.{NoMemory};
 
+use crate::tree::{Place, Section};
 use pm_base::NoMemory;
-use pm_plantree::{Place, Section};
 use std::alloc::{AllocError, AllocFailed};
 
 /// Why a plan is refused, in the order in which the whole plan is looked at (this project's own).

@@ -5,16 +5,16 @@ ghost use Rattle.std.specs.List.{list_all};
 ghost use Rattle.pm_base.specs.declared.limits.TheConstants.{MAX_CALLERS, MAX_DEVICES};
 ghost use Rattle.pm_model.specs.IsPlan.{is_command};
 ghost use Rattle.pm_names.specs.Table.{all_distinct};
-ghost use Rattle.pm_plantree.specs.Places.{first_place, place};
-ghost use Rattle.pm_plantree.specs.declared.place.Section.TheVariants.{Caller};
+ghost use Rattle.pm_planread.specs.tree.Places.{first_place, place};
+ghost use Rattle.pm_planread.specs.declared.tree.place.Section.TheVariants.{Caller};
 ghost use Rattle.pm_planread.specs.Faults.{IsScriptFault};
 ghost use Rattle.pm_planread.specs.Scripts.{are_commands, bad_command, caller_row, commands_in, is_no_command, script_fault};
 
 use crate::refusal::{PlanFault, PlanWhy, refused};
+use crate::rows::names::copied;
+use crate::tree::{Place, RawCaller, Section, Text};
 use pm_model::{CallerList, CallerRow, Command, DeviceList, Items, NamedList};
 use pm_names::Finder;
-use pm_planrows::names::copied;
-use pm_plantree::{Place, RawCaller, Section, Text};
 use pm_script::read_command_of;
 use std::alloc::Global;
 

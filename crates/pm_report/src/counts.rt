@@ -1,7 +1,7 @@
 //! The counts of a run.
 
 /// The counts of a run.
-#[derive(Clone, Copy, Debug, PartialEq, Eq)]
+#[derive(Clone, Copy, PartialEq, Eq)]
 pub struct Summary {
     /// The devices of the plan.
     pub devices: u32,

@@ -11,7 +11,7 @@ use std::alloc::Global;
 use std::marker::Model;
 
 /// What is pending for each device, which contracts see as the list of it in the plan's order.
-#[derive(Debug, Drop)]
+#[derive(Drop)]
 pub struct Requests {
     entries: Vec<Pending>,
 }

@@ -1,1 +1,2 @@
 pub mod Inspected
+pub mod dependencies

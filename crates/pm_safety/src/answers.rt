@@ -4,7 +4,7 @@ ghost use Rattle.std.specs.Prelude.{◌≡◌};
 ghost use Rattle.pm_safety.specs.Inspected.{answer};
 
 /// How a device stands with its domains, with its parent or with its suppliers.
-#[derive(Clone, Copy, Debug, PartialEq, Eq)]
+#[derive(Clone, Copy, PartialEq, Eq)]
 pub enum Bond {
     /// The device isn't live, or it has none of these.
     Nothing,
@@ -15,7 +15,7 @@ pub enum Bond {
 }
 
 /// How a device stands.
-#[derive(Clone, Copy, Debug, PartialEq, Eq)]
+#[derive(Clone, Copy, PartialEq, Eq)]
 pub struct Inspect {
     /// Whether the device is Active, or its suspend or resume callback runs.
     pub live: bool,

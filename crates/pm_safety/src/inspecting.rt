@@ -10,8 +10,8 @@ use crate::holding::{domain_bond, parent_bond, supplier_bond};
 use crate::running::is_live;
 use pm_base::DevId;
 use pm_book::Book;
-use pm_law_counts::sizes;
-use pm_law_safe::runs_are_safe;
+use pm_laws::counts::sizes;
+use pm_laws::safe::runs_are_safe;
 
 /// How a device of the plan stands after the lines of a book. It takes no memory, and looks at the lines
 /// only where the device isn't Active.

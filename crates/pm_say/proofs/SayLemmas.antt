@@ -9,9 +9,9 @@ use Rattle.pm_planread.specs.PlanOf.{IsFaultOf, plan_of}
 use Rattle.pm_planread.specs.declared.refusal.PlanFault.{PlanFault}
 use Rattle.pm_planread.specs.declared.refusal.PlanFault.TheVariants as fault
 use Rattle.pm_planread.specs.declared.refusal.PlanWhy.{PlanWhy}
-use Rattle.pm_plantree.specs.declared.place.Section.{Section}
-use Rattle.pm_refusals.specs.Told.{token_of, told_of}
-use Rattle.pm_refusals.specs.declared.located.Located.{Located}
+use Rattle.pm_planread.specs.declared.tree.place.Section.{Section}
+use Rattle.pm_messages.specs.located.Told.{token_of, told_of}
+use Rattle.pm_messages.specs.declared.located.located.Located.{Located}
 use Rattle.pm_say.specs.Faults.{IsIn, Tells}
 use Rattle.pm_say.specs.Says.{IsNoPlan, Says, TellsOf, of_fault}
 use Rattle.pm_say.specs.declared.told.NoPlan.{NoPlan}

@@ -8,9 +8,9 @@ use Rattle.pm_say.specs.Counts.{counts_told}
 use Rattle.pm_say.specs.Says.{Says, of_plan}
 use Rattle.pm_say.specs.Warned.{TellsPlan, kind_of}
 use Rattle.pm_say.specs.declared.told.Said.{Said}
-use Rattle.pm_warned.specs.Told.{TellsWarnings}
-use Rattle.pm_warnings.specs.Warnings.{warnings_of}
-use Rattle.pm_warnings.specs.declared.Warning.{Warning}
+use Rattle.pm_say.specs.lint_text.Told.{TellsWarnings}
+use Rattle.pm_say.specs.lints.Warnings.{warnings_of}
+use Rattle.pm_say.specs.declared.lints.Warning.{Warning}
 
 -- the warnings are told, and the counts behind them
 pub tells_plan : (file text : List ℕ) (plan : Plan) (islands : ℕ) (found told seen : List Warning) (warned counts : List ℕ) (said : Said)

@@ -2,7 +2,7 @@
 use Rattle.std.specs.Prelude.{◌≡◌, ℕ, ◌≤◌, List, ◌++◌, All, codes, flat_map, length}
 use Rattle.pm_planread.specs.Messages.{fault_text}
 use Rattle.pm_planread.specs.declared.refusal.PlanFault.{PlanFault}
-use Rattle.pm_refusals.specs.Told.{Token, told_of}
+use Rattle.pm_messages.specs.located.Told.{Token, told_of}
 
 -- the token stands in the text
 pub record IsIn (text : List ℕ) (token : Token) : Type 0 where

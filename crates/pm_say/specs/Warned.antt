@@ -7,9 +7,9 @@ use Rattle.pm_say.specs.Counts.{counts_told}
 use Rattle.pm_say.specs.declared.told.Kind.{Kind}
 use Rattle.pm_say.specs.declared.told.Kind.TheVariants.{Clean, Warned}
 use Rattle.pm_say.specs.declared.told.Said.{Said}
-use Rattle.pm_warned.specs.Told.{TellsWarnings}
-use Rattle.pm_warnings.specs.Warnings.{warnings_of}
-use Rattle.pm_warnings.specs.declared.Warning.{Warning}
+use Rattle.pm_say.specs.lint_text.Told.{TellsWarnings}
+use Rattle.pm_say.specs.lints.Warnings.{warnings_of}
+use Rattle.pm_say.specs.declared.lints.Warning.{Warning}
 
 -- a plan without warnings is clean
 abbrev pub kind_of : List Warning → Kind

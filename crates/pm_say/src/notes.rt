@@ -1,13 +1,13 @@
 //! The note on a refusal of a tree.
 
+use crate::further::Refusal;
 use pm_base::NoMemory;
-use pm_further::Refusal;
-use pm_notes::{
+use pm_messages::notes::{
     Note, code_note, command_note, domain_note, item_path, key_note, kind_note, later_note,
-    link_note, many_note, name_note, number_note, repeat_note, unknown_note,
+    lines_are_outside, link_note, many_note, name_note, number_note, repeat_note, unknown_note,
 };
 use pm_planread::PlanWhy;
-use pm_plantree::Section;
+use pm_planread::tree::Section;
 use std::alloc::Global;
 use toml::Table;
 
@@ -31,7 +31,9 @@ pub fn note_of<'a>(alloc: Global, tree: &'a Table, refusal: Refusal) -> Result<N
         PlanWhy::Later => later_note(alloc, tree, section, item)?,
         PlanWhy::NoCallbacksWithDomain => domain_note(alloc, tree, item)?,
         PlanWhy::NoCallbacksWithLink => link_note(alloc, tree, item)?,
-        PlanWhy::Number => number_note(alloc, tree, section, item)?,
+        PlanWhy::Number => {
+            number_note(alloc, tree, section, item, number_part(tree, section, item))?
+        },
         PlanWhy::Code => code_note(alloc, tree, item, part)?,
         PlanWhy::Script => command_note(alloc, tree, item, part)?,
     };
@@ -39,6 +41,20 @@ pub fn note_of<'a>(alloc: Global, tree: &'a Table, refusal: Refusal) -> Result<N
         Some(note) => Ok(note),
         None => plain_note(alloc, why, section, item),
     }
+}
+
+/// The part of a refusal of a number: 1 for `trace` behind `lines` that are refused too, so that each is told of by itself.
+fn number_part(tree: &Table, section: Section, item: usize) -> usize {
+    for (number, (key, _)) in tree.iter().enumerate() {
+        if section == Section::Top
+            && number == item
+            && key.as_str() == "trace"
+            && lines_are_outside(tree)
+        {
+            return 1;
+        }
+    }
+    0
 }
 
 /// What is told where nothing more is known.

@@ -2,12 +2,12 @@
 
 ghost use Rattle.std.specs.Prelude.{◌≤◌, All, IfOk, length};
 
+use crate::further::{Refusal, further};
 use crate::notes::note_of;
 use pm_base::NoMemory;
-use pm_further::{Refusal, further};
+use pm_messages::located::{Located, of_note};
 use pm_planread::PlanWhy;
-use pm_plantree::document;
-use pm_refusals::{Located, of_note};
+use pm_planread::tree::document;
 use std::alloc::Global;
 use toml::Table;
 

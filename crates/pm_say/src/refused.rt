@@ -1,18 +1,18 @@
 //! The text of a refusal.
 
 ghost use Rattle.std.specs.Prelude.{◌≤◌, [], IfOk, length};
-ghost use Rattle.pm_plantree.specs.declared.place.Section.TheVariants.{Top};
+ghost use Rattle.pm_planread.specs.declared.tree.place.Section.TheVariants.{Top};
 ghost use Rattle.pm_planread.specs.declared.refusal.PlanWhy.TheVariants.{TooLong};
 ghost use Rattle.pm_say.specs.Faults.{Tells};
 
+use crate::further::Refusal;
 use crate::notes::note_of;
 use crate::others::others;
 use pm_base::NoMemory;
-use pm_further::Refusal;
+use pm_messages::located::{Located, of_long_text, of_no_toml, of_note, push_each, push_located};
+use pm_planread::tree::{Section, document};
 use pm_planread::{PlanFault, PlanWhy, refusal_message};
-use pm_plantree::{Section, document};
-use pm_refusals::{Located, of_long_text, of_no_toml, of_note, push_each, push_located};
-use pm_source::push;
+use pm_spans::source::push;
 use std::alloc::Global;
 
 /// What is told of a refusal of these bytes, with its token. Fails where memory runs out.

@@ -5,13 +5,13 @@ ghost use Rattle.pm_planread.specs.PlanOf.{contents_of, plan_of};
 ghost use Rattle.pm_say.specs.Counts.{counts_told};
 ghost use Rattle.pm_say.specs.Says.{IsNoPlan, Says, TellsOf};
 
+use crate::further::Refusal;
 use crate::refused::refused_text;
 use crate::warned::told_plan;
 use pm_base::NoMemory;
-use pm_further::Refusal;
 use pm_model::Plan;
 use pm_planread::{PlanFault, read_plan};
-use pm_source::{push, push_number};
+use pm_spans::source::{push, push_number};
 use std::alloc::Global;
 
 /// What a plan came to.
@@ -33,7 +33,7 @@ pub struct Said {
 }
 
 /// Why bytes give no plan.
-#[derive(Debug, Drop)]
+#[derive(Drop)]
 pub enum NoPlan {
     /// It is refused, and this tells of it.
     Refused { text: Vec<u8> },

@@ -4,13 +4,13 @@ ghost use Rattle.std.specs.Prelude.{◌≡◌, IfOk};
 ghost use Rattle.pm_planread.specs.PlanOf.{contents_of};
 ghost use Rattle.pm_say.specs.Warned.{TellsPlan, kind_of};
 
+use crate::lint_text::warnings_text;
+use crate::lints::{Warning, warnings};
 use crate::told::{Kind, Said, counts_text};
 use pm_base::NoMemory;
 use pm_islands::islands;
 use pm_model::Plan;
-use pm_source::push;
-use pm_warned::warnings_text;
-use pm_warnings::{Warning, warnings};
+use pm_spans::source::push;
 use std::alloc::Global;
 
 /// Tells of a plan, whose text these bytes are: each warning with its place, and how much the plan has.

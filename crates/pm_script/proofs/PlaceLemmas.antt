@@ -5,7 +5,11 @@ use Rattle.pm_model.specs.Spelling.{takes_device}
 use Rattle.pm_model.specs.declared.event.Helper.{Helper}
 use Rattle.pm_model.specs.declared.event.Operand.{Operand}
 use Rattle.pm_model.specs.declared.event.Operand.TheVariants.{Nothing, Milliseconds, Switch, Supplier}
-use Rattle.pm_script.specs.Command.{word_count, word_left, words_before_operand}
+use Rattle.std.specs.Prelude.{Result, Ok, Err, pos}
+use Rattle.pm_model.specs.Spelling.{operand_of}
+use Rattle.pm_model.specs.declared.event.Command.{Command}
+use Rattle.pm_script.specs.Command.{command_at, command_in, device_in, ended, helper_in, operand_in, result_and_then, word_count, word_left, words_before_operand}
+use Rattle.pm_script.specs.declared.fault.ScriptFault.{ScriptFault}
 
 chosen : (words : List (List ℕ)) (b : Bool) (low high : ℕ) → (if b then slice_get words high else slice_get words low) ≡ slice_get words (if b then high else low)
 chosen words true low high = refl
@@ -27,3 +31,24 @@ left_at words h Nothing second third fourth is more most = operand_at words h se
 left_at words h Milliseconds second third fourth is more most = rw (more, most) (counted words (takes_device h))
 left_at words h Switch second third fourth is more most = rw (more, most) (counted words (takes_device h))
 left_at words h Supplier second third fourth is more most = rw (more, most) (counted words (takes_device h))
+
+same_behind : (names words : List (List ℕ)) (h : Helper) (r : Result Helper ScriptFault) → Ok h ≡ r
+    → result_and_then (λ h. result_and_then (λ d. result_and_then (λ n. ended (word_left h (operand_of h) (slice_get words 1) (slice_get words 2) (slice_get words 3)) (record { helper = h; dev = d; number = n }))
+    (operand_in names h (operand_of h) (if takes_device h then slice_get words 2 else slice_get words 1))) (device_in names h (slice_get words 1))) (Ok h)
+    ≡ result_and_then (λ h. result_and_then (λ d. result_and_then (λ n. ended (slice_get words (word_count h (operand_of h))) (record { helper = h; dev = d; number = n }))
+    (operand_in names h (operand_of h) (slice_get words (words_before_operand h)))) (device_in names h (slice_get words 1))) (Ok h)
+same_behind names words h r is =
+    rw (left_at words h (operand_of h) (slice_get words 1) (slice_get words 2) (slice_get words 3) refl refl refl, operand_at words h (slice_get words 1) (slice_get words 2) refl refl) refl
+
+same_at : (names words : List (List ℕ)) (r : Result Helper ScriptFault)
+    → result_and_then (λ h. result_and_then (λ d. result_and_then (λ n. ended (word_left h (operand_of h) (slice_get words 1) (slice_get words 2) (slice_get words 3)) (record { helper = h; dev = d; number = n }))
+    (operand_in names h (operand_of h) (if takes_device h then slice_get words 2 else slice_get words 1))) (device_in names h (slice_get words 1))) r
+    ≡ result_and_then (λ h. result_and_then (λ d. result_and_then (λ n. ended (slice_get words (word_count h (operand_of h))) (record { helper = h; dev = d; number = n }))
+    (operand_in names h (operand_of h) (slice_get words (words_before_operand h)))) (device_in names h (slice_get words 1))) r
+same_at names words (Err e) = refl
+same_at names words (Ok h) = same_behind names words h (Ok h) refl
+
+-- the command of words is that of the first of them
+pub command_at_words : (names words : List (List ℕ)) (first second third fourth : Option (List ℕ)) → first ≡ slice_get words 0 → second ≡ slice_get words 1 → third ≡ slice_get words 2 → fourth ≡ slice_get words 3
+    → command_at names first second third fourth ≡ command_in names words
+command_at_words names words first second third fourth a b c d = rw (a, b, c, d) (same_at names words (helper_in (slice_get words 0)))

@@ -64,6 +64,12 @@ word_left h _ second third fourth = if takes_device h then fourth else third
 abbrev pub ended : Option (List ℕ) → Command → Result Command ScriptFault
 ended word command = if is_none word then Ok command else Err Extra
 
+-- the same by the first, the second, the third and the fourth word
+abbrev pub command_at : List (List ℕ) → Option (List ℕ) → Option (List ℕ) → Option (List ℕ) → Option (List ℕ) → Result Command ScriptFault
+command_at names first second third fourth =
+    result_and_then (λ h. result_and_then (λ d. result_and_then (λ n. ended (word_left h (operand_of h) second third fourth) (record { helper = h; dev = d; number = n }))
+    (operand_in names h (operand_of h) (if takes_device h then third else second))) (device_in names h second)) (helper_in first)
+
 -- the command that these words are over devices of these names, or the first of its refusals
 abbrev pub command_in : List (List ℕ) → List (List ℕ) → Result Command ScriptFault
 command_in names words =

@@ -1,17 +1,17 @@
 //! Reads a command.
 
-ghost use Rattle.std.specs.Prelude.{◌≡◌, ◌<◌, ◌≤◌, Some, true, option_and_then, length, map, nat_eq, nat_lt, if◌then◌else◌, IfOk, IfSome, IsTrue};
+ghost use Rattle.std.specs.Prelude.{◌≡◌, ◌<◌, ◌≤◌, Some, true, option_and_then, length, map, nat_eq, nat_lt, slice_get, if◌then◌else◌, IfOk, IfSome, IsTrue};
 ghost use Rattle.std.specs.Option.{option_copied};
 ghost use Rattle.pm_base.specs.declared.limits.TheConstants.{MAX_DEVICES};
 ghost use Rattle.pm_model.specs.IsPlan.{is_command, is_operand};
 ghost use Rattle.pm_model.specs.Spelling.{operand_of, takes_device};
 ghost use Rattle.pm_names.specs.Table.{all_distinct};
-ghost use Rattle.pm_script.specs.Command.{command_of, device_in, device_named, helper_in, helper_named, operand_in, word_left};
+ghost use Rattle.pm_script.specs.Command.{command_at, command_in, command_of, device_in, device_named, helper_in, helper_named, operand_in, word_left};
 ghost use Rattle.pm_script.specs.Numbers.{is_switch, is_taken, milliseconds_in, switch_in};
 
 use crate::fault::ScriptFault;
 use crate::numbers::{milliseconds_in, switch_in};
-use crate::words::{FirstWords, first_words};
+use crate::words::{FirstWords, ScriptWord, first_words};
 use pm_base::DevId;
 use pm_linetext::{helper_of, helper_place, operand_of, takes_device};
 use pm_model::{Command, DeviceList, Helper, Operand, Plan};
@@ -30,7 +30,7 @@ pub fn read_command(bytes: &[u8], plan: &Plan) -> Result<Command, ScriptFault>
 
 /// The same over a list of devices, of which there are no more than a plan has, for whoever makes a
 /// plan. Where there is a finder, no two devices have one name.
-#[tactic(auto, unfolding(crate::specs::Command::command_of), using(crate::proofs::PlaceLemmas::operand_at, crate::proofs::PlaceLemmas::left_at))]
+#[tactic(auto, unfolding(crate::specs::Command::command_of), using(crate::proofs::PlaceLemmas::command_at_words))]
 pub fn read_command_of(
     bytes: &[u8],
     devices: &DeviceList,
@@ -41,13 +41,57 @@ pub fn read_command_of(
     ensures command { result ≡ command_of (map (λ row. row.name) devices.now) bytes.now }
     ensures valid { IfOk result (λ command. is_command (length devices.now) command ≡ true) }
 {
-    let words = first_words(bytes);
+    command_from(&first_words(bytes), devices, finder)
+}
+
+/// The same of words.
+#[tactic(auto, using(crate::proofs::PlaceLemmas::command_at_words))]
+pub fn read_command_in(
+    words: &[ScriptWord],
+    devices: &DeviceList,
+    finder: Option<&Finder>,
+) -> Result<Command, ScriptFault>
+    requires few { length devices.now ≤ MAX_DEVICES }
+    requires distinct { IfSome finder (λ _. all_distinct (map (λ row. row.name) devices.now) ≡ true) }
+    ensures command { result ≡ command_in (map (λ row. row.name) devices.now) words.now }
+    ensures valid { IfOk result (λ command. is_command (length devices.now) command ≡ true) }
+{
+    let words = FirstWords {
+        first: bytes_at(words, 0),
+        second: bytes_at(words, 1),
+        third: bytes_at(words, 2),
+        fourth: bytes_at(words, 3),
+    };
+    command_from(&words, devices, finder)
+}
+
+/// The word at a place.
+fn bytes_at<'a>(words: &[ScriptWord<'a>], at: usize) -> Option<&'a [u8]>
+    ensures { option_copied result ≡ slice_get words.now at }
+{
+    match words.get(at) {
+        Some(word) => Some(word.as_slice()),
+        None => None,
+    }
+}
+
+/// The command of the first words.
+fn command_from(
+    words: &FirstWords,
+    devices: &DeviceList,
+    finder: Option<&Finder>,
+) -> Result<Command, ScriptFault>
+    requires few { length devices.now ≤ MAX_DEVICES }
+    requires distinct { IfSome finder (λ _. all_distinct (map (λ row. row.name) devices.now) ≡ true) }
+    ensures command { result ≡ command_at (map (λ row. row.name) devices.now) (option_copied words.now.first) (option_copied words.now.second) (option_copied words.now.third) (option_copied words.now.fourth) }
+    ensures valid { IfOk result (λ command. is_command (length devices.now) command ≡ true) }
+{
     let helper = helper_in(words.first)?;
     let operand = operand_of(helper);
     let dev = device_in(helper, words.second, devices, finder)?;
-    let word = operand_word(&words, helper);
+    let word = operand_word(words, helper);
     let number = operand_in(helper, operand, word, devices, finder)?;
-    if word_left(&words, helper, operand).is_some() {
+    if word_left(words, helper, operand).is_some() {
         return Err(ScriptFault::Extra);
     }
     Ok(Command {
@@ -69,7 +113,7 @@ fn helper_in(word: Option<&[u8]>) -> Result<Helper, ScriptFault>
 
 /// The helper that a word names. The likely one is looked at before all.
 #[tactic(auto, using(crate::proofs::HelperLemmas::named_at))]
-fn helper_named(word: &[u8]) -> Option<Helper>
+pub fn helper_named(word: &[u8]) -> Option<Helper>
     ensures { result ≡ helper_named word.now }
 {
     let likely = likely_helper(word);

@@ -10,5 +10,7 @@ mod fault;
 mod numbers;
 mod words;
 
-pub use command::{read_command, read_command_of};
+pub use command::{helper_named, read_command, read_command_in, read_command_of};
 pub use fault::ScriptFault;
+pub use numbers::{milliseconds_in, number_in};
+pub use words::{ScriptWord, words_in};

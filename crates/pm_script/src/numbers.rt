@@ -59,7 +59,7 @@ fn natural_in(text: &[u8]) -> Option<i64>
 
 /// The number that an optional minus sign and 1 to 10 decimal digits write.
 #[tactic(auto, unfolding(crate::specs::Numbers::number_in))]
-fn number_in(text: &[u8]) -> Option<i64>
+pub fn number_in(text: &[u8]) -> Option<i64>
     ensures { result ≡ number_in text.now }
 {
     let [first, digits @ ..] = text else {

@@ -1,9 +1,55 @@
 //! The words of a command.
 
-ghost use Rattle.std.specs.Prelude.{◌≡◌, ◌<◌, ◌∷◌, drop, filter, length, option_map, position, slice_get};
+ghost use Rattle.std.specs.Prelude.{◌≡◌, ◌<◌, ◌∷◌, IfOk, IfSome, drop, filter, length, option_map, position, slice_get};
 ghost use Rattle.std.specs.List.{slice_split};
 ghost use Rattle.std.specs.Option.{option_copied};
 ghost use Rattle.pm_script.specs.Words.{is_space, is_word, words_of, words_from};
+
+use std::alloc::{AllocError, Global};
+use std::marker::Model;
+
+/// A word, which stays where the text has it. Contracts see its bytes.
+#[derive(Drop)]
+pub struct ScriptWord<'a> {
+    bytes: &'a [u8],
+}
+
+impl<'a> Model for ScriptWord<'a> {
+    ghost use Rattle.std.specs.Prelude.{ℕ, List};
+
+    ghost Value = { List ℕ };
+
+    ghost view = { λ word. word.bytes.now };
+}
+
+impl<'a> ScriptWord<'a> {
+    /// The word of these bytes.
+    pub fn new(bytes: &'a [u8]) -> ScriptWord<'a>
+        ensures { result ≡ bytes.now }
+    {
+        ScriptWord { bytes }
+    }
+
+    /// Its bytes, in order.
+    pub fn as_slice(&self) -> &'a [u8]
+        ensures { result.now ≡ self.now }
+    {
+        self.bytes
+    }
+}
+
+/// The words of the bytes, in order.
+pub fn words_in<'a>(alloc: Global, bytes: &'a [u8]) -> Result<Vec<ScriptWord<'a>>, AllocError>
+    ensures { IfOk result (λ v. v.items ≡ words_of bytes.now) }
+{
+    let mut words = Vec::new(alloc);
+    let mut rest = bytes;
+    while let Some((word, behind)) = next_word(rest) {
+        words.push(ScriptWord::new(word))?;
+        rest = behind;
+    }
+    Ok(words)
+}
 
 /// The place of the first space.
 fn space_at(bytes: &[u8]) -> Option<usize>
@@ -35,7 +81,8 @@ fn cut(bytes: &[u8]) -> (&[u8], &[u8])
 
 /// The first word and what stands behind it, or `None` where there is no word.
 fn next_word(bytes: &[u8]) -> Option<(&[u8], &[u8])>
-    ensures { words_of bytes.now ≡ words_from (option_map (λ x. (x.0.now, x.1.now)) result) }
+    ensures words { words_of bytes.now ≡ words_from (option_map (λ x. (x.0.now, x.1.now)) result) }
+    ensures shorter { IfSome result (λ x. length x.1.now < length bytes.now) }
 {
     let mut rest = bytes;
     while !rest.is_empty() {
@@ -49,7 +96,7 @@ fn next_word(bytes: &[u8]) -> Option<(&[u8], &[u8])>
 }
 
 /// The first words of a command, as far as there are so many. No command has more than three.
-#[derive(Clone, Copy, Debug)]
+#[derive(Clone, Copy)]
 pub struct FirstWords<'a> {
     pub first: Option<&'a [u8]>,
     pub second: Option<&'a [u8]>,

@@ -3,7 +3,7 @@ use Rattle.std.specs.Prelude.{◌≡◌, ◌<◌, ℕ, [], Option, Some, length,
 use Rattle.pm_base.specs.declared.ActorId.{ActorId}
 use Rattle.pm_base.specs.declared.DevId.{DevId}
 use Rattle.pm_book.specs.Turn.{HasTime}
-use Rattle.pm_law_turns.specs.Looks.{device_at}
+use Rattle.pm_laws.specs.turns.Looks.{device_at}
 use Rattle.pm_model.specs.declared.event.Event.{Event}
 use Rattle.pm_model.specs.declared.plan.Plan.{Plan}
 use Rattle.pm_model.specs.declared.stage.Change.{Change}

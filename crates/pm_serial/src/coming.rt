@@ -2,7 +2,7 @@
 
 ghost use Rattle.std.specs.Prelude.{◌≡◌, ◌+◌, ◌<◌, ◌^◌, length, reverse, slice_get, true, IfNone, IfOk, IfSome, IsSome, None, Some};
 ghost use Rattle.std.specs.List.{list_all};
-ghost use Rattle.pm_law_turns.specs.Looks.{device_at};
+ghost use Rattle.pm_laws.specs.turns.Looks.{device_at};
 ghost use Rattle.pm_model.specs.declared.plan.Plan.{Plan as APlan};
 ghost use Rattle.pm_model.specs.Lawful.{IsLawful};
 ghost use Rattle.pm_model.specs.LineOf.{is_line_of};
@@ -16,8 +16,8 @@ ghost use Rattle.pm_state.specs.Standing.{IsOf, StandsWell, can_go_on};
 use crate::{End, NextTurn, fresh_books_have_time};
 use pm_base::{ActorId, DevId, NoMemory};
 use pm_book::{all_stand_well, each_line_fits, each_line_is_taken};
-use pm_law_bounds::{due_moments, lines_are_of_plan};
-use pm_law_turns::{serial_ends, serial_stops};
+use pm_laws::bounds::{due_moments, lines_are_of_plan};
+use pm_laws::turns::{serial_ends, serial_stops};
 use pm_model::{Event, Line, Move, Plan, Stage};
 use pm_state::State;
 use pm_turns::{Turns, device_at};

@@ -10,7 +10,7 @@ ghost use Rattle.pm_serial.specs.Ends.{GoesOn, HasMemory, IsEnd, IsSerialEnd, wh
 
 use pm_base::{ActorId, NoMemory};
 use pm_book::{Book, Step};
-use pm_law_turns::{serial_ends, serial_stops};
+use pm_laws::turns::{serial_ends, serial_stops};
 
 /// Milliseconds from one line to the next on one thread, at most.
 const STEP: u64 = 1_000_000;
@@ -19,7 +19,7 @@ const STEP: u64 = 1_000_000;
 const LATEST: u64 = 1 << 62;
 
 /// How a run on one thread ended.
-#[derive(Clone, Copy, Debug, PartialEq, Eq)]
+#[derive(Clone, Copy, PartialEq, Eq)]
 pub enum End {
     /// The run is finished.
     Finished,

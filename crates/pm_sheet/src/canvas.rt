@@ -1,12 +1,12 @@
 //! A picture while it is drawn, with what is needed for it at hand.
 
+use crate::columns::{Columns, Span};
 use crate::pen::Pen;
+use crate::rows::{Row, Rows, Subject};
+use crate::scene::{Run, Survey};
+use crate::svg::{Drawing, Style};
 use indexmap::IndexMap;
 use pm_base::NoMemory;
-use pm_columns::{Columns, Span};
-use pm_rows::{Row, Rows, Subject};
-use pm_scene::{Run, Survey};
-use pm_svg::{Drawing, Style};
 use std::alloc::Global;
 use std::mem;
 

@@ -2,12 +2,12 @@
 
 use crate::canvas::{Canvas, Frame, text_width};
 use crate::head::Head;
+use crate::rows::{Row, Rows, Subject};
+use crate::scene::{LeftOn, Run, Survey, push_end};
+use crate::svg::Style;
 use itoa::Buffer;
 use pm_base::{DevId, NoMemory};
-use pm_findingtext::{push, push_number};
-use pm_rows::{Row, Rows, Subject};
-use pm_scene::{LeftOn, Run, Survey, push_end};
-use pm_svg::Style;
+use pm_find::text::{push, push_number};
 use std::alloc::Global;
 
 /// Room for moments above the lanes, in pixels.

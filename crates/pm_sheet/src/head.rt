@@ -1,11 +1,11 @@
 //! The head of a picture: what it is of, what its shapes mean, and what stands out.
 
 use crate::canvas::{Canvas, text_width};
+use crate::svg::Style;
 use itoa::Buffer;
 use pm_base::NoMemory;
-use pm_findings::{Finding, Weight};
-use pm_findingtext::{push, push_finding};
-use pm_svg::Style;
+use pm_find::findings::{Finding, Weight};
+use pm_find::text::{push, push_finding};
 
 /// So many findings are told at most.
 pub const MOST: usize = 6;

@@ -3,9 +3,13 @@
 #![tactic(auto)]
 
 mod canvas;
+pub mod columns;
 mod frame;
 mod head;
 mod pen;
+pub mod rows;
+pub mod scene;
+pub mod svg;
 
 pub use canvas::{Canvas, Frame, text_width};
 pub use frame::{draw_moments, draw_rows, ends_width, frame_of, write_numbers, write_quiet};

@@ -1,13 +1,13 @@
 //! What draws: shapes, with the words that are next.
 
 ghost use Rattle.std.specs.Prelude.{◌≡◌, ◌+◌, ◌∷◌, [], OnOk, max, min};
-ghost use Rattle.pm_svg.specs.Shapes.{Draws};
+ghost use Rattle.pm_sheet.specs.svg.Shapes.{Draws};
 
+use crate::columns::Span;
+use crate::scene::Run;
+use crate::svg::{Block, Drawing, Label, Rule, Style};
 use pm_base::NoMemory;
-use pm_columns::Span;
-use pm_findingtext::push;
-use pm_scene::Run;
-use pm_svg::{Block, Drawing, Label, Rule, Style};
+use pm_find::text::push;
 use std::alloc::Global;
 
 /// What draws.
@@ -62,7 +62,7 @@ impl Pen {
     }
 
     /// Draws a block. It is at least a pixel wide.
-    #[tactic(auto, using(pm_svg::proofs::DrawLemmas::draws_block))]
+    #[tactic(auto, using(crate::proofs::svg::DrawLemmas::draws_block))]
     pub fn block(
         &mut self,
         style: Style,
@@ -98,7 +98,7 @@ impl Pen {
     }
 
     /// Writes the words.
-    #[tactic(auto, using(pm_svg::proofs::DrawLemmas::draws_label))]
+    #[tactic(auto, using(crate::proofs::svg::DrawLemmas::draws_label))]
     pub fn label(&mut self, style: Style, x: u32, y: u32, leans: bool) -> Result<(), NoMemory>
         ensures { OnOk result (Draws [] self.old.drawing self.new.drawing) }
     {

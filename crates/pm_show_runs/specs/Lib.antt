@@ -7,3 +7,4 @@ pub mod Links
 pub mod Domains
 pub mod Requests
 pub mod Refusals
+pub mod promises

@@ -13,6 +13,7 @@ pub mod domains;
 pub mod law;
 pub mod links;
 pub mod parents;
+pub mod promises;
 pub mod refusals;
 pub mod requests;
 pub mod suspends;

@@ -11,10 +11,10 @@ use Rattle.pm_base.specs.declared.DevId.{DevId}
 use Rattle.pm_model.specs.declared.plan.Plan.{Plan}
 use Rattle.pm_model.specs.declared.rows.LinkRow.{LinkRow}
 use Rattle.pm_model.specs.PlanRows.{has_parent, parent, parent_of}
-use Rattle.pm_law_stacks.specs.Depth.{greatest, longest_chain, longest_of, of_supplier}
-use Rattle.pm_law_stacks.specs.Shape.{IsLink}
-use Rattle.pm_law_stacks.proofs.PlanLaw.{HasEarlier, parent_earlier, supplier_earlier}
-use Rattle.pm_law_stacks.proofs.Tests.{front, rear, same_device}
+use Rattle.pm_laws.specs.stacks.Depth.{greatest, longest_chain, longest_of, of_supplier}
+use Rattle.pm_laws.specs.stacks.Shape.{IsLink}
+use Rattle.pm_laws.proofs.stacks.PlanLaw.{HasEarlier, parent_earlier, supplier_earlier}
+use Rattle.pm_laws.proofs.stacks.Tests.{front, rear, same_device}
 use Rattle.pm_state.specs.Chains.{AreChains, chain_at, chain_from}
 use Rattle.pm_state.specs.Standing.{IsRoomy}
 

@@ -8,10 +8,10 @@ use Rattle.pm_base.specs.declared.DevId.{DevId}
 use Rattle.pm_model.specs.declared.plan.Plan.{Plan}
 use Rattle.pm_model.specs.declared.rows.LinkRow.{LinkRow}
 use Rattle.pm_model.specs.IsPlan.{is_link}
-use Rattle.pm_law_counts.proofs.Links.{lawful_links}
-use Rattle.pm_law_stacks.specs.Depth.{greatest, of_supplier}
-use Rattle.pm_law_stacks.proofs.PlanLaw.{all_get}
-use Rattle.pm_law_stacks.proofs.Tests.{front, same_device}
+use Rattle.pm_laws.proofs.counts.Links.{lawful_links}
+use Rattle.pm_laws.specs.stacks.Depth.{greatest, of_supplier}
+use Rattle.pm_laws.proofs.stacks.PlanLaw.{all_get}
+use Rattle.pm_laws.proofs.stacks.Tests.{front, same_device}
 use Rattle.pm_state.specs.Chains.{AreOwn, IsLastOf}
 use Rattle.pm_state.proofs.ChainLemmas.{greatest_more}
 

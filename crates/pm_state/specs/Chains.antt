@@ -5,7 +5,7 @@ use Rattle.pm_base.specs.declared.DevId.{DevId}
 use Rattle.pm_model.specs.declared.plan.Plan.{Plan}
 use Rattle.pm_model.specs.declared.rows.LinkRow.{LinkRow}
 use Rattle.pm_model.specs.PlanRows.{parent}
-use Rattle.pm_law_stacks.specs.Depth.{greatest, longest_of, of_supplier}
+use Rattle.pm_laws.specs.stacks.Depth.{greatest, longest_of, of_supplier}
 
 abbrev pub chain_at : List ℕ → DevId → ℕ
 chain_at chains d = slice_index_or chains d.0 0

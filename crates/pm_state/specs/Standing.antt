@@ -21,7 +21,7 @@ use Rattle.pm_model.specs.WellFormed.{is_well_formed}
 use Rattle.pm_model.specs.World.{World, called_by, counts_call, place, stage_at, with_place}
 use Rattle.pm_device.specs.Filling.{CanBe}
 use Rattle.pm_device.specs.Parts.{Counters, IsFor, Shape}
-use Rattle.pm_law_stacks.specs.Depth.{longest_chain}
+use Rattle.pm_laws.specs.stacks.Depth.{longest_chain}
 use Rattle.pm_state.specs.Places.{HasRoom}
 
 -- what the counters were made for, where the run stands, and for how many open stages each actor's place has room

@@ -2,7 +2,7 @@
 
 ghost use Rattle.std.specs.Prelude.{◌≡◌, ◌+◌, ◌<◌, ◌&&◌, length, nat_le, not, slice_index_or, is_none};
 ghost use Rattle.std.specs.List.{enumerate_from, list_all};
-ghost use Rattle.pm_law_counts.specs.Sizes.{HasEntries};
+ghost use Rattle.pm_laws.specs.counts.Sizes.{HasEntries};
 ghost use Rattle.pm_model.specs.Lawful.{is_empty_place, is_finished};
 ghost use Rattle.pm_state.specs.Standing.{IsOf};
 

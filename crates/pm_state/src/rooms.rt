@@ -3,7 +3,7 @@
 ghost use Rattle.std.specs.Prelude.{◌≡◌, ◌<◌, ◌≤◌, length, max, IfOk};
 ghost use Rattle.std.specs.Option.{option_map_or};
 ghost use Rattle.pm_model.specs.PlanRows.{parent};
-ghost use Rattle.pm_law_stacks.specs.Depth.{greatest, of_supplier};
+ghost use Rattle.pm_laws.specs.stacks.Depth.{greatest, of_supplier};
 ghost use Rattle.pm_state.specs.Chains.{AreChains, AreOwn, chain_at, chain_from};
 ghost use Rattle.pm_state.specs.Standing.{IsRoomy};
 

@@ -11,7 +11,7 @@ use std::alloc::Global;
 use std::marker::Model;
 
 /// The timer of each device, which contracts see as the list of them in the plan's order.
-#[derive(Debug, Drop)]
+#[derive(Drop)]
 pub struct Timers {
     timers: Vec<Option<Armed>>,
     // The deadline of each device's timer, so that the first of them is at hand.

@@ -7,9 +7,9 @@ use Rattle.pm_base.specs.declared.ActorId.{ActorId}
 use Rattle.pm_base.specs.declared.ActorId.TheVariants.{Caller, Work, Timer}
 use Rattle.pm_base.specs.declared.DevId.{DevId}
 use Rattle.pm_index.specs.Marks.{is_marked}
-use Rattle.pm_law_counts.proofs.Places.{IsPlaced, is_placed}
-use Rattle.pm_law_counts.proofs.Runs.{lawful_holds}
-use Rattle.pm_law_counts.specs.Sizes.{HasPlaces}
+use Rattle.pm_laws.proofs.counts.Places.{IsPlaced, is_placed}
+use Rattle.pm_laws.proofs.counts.Runs.{lawful_holds}
+use Rattle.pm_laws.specs.counts.Sizes.{HasPlaces}
 use Rattle.pm_model.specs.declared.event.Line.{Line}
 use Rattle.pm_model.specs.declared.plan.Plan.{Plan}
 use Rattle.pm_model.specs.declared.stage.Stage.{Stage}
@@ -17,10 +17,10 @@ use Rattle.pm_model.specs.History.{History}
 use Rattle.pm_model.specs.Lawful.{IsLawful, last_time}
 use Rattle.pm_model.specs.Serial.{seat}
 use Rattle.pm_model.specs.World.{World, place, top, world}
-use Rattle.pm_law_turns.specs.Looks.{looks}
-use Rattle.pm_law_turns.specs.Told.{top_looks}
-use Rattle.pm_law_turns.proofs.Telling.{all_shown}
-use Rattle.pm_law_turns.specs.Wakes.{wakes}
+use Rattle.pm_laws.specs.turns.Looks.{looks}
+use Rattle.pm_laws.specs.turns.Told.{top_looks}
+use Rattle.pm_laws.proofs.turns.Telling.{all_shown}
+use Rattle.pm_laws.specs.turns.Wakes.{wakes}
 use Rattle.pm_state.specs.Seats.{actor_at}
 use Rattle.pm_turns.specs.Seats.{Asks, IsSeated, Seating, moment_by, place_of, seat_after}
 use Rattle.pm_turns.specs.Turning.{AreOf, Index, IsIndex, Seen, is_listed, queue}

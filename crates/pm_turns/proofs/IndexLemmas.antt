@@ -12,9 +12,9 @@ use Rattle.pm_model.specs.History.{History}
 use Rattle.pm_model.specs.Serial.{next_turn}
 use Rattle.pm_model.specs.World.{world}
 use Rattle.pm_index.specs.Moments.{moment_of}
-use Rattle.pm_law_turns.specs.Told.{is_actor, wait_in}
-use Rattle.pm_law_turns.proofs.Telling.{other_actor, same_actor}
-use Rattle.pm_law_turns.specs.Wakes.{turn_by, wakes}
+use Rattle.pm_laws.specs.turns.Told.{is_actor, wait_in}
+use Rattle.pm_laws.proofs.turns.Telling.{other_actor, same_actor}
+use Rattle.pm_laws.specs.turns.Wakes.{turn_by, wakes}
 use Rattle.pm_state.specs.Seats.{actor_at, actor_in, seats}
 use Rattle.pm_turns.specs.Seats.{AreMoments, Asks, IsSeated, Seating, Sets, moment_by, place_of, round_of, seat_after, writer_at, writer_in}
 use Rattle.pm_turns.specs.Turning.{AreOf, Index, IsIndex, Looked, Noted, Touched, TouchedAny, is_listed, is_reached, queue}

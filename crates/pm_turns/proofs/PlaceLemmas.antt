@@ -9,7 +9,7 @@ use Rattle.pm_index.specs.Moments.{NoneWithin, moment_of}
 use Rattle.pm_index.specs.Moments as moments
 use Rattle.pm_state.specs.Seats.{actor_at}
 use Rattle.pm_turns.specs.Seats.{AreMoments, IsFirst, Seating, round_of, span}
-use Rattle.pm_law_turns.specs.Wakes.{first_awake, is_within, or_least, turn_by}
+use Rattle.pm_laws.specs.turns.Wakes.{first_awake, is_within, or_least, turn_by}
 
 find_joined : {X : Type 0} (p : X → Bool) (xs ys : List X) → find p (xs ++ ys) ≡ option_or (find p xs) (find p ys)
 find_joined p [] ys = refl

@@ -6,8 +6,8 @@ use Rattle.std.proofs.lemmas.List.{get_or-set_other, get_or-set_same, length-rep
 use Rattle.pm_base.specs.declared.ActorId.{ActorId}
 use Rattle.pm_base.specs.declared.ActorId.TheVariants.{Caller, Work, Timer}
 use Rattle.pm_index.specs.Marks.{NoneMarked, is_marked}
-use Rattle.pm_law_turns.specs.Told.{is_actor}
-use Rattle.pm_law_turns.proofs.Telling.{is_itself}
+use Rattle.pm_laws.specs.turns.Told.{is_actor}
+use Rattle.pm_laws.proofs.turns.Telling.{is_itself}
 use Rattle.pm_state.specs.Seats.{actor_at}
 use Rattle.pm_turns.specs.Seats.{IsSeated, Seating, place_of}
 use Rattle.pm_turns.specs.Turning.{AreQueues}

@@ -12,8 +12,8 @@ use Rattle.pm_model.specs.Serial.{callers_and_works, next_turn, round, seat, tim
 use Rattle.pm_model.specs.World.{world}
 use Rattle.pm_state.specs.Seats.{actor_at}
 use Rattle.pm_turns.specs.Seats.{Seating, round_of, span}
-use Rattle.pm_law_turns.specs.Wakes.{turn_by, wakes}
-use Rattle.pm_law_turns.proofs.Turning.{next_is}
+use Rattle.pm_laws.specs.turns.Wakes.{turn_by, wakes}
+use Rattle.pm_laws.proofs.turns.Turning.{next_is}
 
 -- the seats are those of this plan, and the search begins after the last writer
 pub record IsRound (plan : Plan) (h : History) (s : Seating) : Type 0 where

@@ -21,12 +21,12 @@ use Rattle.pm_model.specs.History.{History}
 use Rattle.pm_model.specs.Lawful.{IsLawful}
 use Rattle.pm_model.specs.WellFormed.{device_of, is_in}
 use Rattle.pm_model.specs.World.{World, place, ready, top, world}
-use Rattle.pm_law_turns.specs.Looks.{device_at, device_in, looks, stirs}
-use Rattle.pm_law_turns.specs.Told.{IsShown, is_actor, reaches, reaches_any, told_wait, touches, wait_in, waits_for}
-use Rattle.pm_law_turns.proofs.Telling.{all_shown, same_actor}
-use Rattle.pm_law_turns.proofs.Touching.{only_reached}
-use Rattle.pm_law_stacks.proofs.Fitting.{stands_fit}
-use Rattle.pm_law_turns.specs.Wakes.{wakes}
+use Rattle.pm_laws.specs.turns.Looks.{device_at, device_in, looks, stirs}
+use Rattle.pm_laws.specs.turns.Told.{IsShown, is_actor, reaches, reaches_any, told_wait, touches, wait_in, waits_for}
+use Rattle.pm_laws.proofs.turns.Telling.{all_shown, same_actor}
+use Rattle.pm_laws.proofs.turns.Touching.{only_reached}
+use Rattle.pm_laws.proofs.stacks.Fitting.{stands_fit}
+use Rattle.pm_laws.specs.turns.Wakes.{wakes}
 use Rattle.pm_turns.specs.Seats.{Asks, IsSeated, Seating, moment_by, place_of}
 use Rattle.pm_turns.specs.Turning.{Index, IsIndex, Leads, Noted, TouchedAny, is_listed, is_near, is_reached, queue}
 use Rattle.pm_turns.proofs.QueueLemmas.{place_kept}

@@ -14,7 +14,7 @@ use Rattle.pm_model.specs.WellFormed.{is_well_formed}
 use Rattle.pm_model.specs.World.{World, due, next_command, place, ready, stage_at, top}
 use Rattle.pm_state.proofs.PlaceLemmas.{well_formed_of}
 use Rattle.pm_state.specs.Standing.{StandsWell, can_go_on}
-use Rattle.pm_law_turns.specs.Wakes.{wakes, wakes_at}
+use Rattle.pm_laws.specs.turns.Wakes.{wakes, wakes_at}
 
 -- an actor stands at its open stage, and else at what it has to start
 top_stands : (otherwise : Option Stage) (s : Stage) (stages : List Stage) → Some s ≡ top None stages → Some s ≡ top otherwise stages

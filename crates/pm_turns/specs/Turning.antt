@@ -11,9 +11,9 @@ use Rattle.pm_model.specs.History.{History}
 use Rattle.pm_model.specs.Lawful.{IsLawful, last_time}
 use Rattle.pm_model.specs.Serial.{seat}
 use Rattle.pm_model.specs.World.{World, place, world}
-use Rattle.pm_law_turns.specs.Looks.{device_at}
-use Rattle.pm_law_turns.specs.Told.{is_actor, told_wait, top_looks, wait_in}
-use Rattle.pm_law_turns.specs.Wakes.{wakes}
+use Rattle.pm_laws.specs.turns.Looks.{device_at}
+use Rattle.pm_laws.specs.turns.Told.{is_actor, told_wait, top_looks, wait_in}
+use Rattle.pm_laws.specs.turns.Wakes.{wakes}
 use Rattle.pm_turns.specs.Seats.{Asks, IsSeated, Seating, moment_by, place_of, seat_after}
 
 -- the seats, and for each device a mark at each seat: whether who sits there is listed as waiting for the device

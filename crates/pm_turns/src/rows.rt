@@ -3,7 +3,7 @@
 ghost use Rattle.std.specs.Prelude.{◌≡◌, ◌+◌, ◌*◌, ◌<◌, ◌≤◌, ◌^◌, ℕ, Option, None, option_map, replicate, IfNone, IfOk, IfSome};
 ghost use Rattle.pm_base.specs.declared.ActorId.{ActorId as AnActor};
 ghost use Rattle.pm_index.specs.Moments.{NoneWithin};
-ghost use Rattle.pm_law_turns.specs.Wakes.{first_awake, turn_by};
+ghost use Rattle.pm_laws.specs.turns.Wakes.{first_awake, turn_by};
 ghost use Rattle.pm_state.specs.Seats.{actor_at};
 ghost use Rattle.pm_turns.specs.Seats.{AreMoments, IsFirst, IsSeated, Sets, place_of, round_of, seat_after, writer_at};
 

@@ -4,10 +4,10 @@ ghost use Rattle.std.specs.Prelude.{◌≡◌, ◌+◌, ◌*◌, ◌<◌, ◌≤
 ghost use Rattle.pm_index.specs.Marks.{NoneMarked};
 ghost use Rattle.pm_model.specs.declared.event.Line.{Line as ALine};
 ghost use Rattle.pm_model.specs.History.{History};
-ghost use Rattle.pm_law_turns.specs.Told.{is_actor};
+ghost use Rattle.pm_laws.specs.turns.Told.{is_actor};
 ghost use Rattle.pm_state.specs.Seats.{actor_at, actor_in, seats};
 ghost use Rattle.pm_state.specs.Standing.{AllStandWell, IsActor, IsOf};
-ghost use Rattle.pm_law_turns.specs.Wakes.{wakes};
+ghost use Rattle.pm_laws.specs.turns.Wakes.{wakes};
 ghost use Rattle.pm_turns.specs.Seats.{Asks, IsSeated, moment_by};
 ghost use Rattle.pm_turns.specs.Turning.{AreOf, IsIndex, Leads, Looked, Touched, TouchedAny, queue};
 

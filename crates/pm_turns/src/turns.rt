@@ -9,10 +9,10 @@ ghost use Rattle.pm_model.specs.History.{History};
 ghost use Rattle.pm_model.specs.Lawful.{IsLawful, last_time};
 ghost use Rattle.pm_model.specs.Serial.{next_turn, seat};
 ghost use Rattle.pm_model.specs.World.{place, world};
-ghost use Rattle.pm_law_turns.specs.Told.{top_looks};
+ghost use Rattle.pm_laws.specs.turns.Told.{top_looks};
 ghost use Rattle.pm_state.specs.Seats.{actor_in, seats};
 ghost use Rattle.pm_state.specs.Standing.{AllStandWell, IsActor, IsOf};
-ghost use Rattle.pm_law_turns.specs.Wakes.{wakes};
+ghost use Rattle.pm_laws.specs.turns.Wakes.{wakes};
 ghost use Rattle.pm_turns.specs.Seats.{Asks, IsSeated, moment_by, writer_in};
 ghost use Rattle.pm_turns.specs.Turning.{AreOf, IsIndex, Seen, is_listed, queue};
 

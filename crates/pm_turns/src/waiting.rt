@@ -4,8 +4,8 @@ ghost use Rattle.std.specs.Prelude.{◌≡◌, ◌≢◌, ◌+◌, ◌*◌, ◌<
 ghost use Rattle.pm_base.specs.declared.DevId.{DevId as ADevice};
 ghost use Rattle.pm_index.specs.Marks.{is_marked};
 ghost use Rattle.pm_model.specs.World.{place};
-ghost use Rattle.pm_law_turns.specs.Looks.{change_stirs, device_at, device_in, event_stirs, looks, stirs};
-ghost use Rattle.pm_law_turns.specs.Told.{top_looks, wait_in};
+ghost use Rattle.pm_laws.specs.turns.Looks.{change_stirs, device_at, device_in, event_stirs, looks, stirs};
+ghost use Rattle.pm_laws.specs.turns.Told.{top_looks, wait_in};
 ghost use Rattle.pm_state.specs.Seats.{actor_at, actor_in, seats};
 ghost use Rattle.pm_state.specs.Standing.{IsOf};
 ghost use Rattle.pm_turns.specs.Seats.{seat_after};

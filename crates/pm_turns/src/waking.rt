@@ -10,7 +10,7 @@ ghost use Rattle.pm_model.specs.WellFormed.{is_well_formed};
 ghost use Rattle.pm_model.specs.declared.stage.Stage.TheVariants as the_stage;
 ghost use Rattle.pm_state.specs.Seats.{actor_in, seats};
 ghost use Rattle.pm_state.specs.Standing.{IsOf, StandsWell};
-ghost use Rattle.pm_law_turns.specs.Wakes.{wakes, wakes_at};
+ghost use Rattle.pm_laws.specs.turns.Wakes.{wakes, wakes_at};
 
 use pm_base::{Cb, DevId};
 use pm_device::{Parts, ms_of};

@@ -41,11 +41,11 @@ use Rattle.pm_model.specs.Row.{Row, back, writes}
 use Rattle.pm_model.specs.SuspendTable.{may_not_wait, suspend_domain, suspend_ends, suspend_gives, suspend_goes, suspend_links, suspend_parent, suspend_row, suspend_verdict}
 use Rattle.pm_model.specs.Views.{Views, device, pending_of}
 use Rattle.pm_model.specs.World.{row}
-use Rattle.pm_law_counts.specs.Sums.{one, weigh}
-use Rattle.pm_law_counts.proofs.HelperRows.{command}
-use Rattle.pm_law_counts.proofs.Links.{free_found, held_found}
-use Rattle.pm_law_counts.proofs.Named.{IsCalm}
-use Rattle.pm_law_counts.proofs.Places.{shown}
+use Rattle.pm_laws.specs.counts.Sums.{one, weigh}
+use Rattle.pm_laws.proofs.counts.HelperRows.{command}
+use Rattle.pm_laws.proofs.counts.Links.{free_found, held_found}
+use Rattle.pm_laws.proofs.counts.Named.{IsCalm}
+use Rattle.pm_laws.proofs.counts.Places.{shown}
 use Rattle.pm_why.specs.OpenGets.{is_why}
 use Rattle.pm_why.proofs.Claims.{Owes, SameClaims, alike, claims, either, either_next, gave, has_claim, other, took, waiting}
 

@@ -25,11 +25,11 @@ use Rattle.pm_model.specs.PlanRows.{has_parent, parent_of}
 use Rattle.pm_model.specs.ResumeTable.{is_supplied}
 use Rattle.pm_model.specs.Row.{Row, writes, waits}
 use Rattle.pm_model.specs.Views.{Views, device}
-use Rattle.pm_law_counts.specs.Sums.{one, weigh}
-use Rattle.pm_law_counts.proofs.Givings.{IsStages}
-use Rattle.pm_law_counts.proofs.Links.{has_pair}
-use Rattle.pm_law_counts.proofs.Named.{IsCalm}
-use Rattle.pm_law_counts.proofs.Places.{IsHanded, IsWeight, shown}
+use Rattle.pm_laws.specs.counts.Sums.{one, weigh}
+use Rattle.pm_laws.proofs.counts.Givings.{IsStages}
+use Rattle.pm_laws.proofs.counts.Links.{has_pair}
+use Rattle.pm_laws.proofs.counts.Named.{IsCalm}
+use Rattle.pm_laws.proofs.counts.Places.{IsHanded, IsWeight, shown}
 use Rattle.pm_why.specs.OpenGets.{is_why}
 
 -- whether this call of resume holds a count for this reason on d, the parent of its device

@@ -8,7 +8,7 @@ use Rattle.pm_base.specs.declared.DevId.{DevId}
 use Rattle.pm_base.specs.declared.Why.{Why}
 use Rattle.pm_base.specs.declared.Why.TheVariants as why
 use Rattle.pm_model.specs.Counted.{is_same}
-use Rattle.pm_law_counts.specs.Sums.{one}
+use Rattle.pm_laws.specs.counts.Sums.{one}
 use Rattle.pm_why.specs.declared.gets.Count.{Count}
 use Rattle.pm_why.specs.OpenGets.{is_why, is_for, without, without_earliest}
 

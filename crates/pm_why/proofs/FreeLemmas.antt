@@ -25,8 +25,8 @@ use Rattle.pm_model.specs.Row.{Row}
 use Rattle.pm_model.specs.SuspendTable.{suspend_verdict}
 use Rattle.pm_model.specs.Views.{Views, device, fresh_device, pending_of}
 use Rattle.pm_model.specs.World.{world}
-use Rattle.pm_law_counts.specs.Sums.{one}
-use Rattle.pm_law_counts.proofs.Runs.{lawful_holds}
+use Rattle.pm_laws.specs.counts.Sums.{one}
+use Rattle.pm_laws.proofs.counts.Runs.{lawful_holds}
 use Rattle.pm_why.specs.declared.gets.Count.{Count}
 use Rattle.pm_why.specs.declared.Reason.{Reason}
 use Rattle.pm_why.specs.declared.Reason.TheVariants as reason

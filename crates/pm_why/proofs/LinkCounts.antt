@@ -8,8 +8,8 @@ use Rattle.pm_model.specs.declared.rows.LinkRow.{LinkRow}
 use Rattle.pm_model.specs.Counted.{is_same}
 use Rattle.pm_model.specs.IsPlan.{are_distinct, is_same_pair}
 use Rattle.pm_model.specs.PlanRows.{is_of_pair}
-use Rattle.pm_law_counts.specs.Sums.{one}
-use Rattle.pm_law_counts.proofs.Links.{eq_sym, has_pair, held_of, lent_given, lent_loosed, lent_of, lent_taken, loosed, one_and_false, paired}
+use Rattle.pm_laws.specs.counts.Sums.{one}
+use Rattle.pm_laws.proofs.counts.Links.{eq_sym, has_pair, held_of, lent_given, lent_loosed, lent_of, lent_taken, loosed, one_and_false, paired}
 use Rattle.pm_why.proofs.Counts.{same_device}
 
 one_and_true : (b : Bool) → one (b && true) ≡ one b

@@ -21,16 +21,16 @@ use Rattle.pm_model.specs.Lawful.{IsLawful}
 use Rattle.pm_model.specs.Row.{writes}
 use Rattle.pm_model.specs.Views.{Views, device}
 use Rattle.pm_model.specs.World.{World, after_line, row, row_at, world}
-use Rattle.pm_law_counts.specs.Sums.{one, tally, weigh}
-use Rattle.pm_law_counts.specs.Owners.{places}
-use Rattle.pm_law_counts.proofs.Accounts.{ended_held}
-use Rattle.pm_law_counts.proofs.Givings.{IsStages}
-use Rattle.pm_law_counts.proofs.Links.{distinct_links, held_of, loosed, one_and_false, paired}
-use Rattle.pm_law_counts.proofs.Places.{is_placed, shown}
-use Rattle.pm_law_counts.proofs.Runs.{Holds, Paid, lawful_holds, others, permitted, places_moved, with_next, with_top}
-use Rattle.pm_law_counts.proofs.Said.{auto_said, share_counted, views_next}
-use Rattle.pm_law_counts.proofs.Seen.{held_core}
-use Rattle.pm_law_counts.proofs.Turns.{quiet_event}
+use Rattle.pm_laws.specs.counts.Sums.{one, tally, weigh}
+use Rattle.pm_laws.specs.counts.Owners.{places}
+use Rattle.pm_laws.proofs.counts.Accounts.{ended_held}
+use Rattle.pm_laws.proofs.counts.Givings.{IsStages}
+use Rattle.pm_laws.proofs.counts.Links.{distinct_links, held_of, loosed, one_and_false, paired}
+use Rattle.pm_laws.proofs.counts.Places.{is_placed, shown}
+use Rattle.pm_laws.proofs.counts.Runs.{Holds, Paid, lawful_holds, others, permitted, places_moved, with_next, with_top}
+use Rattle.pm_laws.proofs.counts.Said.{auto_said, share_counted, views_next}
+use Rattle.pm_laws.proofs.counts.Seen.{held_core}
+use Rattle.pm_laws.proofs.counts.Turns.{quiet_event}
 use Rattle.pm_why.specs.OpenGets.{is_why}
 use Rattle.pm_why.proofs.Claims.{Books, ForbidIs, LinkIs, claims, claims_weigh}
 use Rattle.pm_why.proofs.ClaimRows.{row_books}

@@ -21,14 +21,14 @@ use Rattle.pm_model.specs.Counted.{gives_back, is_same, takes}
 use Rattle.pm_model.specs.Derived.{prevented}
 use Rattle.pm_model.specs.Events.{by_begin, by_end, by_event, by_word, gave, got, is_try_again, set_status}
 use Rattle.pm_model.specs.Views.{Views, device}
-use Rattle.pm_law_counts.specs.Sums.{one}
-use Rattle.pm_law_counts.specs.Counts.{told}
-use Rattle.pm_law_counts.specs.Sizes.{HasEntries}
-use Rattle.pm_law_counts.proofs.Asides.{domain_kept, timer_kept, work_kept}
-use Rattle.pm_law_counts.proofs.Links.{one_and_false}
-use Rattle.pm_law_counts.proofs.Named.{IsCalm, change_calm}
-use Rattle.pm_law_counts.proofs.Seen.{Account, Aside, account_seen, untouched_seen}
-use Rattle.pm_law_counts.proofs.Turns.{entry_is, entry_kept, freed_kept}
+use Rattle.pm_laws.specs.counts.Sums.{one}
+use Rattle.pm_laws.specs.counts.Counts.{told}
+use Rattle.pm_laws.specs.counts.Sizes.{HasEntries}
+use Rattle.pm_laws.proofs.counts.Asides.{domain_kept, timer_kept, work_kept}
+use Rattle.pm_laws.proofs.counts.Links.{one_and_false}
+use Rattle.pm_laws.proofs.counts.Named.{IsCalm, change_calm}
+use Rattle.pm_laws.proofs.counts.Seen.{Account, Aside, account_seen, untouched_seen}
+use Rattle.pm_laws.proofs.counts.Turns.{entry_is, entry_kept, freed_kept}
 use Rattle.pm_why.specs.OpenGets.{is_why}
 use Rattle.pm_why.proofs.Claims.{DelayIs, Turns}
 use Rattle.pm_why.proofs.Counts.{same_device}

@@ -19,10 +19,10 @@ use Rattle.pm_model.specs.History.{History}
 use Rattle.pm_model.specs.Lawful.{IsLawful}
 use Rattle.pm_model.specs.Views.{device, fresh_device, pending_of}
 use Rattle.pm_model.specs.World.{start, world}
-use Rattle.pm_law_counts.specs.Sums.{one}
-use Rattle.pm_law_counts.proofs.Links.{held_of}
-use Rattle.pm_law_counts.proofs.Runs.{start_tally, start_usage}
-use Rattle.pm_law_counts.proofs.Said.{usage_counted}
+use Rattle.pm_laws.specs.counts.Sums.{one}
+use Rattle.pm_laws.proofs.counts.Links.{held_of}
+use Rattle.pm_laws.proofs.counts.Runs.{start_tally, start_usage}
+use Rattle.pm_laws.proofs.counts.Said.{usage_counted}
 use Rattle.pm_why.specs.declared.gets.Count.{Count}
 use Rattle.pm_why.specs.declared.Reason.{Reason}
 use Rattle.pm_why.specs.declared.Reason.TheVariants as reason

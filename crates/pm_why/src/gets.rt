@@ -8,7 +8,7 @@ use pm_base::{Cb, DevId, EAGAIN, EBUSY, NoMemory, Why};
 use pm_model::{Event, Word};
 
 /// A count on a device that wasn't given back: for what it was taken, and by which line.
-#[derive(Clone, Copy, Debug, PartialEq, Eq)]
+#[derive(Clone, Copy, PartialEq, Eq)]
 pub struct Count {
     pub why: Why,
     pub line: u32,

@@ -5,7 +5,7 @@ ghost use Rattle.pm_why.specs.Kept.{GoesOn, TellsOf};
 
 use crate::gets::{Found, follow};
 use pm_base::DevId;
-use pm_keeper::Keeper;
+use pm_model::keeper::Keeper;
 use pm_model::{Event, Line};
 use std::alloc::Global;
 

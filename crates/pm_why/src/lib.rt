@@ -13,7 +13,6 @@ ghost use Rattle.pm_why.specs.Reasons.{child_reasons, is_child, reasons_on, when
 mod gets;
 mod kept;
 mod laws;
-mod shown;
 mod texts;
 
 use gets::{Count, Found};
@@ -27,7 +26,7 @@ pub use texts::{free_text, reason_text};
 
 /// One thing that keeps a device from suspending (this project's own; the rules: `runtime_pm.rst`,
 /// sections 2 to 5). Lines are counted from 1.
-#[derive(Clone, Copy, Debug, PartialEq, Eq)]
+#[derive(Clone, Copy, PartialEq, Eq)]
 pub enum Reason {
     /// The stored error, and the end line that stored it.
     Error { code: i32, line: u32 },

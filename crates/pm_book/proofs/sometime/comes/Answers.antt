@@ -4,7 +4,7 @@ use Rattle.pm_device.specs.Parts.{Counters}
 use Rattle.pm_model.specs.Views.{Views}
 use Rattle.pm_model.specs.WellFormed.{is_well_formed}
 use Rattle.pm_state.proofs.PlaceLemmas.{well_formed_of}
-use Rattle.pm_law_bounds.specs.Times.{arms_for}
+use Rattle.pm_laws.specs.bounds.Times.{arms_for}
 use Rattle.pm_book.specs.Sometime.{Comes, awaited}
 use Rattle.pm_book.proofs.Coming.{Tells, by_armed, by_awaited, by_later, by_none, by_now, tested_in}
 use Rattle.pm_book.proofs.sometime.comes.Goals as goal

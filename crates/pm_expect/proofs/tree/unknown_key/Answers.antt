@@ -1,5 +1,5 @@
 use Rattle.std.proofs.Common.{refl}
-use Rattle.pm_plantree.proofs.TreeLemmas.{member_keys_view}
+use Rattle.pm_planread.proofs.tree.TreeLemmas.{member_keys_view}
 use Rattle.pm_expect.proofs.tree.unknown_key.Goals as goal
 
 pub loop-key-init : goal.loop-key-init

@@ -1,7 +1,7 @@
 use Rattle.std.proofs.Common.{◌≡◌, map, string_bytes, length}
 use Rattle.toml.specs.View.{table_view}
-use Rattle.pm_plantree.specs.Places.{first_place}
-use Rattle.pm_plantree.specs.Tree.{member_keys}
+use Rattle.pm_planread.specs.tree.Places.{first_place}
+use Rattle.pm_planread.specs.tree.Tree.{member_keys}
 use Rattle.pm_expect.specs.Tables.{is_unknown_key}
 use Rattle.pm_expect.proofs.tree.unknown_key.Given as goal
 

@@ -1,6 +1,6 @@
 use Rattle.std.proofs.Common.{◌≤◌, length, map, take, subst}
 use Rattle.std.proofs.lemmas.List.{take_all}
-use Rattle.pm_svg.specs.Shapes.{Draws}
+use Rattle.pm_sheet.specs.svg.Shapes.{Draws}
 use Rattle.pm_picture.specs.Calls.{bar_of}
 use Rattle.pm_picture.proofs.CallLemmas.{call_more, words_more}
 use Rattle.pm_picture.proofs.calls.draw_all.Goals as goal

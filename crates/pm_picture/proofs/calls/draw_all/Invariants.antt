@@ -1,5 +1,5 @@
 use Rattle.std.proofs.Common.{map, take}
-use Rattle.pm_svg.specs.Shapes.{Draws}
+use Rattle.pm_sheet.specs.svg.Shapes.{Draws}
 use Rattle.pm_picture.specs.Calls.{bar_of}
 use Rattle.pm_picture.proofs.calls.draw_all.Given as goal
 

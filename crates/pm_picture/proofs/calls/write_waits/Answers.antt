@@ -1,5 +1,5 @@
 use Rattle.std.proofs.Common.{[]}
-use Rattle.pm_svg.proofs.DrawLemmas.{draws_both}
+use Rattle.pm_sheet.proofs.svg.DrawLemmas.{draws_both}
 use Rattle.pm_picture.proofs.calls.write_waits.Goals as goal
 
 pub loop-preserved : goal.loop-preserved

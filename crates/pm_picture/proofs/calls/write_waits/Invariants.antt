@@ -1,5 +1,5 @@
 use Rattle.std.proofs.Common.{[]}
-use Rattle.pm_svg.specs.Shapes.{Draws}
+use Rattle.pm_sheet.specs.svg.Shapes.{Draws}
 use Rattle.pm_picture.proofs.calls.write_waits.Given as goal
 
 -- nothing but words so far

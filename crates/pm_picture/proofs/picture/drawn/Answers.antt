@@ -1,5 +1,5 @@
 use Rattle.std.proofs.Common.{subst}
-use Rattle.pm_svg.specs.Shapes.{AreShapes}
+use Rattle.pm_sheet.specs.svg.Shapes.{AreShapes}
 use Rattle.pm_picture.proofs.CallLemmas.{picture_made}
 use Rattle.pm_picture.proofs.picture.drawn.Goals as goal
 

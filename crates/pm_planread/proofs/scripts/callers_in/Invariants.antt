@@ -1,6 +1,6 @@
 use Rattle.std.proofs.Common.{◌≡◌, ◌++◌, true, drop, length, map}
 use Rattle.std.specs.List.{list_all}
-use Rattle.pm_plantree.specs.Places.{first_fault}
+use Rattle.pm_planread.specs.tree.Places.{first_fault}
 use Rattle.pm_planread.specs.Scripts.{are_commands, bad_command, caller_row}
 use Rattle.pm_planread.proofs.scripts.callers_in.Given as goal
 

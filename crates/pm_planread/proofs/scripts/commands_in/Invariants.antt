@@ -1,7 +1,7 @@
 use Rattle.std.proofs.Common.{◌≡◌, ◌++◌, true, drop, length, map}
 use Rattle.std.specs.List.{list_all}
 use Rattle.pm_model.specs.IsPlan.{is_command}
-use Rattle.pm_plantree.specs.Places.{first_place}
+use Rattle.pm_planread.specs.tree.Places.{first_place}
 use Rattle.pm_planread.specs.Scripts.{commands_in, is_no_command}
 use Rattle.pm_planread.proofs.scripts.commands_in.Given as goal
 

@@ -1,7 +1,7 @@
 use Rattle.std.proofs.Common.{List, ℕ, ◌∙◌, ◌++◌, ap, codes, flat_map}
 use Rattle.pm_planread.specs.Messages.{refusal_text}
-use Rattle.pm_refusals.specs.Told.{told_of, token_of}
-use Rattle.pm_refusals.specs.declared.located.Located.{Located}
+use Rattle.pm_messages.specs.located.Told.{told_of, token_of}
+use Rattle.pm_messages.specs.declared.located.located.Located.{Located}
 use Rattle.pm_say.proofs.SayLemmas.{tells_at, three_pieces}
 use Rattle.pm_say.proofs.refused.refused_text.Goals as goal
 

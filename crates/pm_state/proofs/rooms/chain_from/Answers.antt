@@ -1,6 +1,6 @@
 use Rattle.std.proofs.Common.{◌∙◌, List, ap, arith}
 use Rattle.pm_model.specs.declared.rows.LinkRow.{LinkRow}
-use Rattle.pm_law_stacks.specs.Depth.{greatest, of_supplier}
+use Rattle.pm_laws.specs.stacks.Depth.{greatest, of_supplier}
 use Rattle.pm_state.specs.Chains.{chain_at}
 use Rattle.pm_state.proofs.ChainLemmas.{from_within}
 use Rattle.pm_state.proofs.rooms.chain_from.Goals as goal

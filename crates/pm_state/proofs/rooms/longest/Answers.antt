@@ -1,6 +1,6 @@
 use Rattle.std.proofs.Common.{◌≡◌, ◌+◌, max, take, arith}
 use Rattle.std.proofs.Math.ListN.{get_or}
-use Rattle.pm_law_stacks.specs.Depth.{greatest}
+use Rattle.pm_laws.specs.stacks.Depth.{greatest}
 use Rattle.pm_state.proofs.ChainLemmas.{greatest_more, max_is}
 use Rattle.pm_state.proofs.rooms.longest.Goals as goal
 

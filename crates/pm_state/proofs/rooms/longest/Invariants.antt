@@ -1,5 +1,5 @@
 use Rattle.std.proofs.Common.{◌≡◌, max, take}
-use Rattle.pm_law_stacks.specs.Depth.{greatest}
+use Rattle.pm_laws.specs.stacks.Depth.{greatest}
 use Rattle.pm_state.proofs.rooms.longest.Given as goal
 
 -- the longest of those so far, at least 1

@@ -1,5 +1,5 @@
 use Rattle.std.proofs.Common.{ℕ, ◌≡◌, ◌∙◌, List, ap, arith, max}
-use Rattle.pm_law_stacks.specs.Depth.{greatest}
+use Rattle.pm_laws.specs.stacks.Depth.{greatest}
 use Rattle.pm_state.proofs.ChainLemmas.{greatest_few, is_roomy}
 use Rattle.pm_state.proofs.rooms.stack_room.Goals as goal
 

@@ -1,7 +1,7 @@
 use Rattle.std.proofs.Common.{◌≡◌, ◌∙◌, ◌+◌, List, [], Option, ◌∷◌, ◌++◌, reverse, ap, subst, sym}
 use Rattle.pm_base.specs.declared.DevId.{DevId}
 use Rattle.pm_model.specs.declared.event.Line.{Line}
-use Rattle.pm_law_counts.specs.Sums.{one}
+use Rattle.pm_laws.specs.counts.Sums.{one}
 use Rattle.pm_state.specs.Standing.{AllStandWell, IsActor, IsOf, Standing, after_write}
 use Rattle.pm_turns.specs.Turning.{Leads}
 use Rattle.pm_book.specs.Pages.{IsKept, MayWrite, Pages}

@@ -3,7 +3,7 @@ use Rattle.std.proofs.Common.{List, ◌∷◌, subst}
 use Rattle.pm_model.specs.declared.event.Line.{Line}
 use Rattle.pm_model.specs.Lawful.{IsLawful}
 use Rattle.pm_book.specs.Offering.{line_by}
-use Rattle.pm_law_counts.specs.Sums.{one}
+use Rattle.pm_laws.specs.counts.Sums.{one}
 use Rattle.pm_book.specs.Sheets.{begins_callback}
 use Rattle.pm_book.specs.Takings.{TakerStandsFor, Takings}
 use Rattle.pm_book.proofs.TakerLemmas.{kept_of, lists_one, stands_one}

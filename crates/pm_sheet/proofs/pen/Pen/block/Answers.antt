@@ -1,5 +1,5 @@
 use Rattle.std.proofs.Common.{[], ◌∷◌, OnOk, subst}
-use Rattle.pm_svg.specs.Shapes.{Draws}
+use Rattle.pm_sheet.specs.svg.Shapes.{Draws}
 use Rattle.pm_sheet.proofs.PenLemmas.{block_ok}
 use Rattle.pm_sheet.proofs.pen.Pen.block.Goals as goal
 

@@ -1,5 +1,5 @@
 use Rattle.std.proofs.Common.{subst, sym}
-use Rattle.pm_law_turns.specs.Wakes.{wakes}
+use Rattle.pm_laws.specs.turns.Wakes.{wakes}
 use Rattle.pm_turns.specs.Seats.{Asks}
 use Rattle.pm_turns.specs.Turning.{AreOf, Index}
 use Rattle.pm_turns.proofs.IndexLemmas.{asks_seat}

@@ -1,7 +1,7 @@
 use Rattle.std.proofs.Common.{◌≡◌, ◌∙◌, false, ap, arith, subst, sym}
 use Rattle.pm_base.specs.declared.ActorId.TheVariants.{Timer, Work}
-use Rattle.pm_law_turns.specs.Told.{is_actor}
-use Rattle.pm_law_turns.specs.Wakes.{wakes}
+use Rattle.pm_laws.specs.turns.Told.{is_actor}
+use Rattle.pm_laws.specs.turns.Wakes.{wakes}
 use Rattle.pm_state.specs.Seats.{actor_in}
 use Rattle.pm_turns.specs.Seats.{moment_by, place_of}
 use Rattle.pm_turns.specs.Turning.{Index}

@@ -1,5 +1,5 @@
 use Rattle.std.proofs.Common.{arith}
-use Rattle.pm_law_turns.specs.Wakes.{wakes}
+use Rattle.pm_laws.specs.turns.Wakes.{wakes}
 use Rattle.pm_turns.proofs.IndexLemmas.{looked_all, looked_more}
 use Rattle.pm_turns.proofs.turns.Turns.refresh_waiters.Goals as goal
 

@@ -1,5 +1,5 @@
 use Rattle.std.proofs.Common.{◌+◌, ◌*◌, ◌-◌, ◌≤◌}
-use Rattle.pm_law_turns.specs.Wakes.{wakes}
+use Rattle.pm_laws.specs.turns.Wakes.{wakes}
 use Rattle.pm_turns.specs.Turning.{Looked}
 use Rattle.pm_turns.proofs.turns.Turns.refresh_waiters.Given as goal
 

@@ -1,7 +1,7 @@
 use Rattle.std.proofs.Common.{◌≡◌, ◌⊎◌, Bool, Option, subst}
 use Rattle.pm_base.specs.declared.DevId.{DevId}
-use Rattle.pm_law_turns.specs.Looks.{device_in, stirs}
-use Rattle.pm_law_turns.specs.Wakes.{wakes}
+use Rattle.pm_laws.specs.turns.Looks.{device_in, stirs}
+use Rattle.pm_laws.specs.turns.Wakes.{wakes}
 use Rattle.pm_model.specs.declared.event.Line.{Line}
 use Rattle.pm_base.specs.declared.ActorId.{ActorId}
 use Rattle.pm_state.specs.Seats.{actor_in}

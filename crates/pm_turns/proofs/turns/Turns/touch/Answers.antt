@@ -1,4 +1,4 @@
-use Rattle.pm_law_turns.specs.Wakes.{wakes}
+use Rattle.pm_laws.specs.turns.Wakes.{wakes}
 use Rattle.pm_state.specs.Seats.{actor_in}
 use Rattle.pm_turns.proofs.IndexLemmas.{touched_all}
 use Rattle.pm_turns.proofs.turns.Turns.touch.Goals as goal

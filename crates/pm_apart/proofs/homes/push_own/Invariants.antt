@@ -1,8 +1,0 @@
-use Rattle.std.proofs.Common.{◌≡◌, ◌++◌, take}
-use Rattle.pm_apart.specs.Homes.{at_home}
-use Rattle.pm_islands.specs.Numbers.{island_in}
-use Rattle.pm_apart.proofs.homes.push_own.Given as goal
-
--- those of the outcomes so far
-abbrev pub invariant-loop-outcome : goal.invariant-loop-outcome
-invariant-loop-outcome l = l.marks.items ≡ l.initial.marks.items ++ at_home (island_in l.numbers) l.island (take l.outcome-index l.outcomes)

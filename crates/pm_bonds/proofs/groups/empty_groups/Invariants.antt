@@ -1,6 +1,0 @@
-use Rattle.std.proofs.Common.{◌≡◌, [], replicate}
-use Rattle.pm_bonds.proofs.groups.empty_groups.Given as goal
-
--- the groups so far
-abbrev pub invariant-loop : goal.invariant-loop
-invariant-loop l = l.groups.items ≡ replicate l.counter []

@@ -1,8 +1,0 @@
-use Rattle.std.proofs.Common.{map}
-use Rattle.pm_broken.specs.Found.{IsWholeBefore}
-use Rattle.pm_spot.specs.SpotOf.{spot_of}
-use Rattle.pm_broken.proofs.firsts.first_broken.Given as goal
-
--- none of so many spots breaks it
-abbrev pub invariant-loop-place : goal.invariant-loop-place
-invariant-loop-place l = IsWholeBefore l.plan l.expectation (map spot_of l.found.tree.nodes.keys) l.place

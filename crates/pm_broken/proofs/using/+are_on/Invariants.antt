@@ -1,4 +1,0 @@
-use Rattle.pm_broken.proofs.using.+are_on.Given as goal
-
-abbrev pub decreases-are_on : goal.decreases-are_on
-decreases-are_on l = l.most

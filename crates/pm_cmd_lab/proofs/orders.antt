@@ -1,0 +1,6 @@
+pub mod OrdersLemmas
+pub mod ApartLemmas
+pub mod SeenLemmas
+pub mod ExpectLemmas
+pub mod Exactly
+pub mod Differing

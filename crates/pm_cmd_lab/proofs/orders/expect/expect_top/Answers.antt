@@ -1,0 +1,60 @@
+use Rattle.std.proofs.Common.{ℕ, List, Err, ap, refl, subst}
+use Rattle.std.specs.declared.option.Option.{Option}
+use Rattle.pm_cmd_ends.specs.Ending.{taking}
+use Rattle.pm_io.proofs.Rose.{rose_later}
+use Rattle.pm_io.specs.Asks.{AskedOnly}
+use Rattle.pm_io.specs.Faults.{Rose}
+use Rattle.pm_cmd_lab.specs.find.Check.{OfExpectations}
+use Rattle.pm_cmd_lab.specs.orders.Expect.{ExpectEnds, ExpectUnread}
+use Rattle.pm_cmd_lab.proofs.orders.ExpectLemmas.{file_failed, plan_failed}
+use Rattle.pm_cmd_lab.specs.ends.Coming.{Came}
+use Rattle.pm_cmd_lab.specs.ends.Ending.{OfThis}
+use Rattle.pm_cmd_lab.specs.ends.Reading.{OfPlan}
+use Rattle.pm_cmd_lab.proofs.ends.EndLemmas.{answered, answered_weaker}
+use Rattle.pm_cmd_lab.proofs.ends.ReadLemmas.{came_read, came_unread}
+use Rattle.pm_cmd_lab.proofs.orders.expect.expect_top.Goals as goal
+
+pub returns-in-Ok : goal.returns-in-Ok
+returns-in-Ok g c =
+    let files = g.F.Files in
+    let all = files.tells_all in
+    let told = files.told c.args.files.now in
+    let plan = c.args.plan.now in
+    let expect = c.args.expect.now in
+    let bounds = c.args.bounds in
+    let differ = c.args.differ in
+    let read = c.in-Ok.read in
+    let old = files.faults c.args.files.now in
+    let mid = files.faults c.load.new.files in
+    let new = files.faults c.run_expect.new.files in
+    let out = taking g.O.Sink.taken g.O.Sink.faults c.args.out.now c.run_expect.new.out in
+    let err = taking g.E.Sink.taken g.E.Sink.faults c.args.err.now c.finish.new.err in
+    let alone = AskedOnly plan (files.asked c.args.files.now) (files.asked c.run_expect.new.files) in
+    let ends = OfPlan all (told plan) plan (OfExpectations all (told expect) expect (ExpectEnds bounds differ expect)) in
+    let same = ap (λ (t : List ℕ → Option (List ℕ)). t expect) c.load.ensures.same in
+    let came = subst (λ (t : Option (List ℕ)). Came (OfExpectations all t expect (ExpectEnds bounds differ expect) read) c.run_expect.result (Rose mid new) out) same c.run_expect.ensures in
+    answered_weaker ends (OfThis expect (Rose old new)) (ExpectUnread all (told plan) plan expect alone (Rose old new)) c.finish.result out err
+    (λ name this. file_failed all (told plan) plan expect name read alone (Rose old new) c.in-Ok.ensures.read this)
+    (answered ends expect (Rose old new) c.run_expect.result c.finish.result out err
+    (came_read all (told plan) plan read (OfExpectations all (told expect) expect (ExpectEnds bounds differ expect)) (Rose mid new) (Rose old new) out c.run_expect.result
+    (λ rose. rose_later old mid new c.load.ensures.never_falls rose) c.in-Ok.ensures.read came)
+    c.finish.ensures.status c.finish.ensures.message)
+
+pub returns-in-Err : goal.returns-in-Err
+returns-in-Err g c =
+    let files = g.F.Files in
+    let all = files.tells_all in
+    let told = files.told c.args.files.now in
+    let plan = c.args.plan.now in
+    let expect = c.args.expect.now in
+    let fault = c.in-Err.fault in
+    let failed = Rose (files.faults c.args.files.now) (files.faults c.load.new.files) in
+    let out = taking g.O.Sink.taken g.O.Sink.faults c.args.out.now c.args.out.now in
+    let err = taking g.E.Sink.taken g.E.Sink.faults c.args.err.now c.finish-in-Err.new.err in
+    let alone = AskedOnly plan (files.asked c.args.files.now) (files.asked c.load.new.files) in
+    let ends = OfPlan all (told plan) plan (OfExpectations all (told expect) expect (ExpectEnds c.args.bounds c.args.differ expect)) in
+    answered_weaker ends (OfThis plan failed) (ExpectUnread all (told plan) plan expect alone failed) c.finish-in-Err.result out err
+    (λ name this. plan_failed all (told plan) plan expect name alone failed c.load.ensures.asked this)
+    (answered ends plan failed (Err fault) c.finish-in-Err.result out err
+    (came_unread all (told plan) plan (OfExpectations all (told expect) expect (ExpectEnds c.args.bounds c.args.differ expect)) failed out fault c.in-Err.ensures.unread refl)
+    c.finish-in-Err.ensures.status c.finish-in-Err.ensures.message)

@@ -1,0 +1,289 @@
+//! `help`, and `help COMMAND`: what the commands are.
+
+ghost use Rattle.std.specs.Prelude.{[], ◌≡◌};
+ghost use Rattle.pm_cmd_ends.specs.Ending.{taking};
+ghost use Rattle.pm_cmd_lab.specs.others.Commands.{page_of};
+ghost use Rattle.pm_cmd_lab.specs.ends.Coming.{Writes};
+ghost use Rattle.pm_cmd_lab.specs.ends.Ending.{Answered, OfThis};
+
+use crate::ends::{Outcome, finish, write_text};
+use pm_io::Sink;
+use pm_lab_words::Command;
+
+/// The answer of `help`.
+pub const HELP: &[u8] =
+    b"usage: pm_lab say PLAN | find PLAN TRACE [--expect FILE] [--ktap] [--notes] | picture PLAN TRACE [--json] | orders PLAN [--late] [--most K] [--spots N] [--differ] [--expect FILE|--seen LOG] | order PLAN [--late] [--most K] [--spots N] CALLER N CODE|end DEVICE STATUS USAGE ERROR|--expect FILE fails INDEX | kernel PLAN
+
+say PLAN            what is wrong with a plan, and where
+find PLAN TRACE     what stands out in a run, and whether what is expected holds
+picture PLAN TRACE  a run as a picture, or as a timeline for a viewer
+orders PLAN         what each call may return, and how each device may end, and
+                    whether what is expected holds in every order
+order PLAN ..       the trace of a run in which a call returns a code, or that
+                    leaves a device so, or that breaks what is expected
+kernel PLAN         the plan as a C file: a module that runs it on a kernel
+";
+
+/// The answer of `help say`.
+pub const SAY_PAGE: &[u8] = b"pm_lab say PLAN
+
+Tells of a plan that is refused what is wrong, where in the file, and what may
+have been meant:
+
+    touch.toml:9:1: error: device \"hid\": no key \"suspend_msec\"
+       |
+     9 | suspend_msec = 5
+       | ^^^^^^^^^^^^
+       = did you mean \"suspend_ms\"?
+    plan: key device 1 3
+
+FILE:LINE:COLUMN comes first, so that an editor or a CI job jumps there; lines
+and columns count from 1, columns in characters. A long line is cut to 120
+columns around the token. The first refusal is that of `pm_top check`, whose
+line stands last: its word, the section, the item and the part, which count
+from 0. Others, at most 19, follow in the order of the text, each looked at by
+itself.
+
+Of a plan that is one it tells what looks wrong, with `warning:` in the same
+form, and then how much the plan has:
+
+    touch.toml: devices 2 domains 0 links 0 callers 1 islands 1
+
+All this goes to the output; a file that can't be read is named on standard
+error.
+
+Status 0: it is a plan, and nothing in it looks wrong. 1: warnings are told.
+2: wrong words. 3: the plan is refused, or the file is longer than 1,048,576
+bytes. 4: it couldn't be read. 5: writing failed. 7: no memory.
+";
+
+/// The answer of `help find`.
+pub const FIND_PAGE: &[u8] = b"pm_lab find PLAN TRACE [--expect FILE] [--ktap] [--notes]
+
+Tells what stands out in a run, in the order of its lines, and how much that is:
+
+    cam.trace:12: error: leak: sensor never gives back the count of imx that get_sync took here
+    cam.trace:22: error: answer: sensor: get_sync imx answers -5 (EIO) and keeps its count
+    2 findings in 130 lines
+
+FILE:LINE comes first, so that an editor or a CI job jumps there. At most 200
+findings are told; the last line counts them all. The trace is read in either
+format.
+
+    error    leak          a get whose count is never put, in a finished run
+             stolen        a put that takes away another caller's count
+             answer        a call that answers an error
+             poisoned      a call that answers -22 since the device has an error
+             off domain    a device is active and a domain of it is off
+    warning  left on       a device that is active at the end of a finished
+                           run, or when it is disabled; a domain that is on
+                           at the end though no device of it is active
+             unmarked      a put_autosuspend or put_sync_autosuspend whose
+                           device was marked as busy before, and not then
+             never on      a count under which its device was never active
+             off parent    a device is active and its parent isn't, and why
+                           that may be
+             off supplier  the same of the supplier of a link
+    note     refused       a call that answers -11, -16 or -115
+             no count      a get_if_active or get_if_in_use that answers 0
+             failed        a callback that answers an error
+
+Notes are told, and counted, with --notes alone. Of a trace that isn't the text
+of a lawful run the first bad line is told, and why:
+
+    cam.trace:26: not lawful: step
+
+With --expect FILE it tells too which of the expectations in the file fail,
+each at its line there, and how many there are:
+
+    cam.expect.toml:14: failed: end imx suspended: cam.trace:130: imx is active at the end, usage 1
+    expectations 3 failed 1 open 0
+
+An expectation is a table: [[answer]], a call answers a code; [[end]], a device
+ends so; [[use]], during a call a device is active, with all that it needs. One
+that a run decides only later is open. With --ktap they alone are told, in the
+format of the kernel's own tests. A refused file is told of as `say` does it.
+
+Status 0: no error or warning stands out, and no expectation fails. 1: one does,
+or the trace isn't lawful; with --ktap the expectations alone decide. 2: wrong
+words. 3: the plan or the expectations are refused, or a file is too long. 4:
+one couldn't be read; its name is on standard error. 5: writing failed.
+7: no memory.
+";
+
+/// The answer of `help picture`.
+pub const PICTURE_PAGE: &[u8] = b"pm_lab picture PLAN TRACE [--json]
+
+Draws a run as an SVG file, without script, for a browser:
+
+    pm_lab picture cam.toml cam.trace >cam.svg
+
+On top stands what stands out, as `find` tells it. Below come the callers, each
+call a bar with its words and its code; the domains; the devices, children under
+their parents: suspended, resuming, active or suspending, the usage where it
+changes, callbacks as dark bars, work items and timers underneath; and the links
+that are held. At the right stands how each device ends. Point at a shape to see
+its line. From left to right go the lines of the trace, and where time passes a
+step is wider. A run of more than 400 such steps is drawn as an overview, with
+no words.
+
+With --json it writes the run as trace events, for Perfetto and
+chrome://tracing. Times are in microseconds: the milliseconds of a line, and one
+more for each line before it in the same millisecond. Each event has its line.
+
+Of a trace that isn't the text of a lawful run the first bad line is told, as
+`find` tells it.
+
+Status 0: written. 1: the trace isn't lawful. 2: wrong words. 3: the plan is
+refused, or a file is too long. 4: one couldn't be read. 5: writing failed.
+7: no memory.
+";
+
+/// The answer of `help orders`.
+pub const ORDERS_PAGE: &[u8] = b"pm_lab orders PLAN [--late] [--most K] [--spots N] [--differ]
+                   [--expect FILE|--seen LOG]
+
+Goes through the orders in which the lines of a run of the plan may come, and
+tells what each call returns and how each device ends over all of them:
+
+    probe 5 get_sync cam: 0 / 1 after 1
+    user 1 get_sync cam: -13 / 1 / 0 after 1
+    end cam: active usage 1 error 0
+    within 2, 1844 spots
+
+A line of a call has its caller, its number in the script and its codes, a line
+of a device its status, usage and error at the end of a finished run. `never`
+says that no order has one.
+
+The orders are those at a prompt pace: a line comes as soon as some actor may
+write. With --late an actor's line may also come later than another's. `after
+K` is the least number of disturbances with which it shows: of lines at which
+another writes, or time moves, though the writer of the last line, or anybody,
+may write. Orders of at most K are gone through, 0 to 99, two where --most
+isn't given; and at most N spots, 1 to 10,000,000, a million where --spots
+isn't given. A spot is what decides how an order goes on.
+
+Callers and devices that no script, parent, link or domain connects run apart,
+and are gone through apart. So an order has the lines of one island alone, as
+they may stand in a run of the whole plan; K, N and the moments at which a line
+may come late are the island's own, and the spots are counted together.
+
+The last line says how far this is exact: `all`, of all orders of that pace;
+`within K`, of those with at most K disturbances; `limit`, where the spots or
+the lines of the plan came first, of as many as it names. It is the least that
+holds of each island.
+
+With --expect FILE a line for each expectation of the file comes first, of its
+answers, its ends and its uses, each in the file's order:
+
+    race.expect.toml:2: holds in every order of at most 2 disturbances
+    race.expect.toml:7: fails after 1: end cam suspended: cam is active at the end, usage 1
+
+`help find` says what is expected. It fails where some order breaks it, and
+`order` writes the trace of one. Where a limit came first it may be broken in a
+round that isn't complete: `after more than K`. A use may need a device of
+another island, so with --expect the orders have the lines of the whole plan.
+
+With --differ only commands and devices are told that have more than one. With
+--seen LOG a line says behind the last one whether each code and end that the
+log of a kernel's run tells is listed, or names the first that isn't; `kernel`
+makes the module. A device's error isn't told there, nor asked for.
+
+Status 0: each has one, or, with --expect, each expectation holds. 1: one has
+more, or what was seen isn't listed; with --expect an expectation fails. 2: wrong
+words. 3: the plan or the expectations are refused, or the log is too long or
+tells of no whole run. 4: one couldn't be read. 5: writing failed. 6: a limit
+came first. 7: no memory.
+";
+
+/// The answer of `help order`.
+pub const ORDER_PAGE: &[u8] = b"pm_lab order PLAN [--late] [--most K] [--spots N] CALLER N CODE
+pm_lab order PLAN [--late] [--most K] [--spots N] end DEVICE STATUS USAGE ERROR
+pm_lab order PLAN [--late] [--most K] [--spots N] --expect FILE fails INDEX
+
+Writes the trace of a run in which the N-th command of CALLER, counted from 1,
+returns CODE; or that leaves DEVICE so, with that error; or that breaks an
+expectation of FILE, counted from 1 as `orders --expect` tells them:
+
+    pm_lab order race.toml irq 5 -22 >race.trace
+    pm_lab order race.toml end hid suspended 0 0 >race.trace
+    pm_lab order race.toml --expect race.expect.toml fails 2 >race.trace
+
+What `orders` lists or says to fail has a run here, with the same options: one of
+the orders, of as few disturbances as `orders` says; from there on the whole plan
+goes by one thread to its end. For a return or an end the order is of the island
+of the caller or the device alone. It is the text of a lawful run, in the plan's
+format.
+
+Status 0: written. 1: no order has it, of those that were gone through; a
+message says how far that is. 2: wrong words. 3: the plan or the expectations are
+refused, or there is no such caller, command, device or expectation. 4: one
+couldn't be read. 5: writing failed. 6: a limit of spots or of lines came first,
+or the run has as many lines as the plan allows and isn't finished. 7: no memory.
+";
+
+/// The answer of `help kernel`.
+pub const KERNEL_PAGE: &[u8] = b"pm_lab kernel PLAN
+
+Writes the plan as one C file: a module for Linux 6.1 to 6.12. It makes the
+plan's power domains, devices and links, runs the script of each caller on a
+thread of its own, and tells what came of it.
+
+    pm_lab kernel touch.toml >pm_lab.c
+    echo 'obj-m := pm_lab.o' >Makefile
+    make -C /lib/modules/$(uname -r)/build M=$PWD modules
+    echo 1 >/sys/kernel/tracing/events/rpm/enable
+    insmod pm_lab.ko
+
+Each call and callback goes into the trace (pm_call, pm_ret, pm_begin, pm_end,
+pm_domain), beside the kernel's own rpm_* events. At the end the log and the
+trace have a line for each command and for each device, in the plan's order:
+
+    pm_lab: answer CALLER N CODE
+    pm_lab: end DEVICE STATUS USAGE
+    pm_lab: done
+
+A caller that does nothing for a minute has the line `pm_lab: hangs CALLER N`,
+and the module stays. A kernel answers otherwise than pm_top in a few places.
+
+Status 0: written. 2: wrong words. 3: the plan is refused. 4: it couldn't be
+read. 5: writing failed. 7: no memory.
+";
+
+/// The page of a command.
+fn page_of(command: Command) -> &'static [u8]
+    ensures { result.now ≡ page_of command }
+{
+    match command {
+        Command::Say => SAY_PAGE,
+        Command::Find => FIND_PAGE,
+        Command::Picture => PICTURE_PAGE,
+        Command::Orders => ORDERS_PAGE,
+        Command::Order => ORDER_PAGE,
+        Command::Kernel => KERNEL_PAGE,
+    }
+}
+
+/// `help`: the usage and a line for each command.
+pub(crate) fn help_top<O: Sink, E: Sink>(out: &mut O, err: &mut E) -> u8
+    ensures { Answered (Writes Outcome.Done HELP.now) result (OfThis [] ⊥)
+        (taking O.taken O.faults out.old out.new) (taking E.taken E.faults err.old err.new) }
+{
+    tell(HELP, out, err)
+}
+
+/// `help COMMAND`: the page of a command.
+pub(crate) fn page_top<O: Sink, E: Sink>(command: Command, out: &mut O, err: &mut E) -> u8
+    ensures { Answered (Writes Outcome.Done (page_of command)) result (OfThis [] ⊥)
+        (taking O.taken O.faults out.old out.new) (taking E.taken E.faults err.old err.new) }
+{
+    tell(page_of(command), out, err)
+}
+
+/// Answers a text.
+fn tell<O: Sink, E: Sink>(text: &[u8], out: &mut O, err: &mut E) -> u8
+    ensures { Answered (Writes Outcome.Done text.now) result (OfThis [] ⊥)
+        (taking O.taken O.faults out.old out.new) (taking E.taken E.faults err.old err.new) }
+{
+    finish(write_text(text, Outcome::Done, out), "", err)
+}

@@ -1,7 +1,0 @@
-use Rattle.std.proofs.Common.{◌≡◌, map, take}
-use Rattle.pm_columns.specs.Axis.{fitted}
-use Rattle.pm_columns.proofs.axis.Columns.fit.Given as goal
-
--- the lines so far
-abbrev pub invariant-loop-x : goal.invariant-loop-x
-invariant-loop-x l = l.xs.items ≡ map (fitted l.fn.self.width) (take l.x-index l.fn.self.xs.items)

@@ -1,0 +1,4 @@
+pub mod CommaLemmas
+pub mod ClosedLemmas
+pub mod FitLemmas
+pub mod WayLemmas

@@ -1,0 +1,9 @@
+pub mod Names
+pub mod Goals
+pub mod Calls
+pub mod Marks
+pub mod Faults
+pub mod Ways
+pub mod Places
+pub mod Fits
+pub mod Programs

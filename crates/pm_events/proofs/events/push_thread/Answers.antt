@@ -1,7 +1,0 @@
-use Rattle.pm_events.specs.Events.{thread_text}
-use Rattle.pm_events.proofs.TimelineLemmas.{behind, last}
-use Rattle.pm_events.proofs.events.push_thread.Goals as goal
-
-pub returns : goal.returns
-unfolding thread_text
-returns c = last c.push.result c.args.text.now.items c.push_named.new.text.items c.push.new.text.items _ _ (behind c.args.text.now.items c.push_field-2.new.text.items c.push_named.new.text.items _ _ (behind c.args.text.now.items c.push_field.new.text.items c.push_field-2.new.text.items _ _ c.in_ok-push_field.ensures c.in_ok-push_field-2.ensures) c.in_ok-push_named.ensures) c.push.ensures

@@ -1,0 +1,4 @@
+pub mod refused
+pub mod trace
+pub mod broken
+pub mod orders

@@ -1,0 +1,7 @@
+//! What is told of expectations: of a file that is refused, of a trace, and over all orders of a plan (this project's own).
+#![tactic(auto)]
+
+pub mod broken;
+pub mod orders;
+pub mod refused;
+pub mod trace;

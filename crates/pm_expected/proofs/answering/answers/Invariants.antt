@@ -1,7 +1,0 @@
-use Rattle.std.proofs.Common.{◌≡◌, map, take}
-use Rattle.pm_expected.specs.Verdicts.{answer_by, judged}
-use Rattle.pm_expected.proofs.answering.answers.Given as goal
-
--- those so far
-abbrev pub invariant-loop-answer : goal.invariant-loop-answer
-invariant-loop-answer l = l.verdicts.items ≡ map (judged (answer_by l.plan l.all)) (take l.answer-index l.expected)

@@ -1,8 +1,0 @@
-use Rattle.std.proofs.Common.{◌≡◌, map, take}
-use Rattle.pm_expecttext.specs.Items.{end_item}
-use Rattle.pm_model.specs.Text.{names_of}
-use Rattle.pm_expecttext.proofs.items.end_items.Given as goal
-
--- those so far
-abbrev pub invariant-loop-judged : goal.invariant-loop-judged
-invariant-loop-judged l = l.items.items ≡ map (end_item (names_of l.plan)) (take l.judged-index l.all)

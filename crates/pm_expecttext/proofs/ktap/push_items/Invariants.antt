@@ -1,7 +1,0 @@
-use Rattle.std.proofs.Common.{◌≡◌, ◌++◌, ◌+◌, drop}
-use Rattle.pm_expecttext.specs.Texts.{ktap_lines}
-use Rattle.pm_expecttext.proofs.ktap.push_items.Given as goal
-
--- behind what is left
-abbrev pub invariant-loop-place : goal.invariant-loop-place
-invariant-loop-place l = l.text.items ++ ktap_lines l.trace (l.place + 1) (drop l.place l.items) ≡ l.fn.text.items ++ ktap_lines l.trace 1 l.items

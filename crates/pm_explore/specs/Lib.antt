@@ -1,0 +1,4 @@
+pub mod search
+pub mod schedule
+pub mod state
+pub mod successors

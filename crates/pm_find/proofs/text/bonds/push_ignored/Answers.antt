@@ -1,0 +1,5 @@
+use Rattle.pm_find.proofs.text.TextLemmas.{more}
+use Rattle.pm_find.proofs.text.bonds.push_ignored.Goals as goal
+
+pub returns : goal.returns
+returns c = more _ _ _ _ _ c.in_ok-push_device.ensures c.in_ok-push.ensures

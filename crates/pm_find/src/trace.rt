@@ -1,0 +1,8 @@
+//! What is told of a trace: what stands out in its run, or its first bad line.
+
+mod telling;
+mod texts;
+mod trace;
+
+pub use telling::{Found, tell, tell_unlawful};
+pub use trace::find;

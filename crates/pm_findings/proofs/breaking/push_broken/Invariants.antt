@@ -1,7 +1,0 @@
-use Rattle.std.proofs.Common.{◌≡◌, ◌++◌, map, take}
-use Rattle.pm_findings.specs.AllFound.{broken_off}
-use Rattle.pm_findings.proofs.breaking.push_broken.Given as goal
-
--- those so far
-abbrev pub invariant-loop-bond : goal.invariant-loop-bond
-invariant-loop-bond l = l.all.items ≡ l.fn.all.items ++ map (broken_off l.number) (take l.bond-index l.broken)

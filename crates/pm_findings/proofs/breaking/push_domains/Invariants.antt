@@ -1,7 +1,0 @@
-use Rattle.std.proofs.Common.{◌≡◌, ◌++◌, map, take}
-use Rattle.pm_findings.specs.AllFound.{domain_at}
-use Rattle.pm_findings.proofs.breaking.push_domains.Given as goal
-
--- those so far
-abbrev pub invariant-loop-domain : goal.invariant-loop-domain
-invariant-loop-domain l = l.all.items ≡ l.fn.all.items ++ map (domain_at l.number) (take l.domain-index l.left)

@@ -1,7 +1,0 @@
-use Rattle.std.proofs.Common.{◌≡◌, replicate}
-use Rattle.pm_findings.specs.Kept.{unknown}
-use Rattle.pm_findings.proofs.watch.fresh_rows.Given as goal
-
--- the rows so far
-abbrev pub invariant-loop : goal.invariant-loop
-invariant-loop l = l.rows.items ≡ replicate l.counter unknown

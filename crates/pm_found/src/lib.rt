@@ -1,9 +1,0 @@
-//! What is told of a trace: what stands out in its run, or its first bad line.
-#![tactic(auto)]
-
-mod telling;
-mod texts;
-mod trace;
-
-pub use telling::{Found, tell, tell_unlawful};
-pub use trace::find;

@@ -1,5 +1,0 @@
-pub mod OrdersLemmas
-pub mod ApartLemmas
-pub mod SeenLemmas
-pub mod ExpectLemmas
-pub mod Exactly

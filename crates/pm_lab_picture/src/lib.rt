@@ -1,7 +1,0 @@
-//! `picture`: a run as a picture, or as events for a viewer of timelines. Files and sinks are handed in.
-#![tactic(auto)]
-
-mod telling;
-mod top;
-
-pub use top::picture_top;

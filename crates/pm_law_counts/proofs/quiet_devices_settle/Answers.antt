@@ -1,5 +1,0 @@
-use Rattle.pm_law_counts.proofs.quiet_devices_settle.Goals as goal
-use Rattle.pm_law_counts.proofs.Runs.{lawful_holds}
-
-pub returns : goal.returns
-returns c = λ plan h d lawful. let all = lawful_holds plan h lawful in all.settled d

@@ -1,9 +1,0 @@
-use Rattle.std.proofs.Common.{arith}
-use Rattle.pm_law_counts.proofs.share_is_counted.Goals as goal
-use Rattle.pm_law_counts.proofs.Said.{share_counted}
-
-pub returns-clause-given_back : goal.returns-clause-given_back
-returns-clause-given_back c = share_counted
-
-pub returns-clause-left : goal.returns-clause-left
-returns-clause-left c = λ plan h d lawful within. omega (arith, share_counted plan h d lawful within)

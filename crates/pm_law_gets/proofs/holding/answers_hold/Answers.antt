@@ -1,5 +1,0 @@
-use Rattle.pm_law_gets.proofs.holding.answers_hold.Goals as goal
-use Rattle.pm_law_gets.proofs.Keeping as proof
-
-pub returns : goal.returns
-returns c = λ plan h a d lawful answered counts. (proof.keeps plan h lawful).answered a d answered counts

@@ -1,4 +1,0 @@
-pub mod Answered
-pub mod Undisturbed
-pub mod Alone
-pub mod Shown

@@ -1,5 +1,0 @@
-use Rattle.pm_law_safe.proofs.bonds.supplier_stays.Goals as goal
-use Rattle.pm_law_safe.proofs.Suppliers as proof
-
-pub returns : goal.returns
-returns c = λ plan h l row lawful is. proof.supplier_stays plan h l row lawful is

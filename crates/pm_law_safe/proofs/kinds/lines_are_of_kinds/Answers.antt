@@ -1,5 +1,0 @@
-use Rattle.pm_law_safe.proofs.kinds.lines_are_of_kinds.Goals as goal
-use Rattle.pm_law_safe.proofs.Lines as proof
-
-pub returns : goal.returns
-returns c = λ plan h line lawful. proof.line_kind plan h line lawful

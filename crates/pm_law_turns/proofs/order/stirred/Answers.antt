@@ -1,6 +1,0 @@
-use Rattle.std.proofs.Common.{false}
-use Rattle.pm_law_turns.proofs.order.stirred.Goals as goal
-use Rattle.pm_law_turns.proofs.Touching.{only_reached}
-
-pub returns : goal.returns
-returns c = λ plan h line lawful a is other p q. only_reached plan h line lawful a false is other p q

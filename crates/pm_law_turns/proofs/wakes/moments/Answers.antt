@@ -1,8 +1,0 @@
-use Rattle.pm_law_turns.proofs.wakes.moments.Goals as goal
-use Rattle.pm_law_turns.proofs.Waking.{actor_timed}
-
-pub returns-clause-may : goal.returns-clause-may
-returns-clause-may c = λ plan w t a. (actor_timed plan w t a).0
-
-pub returns-clause-late : goal.returns-clause-late
-returns-clause-late c = λ plan w t a. (actor_timed plan w t a).1

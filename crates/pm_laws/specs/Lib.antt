@@ -1,0 +1,7 @@
+pub mod counts
+pub mod stacks
+pub mod bounds
+pub mod safe
+pub mod turns
+pub mod gets
+pub mod islands

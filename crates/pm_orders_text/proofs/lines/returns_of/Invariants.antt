@@ -1,7 +1,0 @@
-use Rattle.std.proofs.Common.{◌≡◌, filter, take}
-use Rattle.pm_orders_text.specs.Texts.{is_return}
-use Rattle.pm_orders_text.proofs.lines.returns_of.Given as goal
-
--- those of the outcomes so far
-abbrev pub invariant-loop-outcome : goal.invariant-loop-outcome
-invariant-loop-outcome l = l.out.items ≡ filter (λ o. is_return l.caller l.command o.mark) (take l.outcome-index l.outcomes)

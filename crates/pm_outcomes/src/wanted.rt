@@ -1,0 +1,9 @@
+//! What a run is asked to show: a mark, as words name it; and what of it a plan doesn't have (this project's own).
+
+mod listed;
+mod missing;
+mod sought;
+
+pub use listed::place_of;
+pub use missing::missing_text;
+pub use sought::{Missing, mark_sought};

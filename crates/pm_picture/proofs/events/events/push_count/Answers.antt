@@ -1,0 +1,7 @@
+use Rattle.pm_picture.specs.events.Events.{count_text}
+use Rattle.pm_picture.proofs.events.TimelineLemmas.{behind, last}
+use Rattle.pm_picture.proofs.events.events.push_count.Goals as goal
+
+pub returns : goal.returns
+unfolding count_text
+returns c = last c.push.result c.args.text.now.items c.push_field-3.new.text.items c.push.new.text.items _ _ (behind c.args.text.now.items c.push_named.new.text.items c.push_field-3.new.text.items _ _ (behind c.args.text.now.items c.push_field-2.new.text.items c.push_named.new.text.items _ _ (behind c.args.text.now.items c.push_field.new.text.items c.push_field-2.new.text.items _ _ c.in_ok-push_field.ensures c.in_ok-push_field-2.ensures) c.in_ok-push_named.ensures) c.in_ok-push_field-3.ensures) c.push.ensures

@@ -1,0 +1,7 @@
+use Rattle.std.proofs.Common.{◌≡◌, drop}
+use Rattle.pm_planread.specs.rows.Orders.{domain_later}
+use Rattle.pm_planread.specs.tree.Places.{first_fault}
+use Rattle.pm_planread.proofs.rows.orders.later_in_domains.Given as goal
+
+abbrev pub invariant-loop-i : goal.invariant-loop-i
+invariant-loop-i l = first_fault domain_later l.i (drop l.i l.rows) ≡ first_fault domain_later 0 l.rows

@@ -1,0 +1,7 @@
+use Rattle.std.proofs.Common.{◌≡◌, ◌++◌, drop, map}
+use Rattle.pm_planread.specs.rows.Names.{names_in}
+use Rattle.pm_planread.specs.rows.Rows.{device_row}
+use Rattle.pm_planread.proofs.rows.rows.devices_in.Given as goal
+
+abbrev pub invariant-loop-row : goal.invariant-loop-row
+invariant-loop-row l = l.made.items ++ map (device_row (names_in l.domains) (names_in l.devices)) (drop l.row-index l.rows) ≡ map (device_row (names_in l.domains) (names_in l.devices)) l.rows

@@ -1,6 +1,0 @@
-use Rattle.std.proofs.Common.{◌≡◌, drop}
-use Rattle.pm_planrows.specs.Apart.{is_rising}
-use Rattle.pm_planrows.proofs.apart.is_rising.Given as goal
-
-abbrev pub invariant-loop-number : goal.invariant-loop-number
-invariant-loop-number l = is_rising l.last (drop l.number-index l.numbers) ≡ is_rising 0 l.numbers

@@ -1,6 +1,0 @@
-use Rattle.std.proofs.Common.{◌≡◌, ◌++◌, drop}
-use Rattle.pm_planrows.specs.Rows.{codes_of}
-use Rattle.pm_planrows.proofs.codes.codes_in.Given as goal
-
-abbrev pub invariant-loop-code : goal.invariant-loop-code
-invariant-loop-code l = l.made.items ++ codes_of (drop l.code-index l.codes) ≡ codes_of l.codes

@@ -1,7 +1,0 @@
-use Rattle.std.proofs.Common.{◌≡◌, drop}
-use Rattle.pm_planrows.specs.TooMany.{device_too_many}
-use Rattle.pm_plantree.specs.Places.{first_fault}
-use Rattle.pm_planrows.proofs.many.many_in_devices.Given as goal
-
-abbrev pub invariant-loop-i : goal.invariant-loop-i
-invariant-loop-i l = first_fault device_too_many l.i (drop l.i l.rows) ≡ first_fault device_too_many 0 l.rows

@@ -1,7 +1,0 @@
-use Rattle.std.proofs.Common.{◌≡◌, drop}
-use Rattle.pm_planrows.specs.Orders.{idle_consumer}
-use Rattle.pm_plantree.specs.Places.{first_fault}
-use Rattle.pm_planrows.proofs.orders.idle_consumers.Given as goal
-
-abbrev pub invariant-loop-i : goal.invariant-loop-i
-invariant-loop-i l = first_fault (idle_consumer l.devices) l.i (drop l.i l.rows) ≡ first_fault (idle_consumer l.devices) 0 l.rows

@@ -1,7 +1,0 @@
-use Rattle.std.proofs.Common.{◌≡◌, drop}
-use Rattle.pm_planrows.specs.Orders.{domain_later}
-use Rattle.pm_plantree.specs.Places.{first_fault}
-use Rattle.pm_planrows.proofs.orders.later_in_domains.Given as goal
-
-abbrev pub invariant-loop-i : goal.invariant-loop-i
-invariant-loop-i l = first_fault domain_later l.i (drop l.i l.rows) ≡ first_fault domain_later 0 l.rows

@@ -1,7 +1,0 @@
-use Rattle.std.proofs.Common.{◌≡◌, ◌++◌, drop, map}
-use Rattle.pm_planrows.specs.Names.{names_in}
-use Rattle.pm_planrows.specs.Rows.{device_row}
-use Rattle.pm_planrows.proofs.rows.devices_in.Given as goal
-
-abbrev pub invariant-loop-row : goal.invariant-loop-row
-invariant-loop-row l = l.made.items ++ map (device_row (names_in l.domains) (names_in l.devices)) (drop l.row-index l.rows) ≡ map (device_row (names_in l.domains) (names_in l.devices)) l.rows

@@ -1,9 +1,0 @@
--- The fault of a plan's item (this project's own).
-use Rattle.std.specs.Prelude.{ℕ, Bool, Option, Some, None, if◌then◌else◌}
-use Rattle.pm_plantree.specs.Places.{place}
-use Rattle.pm_plantree.specs.declared.place.Place.{Place}
-use Rattle.pm_plantree.specs.declared.place.Section.{Section}
-
--- the item, where something is wrong with it
-abbrev pub fault_if : Section → ℕ → Bool → Option Place
-fault_if section i wrong = if wrong then Some (place section i 0) else None

@@ -1,9 +1,0 @@
--- Entries that are wrong by their key or by their value (this project's own).
-use Rattle.std.specs.Prelude.{ℕ, Bool, ◌||◌, List}
-use Rattle.toml.specs.Data.{Data}
-use Rattle.pm_plantree.specs.KeyFault.{is_unknown_key}
-use Rattle.pm_plantree.specs.KindFault.{is_misfit}
-use Rattle.pm_plantree.specs.declared.place.Section.{Section}
-
-abbrev pub is_wrong_entry : Section → List ℕ × Data → Bool
-is_wrong_entry section entry = is_unknown_key section entry.0 || is_misfit section entry

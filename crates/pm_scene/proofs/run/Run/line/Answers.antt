@@ -1,5 +1,0 @@
-use Rattle.pm_lanes.proofs.WalkLemmas.{line_at, no_line}
-use Rattle.pm_scene.proofs.run.Run.line.Goals as goal
-
-pub returns-then-place-self : goal.returns-then-place-self
-returns-then-place-self c = line_at c.args.self.now.plan.now c.args.self.now.lines.now c.in_ok-place.field-0 no_line c.if-place-self.true c.args.self.now.of_plan

@@ -1,9 +1,0 @@
-use Rattle.std.proofs.Common.{map}
-use Rattle.pm_search.proofs.Reaching.{Round}
-use Rattle.pm_search.proofs.found.find.Given as goal
-
-abbrev pub invariant-loop-k : goal.invariant-loop-k
-invariant-loop-k g l = record {
-  ready : g.G.Graph.IsReady l.graph l.scratch;
-  round : Round (g.G.Graph.Follows l.graph) (g.G.Graph.start l.graph) l.k (map (g.G.Graph.point l.graph) l.tree.nodes.keys) l.tree.parents.items l.spent l.rounds.items;
-}

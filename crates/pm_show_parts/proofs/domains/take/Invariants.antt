@@ -1,6 +1,0 @@
-use Rattle.pm_domain.specs.Domains.{IsMadeFor}
-use Rattle.pm_show_parts.proofs.domains.take.Given as goal
-
--- they are domains of this plan
-abbrev pub invariant-loop-step : goal.invariant-loop-step
-invariant-loop-step l = IsMadeFor l.plan l.domains

@@ -1,6 +1,0 @@
-use Rattle.std.proofs.Common.{◌≡◌, length}
-use Rattle.pm_show_parts.proofs.requests.shows.Given as goal
-
--- the devices stay
-abbrev pub invariant-loop-dev : goal.invariant-loop-dev
-invariant-loop-dev l = length l.requests ≡ 3

@@ -1,6 +1,0 @@
--- By the length of a line.
-use Rattle.pm_show_promises.proofs.Empty.{empty_is_bad}
-use Rattle.pm_show_promises.proofs.pieces.empty_line.Goals as goal
-
-pub returns : goal.returns
-returns c = empty_is_bad

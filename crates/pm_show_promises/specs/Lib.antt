@@ -1,5 +1,0 @@
-pub mod Shown
-pub mod Broken
-pub mod Pieces
-pub mod BadTexts
-pub mod ThreeIslands

@@ -1,0 +1,10 @@
+pub mod Followed
+pub mod Stuck
+pub mod Texts
+pub mod Rows
+pub mod Apart
+pub mod Replay
+pub mod Merging
+pub mod Empty
+pub mod BadLines
+pub mod Deciding

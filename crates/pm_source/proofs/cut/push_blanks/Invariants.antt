@@ -1,6 +1,0 @@
-use Rattle.std.proofs.Common.{◌≡◌, ◌++◌, take}
-use Rattle.pm_source.specs.Excerpts.{blanks}
-use Rattle.pm_source.proofs.cut.push_blanks.Given as goal
-
-abbrev pub invariant-loop-byte : goal.invariant-loop-byte
-invariant-loop-byte l = l.out.items ≡ l.initial.out.items ++ blanks (take l.byte-index l.bytes)

@@ -1,6 +1,0 @@
-use Rattle.std.proofs.Common.{◌≡◌, ◌++◌, take}
-use Rattle.pm_source.specs.Visible.{visible}
-use Rattle.pm_source.proofs.visible.push_visible.Given as goal
-
-abbrev pub invariant-loop-byte : goal.invariant-loop-byte
-invariant-loop-byte l = l.out.items ≡ l.initial.out.items ++ visible (take l.byte-index l.bytes)

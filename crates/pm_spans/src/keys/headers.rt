@@ -1,0 +1,88 @@
+//! Headers of tables.
+
+ghost use Rattle.std.specs.Prelude.{◌<◌, ◌≤◌, IfOk, IfSome, length};
+
+use crate::keys::cuts::Cut;
+use crate::keys::pairs::{KeyRead, key_at};
+use pm_base::NoMemory;
+use std::alloc::Global;
+use toml_parser::Key;
+use toml_parser::text::{byte_at, first, skip, skip_ws};
+
+/// A header, `[key]` or `[[key]]`, and what follows it.
+#[derive(Drop)]
+pub struct Header<'a> {
+    pub key: Key,
+    /// The key.
+    pub cut: Cut,
+    /// The header with its brackets.
+    pub whole: Cut,
+    /// Whether it begins an element of an array of tables.
+    pub is_array: bool,
+    pub rest: &'a str,
+}
+
+/// The header at the front; `None` where there is none. Fails where memory runs out.
+pub fn header_at<'a>(alloc: Global, s: &'a str) -> Result<Option<Header<'a>>, NoMemory>
+    ensures { IfOk result (λ read. IfSome read (λ h. (h.cut.from ≤ length s.now) × (h.whole.from ≤ length s.now) × (length h.rest.now < length s.now))) }
+{
+    let Some(body) = bracket_behind(s) else {
+        return Ok(None);
+    };
+    let is_array = first(body) == b'[';
+    let body = match bracket_behind(body) {
+        Some(body) => body,
+        None => body,
+    };
+    let Some(KeyRead { key, cut, rest }) = key_at(alloc, skip_ws(body))? else {
+        return Ok(None);
+    };
+    let Some(rest) = closed(rest, is_array) else {
+        return Ok(None);
+    };
+    Ok(Some(Header {
+        key,
+        cut,
+        whole: Cut {
+            from: s.len(),
+            to: rest.len(),
+        },
+        is_array,
+        rest,
+    }))
+}
+
+/// What follows an opening bracket.
+fn bracket_behind(s: &str) -> Option<&str>
+    ensures { IfSome result (λ rest. length rest.now < length s.now) }
+{
+    if first(s) == b'[' {
+        Some(skip(s, 1))
+    } else {
+        None
+    }
+}
+
+/// What follows the closing brackets.
+fn closed(s: &str, is_array: bool) -> Option<&str>
+    ensures { IfSome result (λ rest. length rest.now < length s.now) }
+{
+    if first(s) != b']' {
+        None
+    } else if !is_array {
+        Some(skip(s, 1))
+    } else if byte_at(s, 1) == b']' {
+        Some(skip(s, 2))
+    } else {
+        None
+    }
+}
+
+/// The second part of a key.
+pub fn second_part(key: &Key) -> Option<&str> {
+    match key.path.get(1) {
+        Some(part) => Some(part.as_str()),
+        None if key.path.len() == 1 => Some(key.last.as_str()),
+        None => None,
+    }
+}

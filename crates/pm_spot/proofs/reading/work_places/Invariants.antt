@@ -1,5 +1,0 @@
-use Rattle.std.proofs.Common.{◌≡◌, map, take}
-use Rattle.pm_spot.proofs.reading.work_places.Given as goal
-
-abbrev pub invariant-loop-dev : goal.invariant-loop-dev
-invariant-loop-dev l = map (λ v. v.items) l.out.items ≡ take l.dev l.state.world.work_places

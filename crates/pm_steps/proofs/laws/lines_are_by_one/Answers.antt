@@ -1,5 +1,0 @@
-use Rattle.pm_steps.proofs.Successors.{one_line}
-use Rattle.pm_steps.proofs.laws.lines_are_by_one.Goals as goal
-
-pub returns : goal.returns
-returns c = λ plan s a b p q actors times. one_line plan s a b p q actors times

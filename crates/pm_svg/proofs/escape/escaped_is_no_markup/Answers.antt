@@ -1,5 +1,0 @@
-use Rattle.pm_svg.proofs.EscapeLemmas.{is_no_markup_all}
-use Rattle.pm_svg.proofs.escape.escaped_is_no_markup.Goals as goal
-
-pub returns : goal.returns
-returns c = is_no_markup_all

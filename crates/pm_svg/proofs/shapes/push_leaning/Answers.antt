@@ -1,8 +1,0 @@
-use Rattle.pm_svg.specs.Shapes.{leaning}
-use Rattle.pm_svg.proofs.DrawLemmas.{three}
-use Rattle.pm_svg.proofs.shapes.push_leaning.Goals as goal
-
-pub returns : goal.returns
-unfolding leaning
-returns c =
-    three c.push.result c.args.text.now.items c.push_attribute.new.text.items c.push_attribute-2.new.text.items c.push.new.text.items _ _ _ c.in_ok-push_attribute.ensures c.in_ok-push_attribute-2.ensures c.push.ensures

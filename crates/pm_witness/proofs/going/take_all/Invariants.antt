@@ -1,9 +1,0 @@
-use Rattle.std.proofs.Common.{◌≡◌, reverse, take}
-use Rattle.pm_witness.proofs.going.take_all.Given as goal
-
--- so many lines are taken
-abbrev pub invariant-loop-line : goal.invariant-loop-line
-invariant-loop-line l = record {
-  plan : l.book.plan ≡ l.initial.book.plan;
-  lines : l.book.lines ≡ reverse (take l.line-index l.lines);
-}
