@@ -10,3 +10,5 @@ pub mod GrowLemmas
 pub mod TakeLemmas
 pub mod TakerLemmas
 pub mod TurnLemmas
+pub mod ReplayLemmas
+pub mod InOrder

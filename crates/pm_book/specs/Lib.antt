@@ -3,6 +3,7 @@ pub mod Offering
 pub mod Sometime
 pub mod Growing
 pub mod Pages
+pub mod Replayed
 pub mod Sheets
 pub mod Takes
 pub mod Takings

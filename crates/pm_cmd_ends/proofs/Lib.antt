@@ -1,4 +1,3 @@
-pub mod NumberLemmas
 pub mod RequestLemmas
 pub mod SplitLemmas
 pub mod EndLemmas

@@ -1,16 +1,10 @@
 -- The numbers on the command line (this project's own): 1 to 20 decimal digits, in a range.
-use Rattle.std.specs.Prelude.{ℕ, ◌^◌, Bool, ◌&&◌, List, Option, Some, None, length, nat_le, nat_lt, if◌then◌else◌}
-use Rattle.std.specs.Char.{is_ascii_digit}
-use Rattle.std.specs.List.{list_all}
-use Rattle.std.specs.Str.Parse.{digits_value}
+use Rattle.std.specs.Prelude.{ℕ, ◌^◌, ◌&&◌, List, Option, Some, None, nat_le, nat_lt, option_and_then, if◌then◌else◌}
+use Rattle.pm_linetext.specs.Digits.{natural_in}
 
--- 1 to 20 decimal digits; zeros may stand in front
-abbrev pub are_digits : List ℕ → Bool
-are_digits word = nat_le 1 (length word) && nat_le (length word) 20 && list_all is_ascii_digit word
-
--- the number that a word writes, where it is below 2^64
+-- the number that a word of 1 to 20 digits writes, where it is below 2^64; zeros may stand in front
 unfoldable pub number_in : List ℕ → Option ℕ
-number_in word = if are_digits word && nat_lt (digits_value 10 word) (2 ^ 64) then Some (digits_value 10 word) else None
+number_in word = option_and_then (λ n. if nat_lt n (2 ^ 64) then Some n else None) (natural_in 20 word)
 
 -- the same, where it is 1 to a greatest number
 abbrev pub within : ℕ → Option ℕ → Option ℕ

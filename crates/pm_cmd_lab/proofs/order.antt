@@ -1,4 +1,4 @@
-pub mod MarkLemmas
+pub mod ObservationLemmas
 pub mod ShownLemmas
 pub mod WorkLemmas
 pub mod FailLemmas

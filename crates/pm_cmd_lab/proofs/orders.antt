@@ -1,4 +1,4 @@
-pub mod OrdersLemmas
+pub mod SchedulesLemmas
 pub mod ApartLemmas
 pub mod SeenLemmas
 pub mod ExpectLemmas

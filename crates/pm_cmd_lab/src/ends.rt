@@ -6,4 +6,4 @@ mod ending;
 mod loading;
 
 pub use ending::{FOUND, Fault, Outcome, USAGE, finish, refuse_words, write_text};
-pub use loading::{load, plan_bytes};
+pub use loading::{Loaded, load, load_text, plan_bytes};

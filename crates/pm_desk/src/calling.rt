@@ -11,7 +11,9 @@ use crate::roll::Roll;
 use pm_base::{ActorId, NoMemory};
 use pm_book::Book;
 use pm_gate::{Clock, Gate};
-use pm_hands::{Turn, Wrote, counted, nap, run_callback, step_now, take_turn, try_step};
+use pm_hands::{
+    Hand, Island, Turn, Wrote, counted, nap, run_callback, step_now, take_turn, try_step,
+};
 use pm_model::{Command, Line, Plan};
 use std::alloc::Global;
 use std::sync::Wait;
@@ -20,7 +22,6 @@ use std::sync::Wait;
 const NAPS: u32 = 500;
 
 /// What a call found in one hold of the lock.
-#[derive(Clone, Copy, PartialEq, Eq)]
 enum Found {
     /// Its command has returned this code.
     Returned(i32),
@@ -33,7 +34,6 @@ enum Found {
 }
 
 /// What a call found, and how many lines it has looked at.
-#[derive(Clone, Copy, PartialEq, Eq)]
 struct Look {
     found: Found,
     seen: usize,
@@ -133,7 +133,7 @@ fn note(book: &Book, roll: Option<&Roll>) {
     }
 }
 
-// What a call does in one hold of the lock: it looks whether its command has returned with one of the lines
+// What a call does with a book: it looks whether its command has returned with one of the lines
 // behind the first so many, and else lets an actor go on.
 fn go_on(
     book: &mut Book,
@@ -149,16 +149,17 @@ fn go_on(
         return Ok(Look { found, seen: count });
     }
     let found = step(book, caller, now, roll)?;
-    if let Found::Wrote(_) = found {
+    if let Found::Wrote(_) = &found {
         note(book, roll);
     }
     Ok(Look { found, seen: count })
 }
 
 // Puts a command at the end of a caller's script, under the lock, and says how many lines there are.
-fn begin_call<R: Wait>(
+fn begin_call<R: Wait, G: Gate>(
     rt: &R,
     desk: &Desk,
+    hand: &mut Hand<'_, G>,
     caller: u32,
     command: Command,
     roll: Option<&Roll>,
@@ -166,12 +167,26 @@ fn begin_call<R: Wait>(
     requires in_range { caller < length desk.now.plan.callers }
     requires of_plan { is_command (length desk.now.plan.devices) command ≡ true }
 {
-    let mut book = desk.book.lock(rt);
+    let island = desk.book.island();
+    let mut book = island.lock(rt, hand);
     let seen = extend(desk.alloc, &mut book, &desk.plan, caller, command)?;
     if let Some(roll) = roll {
         roll.called();
     }
     Ok(seen)
+}
+
+// What a call does in one hold of the lock.
+fn locked_look<R: Wait, G: Gate>(
+    rt: &R,
+    island: &Island<'_>,
+    hand: &mut Hand<'_, G>,
+    caller: u32,
+    seen: usize,
+    now: u64,
+    roll: Option<&Roll>,
+) -> Result<Look, NoMemory> {
+    go_on(&mut island.lock(rt, hand), caller, seen, now, roll)
 }
 
 // Naps where no line may be written now, and says how often it did, one behind the other, while callers were
@@ -194,27 +209,29 @@ fn wait<C: Clock>(clock: &C, now: u64, naps: u32, roll: Option<&Roll>) -> u32 {
 fn run_command<R: Wait, C: Clock, G: Gate>(
     rt: &R,
     desk: &Desk,
+    hand: &mut Hand<'_, G>,
     caller: u32,
     command: Command,
     roll: Option<&Roll>,
     clock: &C,
-    gate: &G,
 ) -> Result<i32, Stop>
     requires in_range { caller < length desk.now.plan.callers }
     requires of_plan { is_command (length desk.now.plan.devices) command ≡ true }
 {
-    let mut seen = begin_call(rt, desk, caller, command, roll)?;
+    let mut seen = begin_call(rt, desk, hand, caller, command, roll)?;
+    let island = desk.book.island();
     let mut naps = 0;
     for _ in rt.forever() {
         let now = counted(clock.now());
-        let look = go_on(&mut desk.book.lock(rt), caller, seen, now, roll)?;
-        seen = look.seen;
-        match look.found {
+        let look = locked_look(rt, &island, hand, caller, seen, now, roll)?;
+        let Look { found, seen: count } = look;
+        seen = count;
+        match found {
             Found::Returned(code) => return Ok(code),
             Found::Wrote(Wrote::Line) => naps = 0,
             Found::Wrote(Wrote::Began(callback)) => {
                 naps = 0;
-                run_callback(rt, &desk.book, callback, now, clock, gate);
+                run_callback(rt, &island, hand, callback, now, clock);
             }
             Found::Waits => naps = wait(clock, now, naps, roll),
             Found::Over => break,
@@ -229,10 +246,10 @@ impl Pass {
         &mut self,
         rt: &R,
         desk: &Desk,
+        hand: &mut Hand<'_, G>,
         command: Command,
         roll: Option<&Roll>,
         clock: &C,
-        gate: &G,
     ) -> Result<i32, Stop>
         requires in_range { self.old.caller < length desk.now.plan.callers }
         requires of_plan { is_command (length desk.now.plan.devices) command ≡ true }
@@ -240,7 +257,7 @@ impl Pass {
         ensures err { OnErr result (self.new ≡ self.old) }
     {
         self.receipts.reserve(1)?;
-        let code = run_command(rt, desk, self.caller, command, roll, clock, gate)?;
+        let code = run_command(rt, desk, hand, self.caller, command, roll, clock)?;
         self.receipts.push_reserved(Receipt { command, code });
         Ok(code)
     }
@@ -264,7 +281,7 @@ impl Pass {
         if let Some(why) = self.stopped {
             return Err(why);
         }
-        let called = self.try_call(rt, desk, command, roll, clock, gate);
+        let called = self.try_call(rt, desk, &mut Hand::of(gate), command, roll, clock);
         if let Err(why) = called {
             self.stopped = Some(why);
         }

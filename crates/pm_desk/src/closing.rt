@@ -298,7 +298,7 @@ impl Desk {
             alloc,
             ..
         } = self;
-        let closed = drained(alloc, &plan, book.into_inner())?;
+        let closed = drained(alloc, &plan, book.into_book())?;
         compared(alloc, &plan, closed, &passes)
     }
 }

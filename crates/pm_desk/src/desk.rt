@@ -7,11 +7,11 @@ ghost use Rattle.pm_desk.specs.Slips.{fresh};
 use crate::pass::Pass;
 use pm_base::NoMemory;
 use pm_book::Book;
+use pm_hands::Kept;
 use pm_islands::blank;
 use pm_model::Plan;
 use std::alloc::Global;
 use std::marker::Model;
-use std::sync::Mutex;
 
 /// A plan's book behind a lock, whose scripts begin empty: each call puts a command at the end of its
 /// caller's. Contracts see the plan, with every script empty, and which passes were given; what stands behind
@@ -19,7 +19,7 @@ use std::sync::Mutex;
 #[derive(Drop)]
 pub struct Desk {
     pub(crate) plan: Plan,
-    pub(crate) book: Mutex<Book>,
+    pub(crate) book: Kept,
     // For each caller whether its pass was given.
     pub(crate) given: Vec<bool>,
     pub(crate) alloc: Global,
@@ -54,7 +54,7 @@ fn desk_of(alloc: Global, plan: &Plan) -> Result<Desk, NoMemory>
     ensures given { IfOk result (λ desk. desk.given ≡ replicate (length plan.now.callers) false) }
 {
     let given = vec![in alloc; false; plan.callers.len()]?;
-    let book = Mutex::new(fresh_book(alloc, plan)?);
+    let book = Kept::new(fresh_book(alloc, plan)?);
     Ok(Desk {
         plan: blank(alloc, plan)?,
         book,

@@ -33,7 +33,7 @@ pub struct ScriptNames<'a> {
 }
 
 /// The place of a name.
-pub(crate) fn place_in(names: &[ScriptWord], name: &[u8]) -> Option<usize>
+pub fn place_in(names: &[ScriptWord], name: &[u8]) -> Option<usize>
     ensures { result ≡ place_named name.now names.now }
 {
     for (place, other) in names.iter().enumerate() {

@@ -1,4 +1,4 @@
-//! Where the orders of a plan break what its author expects (this project's own).
+//! Where the schedules of a plan break what its author expects (this project's own).
 
 mod answering;
 mod ending;

@@ -1,4 +1,4 @@
-//! What is told of expectations: of a file that is refused, of a trace, and over all orders of a plan (this project's own).
+//! What is told of expectations: of a file that is refused, of a trace, and over all schedules of a plan (this project's own).
 #![tactic(auto)]
 
 pub mod broken;

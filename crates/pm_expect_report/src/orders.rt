@@ -1,4 +1,4 @@
-//! What the orders of a plan make of the expectations of a file, and its text (this project's own).
+//! What the schedules of a plan make of the expectations of a file, and its text (this project's own).
 
 mod judging;
 mod pieces;

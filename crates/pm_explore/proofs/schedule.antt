@@ -1,4 +1,4 @@
-mod Ways
+mod Paths
 mod Rounds
 mod Serially
-mod MarkLemmas
+mod ObservationLemmas

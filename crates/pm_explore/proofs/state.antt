@@ -11,4 +11,4 @@ mod ControlStageAlike
 mod AwaitAlike
 mod StageAlike
 mod ViewsAlike
-pub mod SpotAlike
+pub mod SnapshotAlike

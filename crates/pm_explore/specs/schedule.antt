@@ -1,3 +1,3 @@
-pub mod Spots
-pub mod Orders
-pub mod Marks
+pub mod Snapshots
+pub mod Schedules
+pub mod Observations

@@ -1,5 +1,5 @@
-//! The orders in which a plan's lines may come: as definitions, and as a search from state to state that is exact at each
-//! number of disturbances (this project's own).
+//! The schedules in which a plan's lines may come: as definitions, and as a search from state to state that is exact at each
+//! number of preemptions (this project's own).
 #![tactic(auto)]
 
 pub mod schedule;

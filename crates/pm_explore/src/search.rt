@@ -9,4 +9,4 @@ mod tree;
 
 pub use found::{Ended, Found, search};
 pub use graph::{Graph, Stop};
-pub use tree::{Tree, steps_to, way_back};
+pub use tree::{Tree, path_back, steps_to};

@@ -1,7 +1,7 @@
-//! Where an order of a plan's lines stands, as a search keeps it (this project's own).
+//! Where a schedule of a plan's lines stands, as a search keeps it (this project's own).
 
 mod fill;
 mod reading;
-mod spot;
+mod snapshot;
 
-pub use spot::{Spot, is_same_spot};
+pub use snapshot::{Snapshot, is_same_snapshot};

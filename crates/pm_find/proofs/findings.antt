@@ -6,3 +6,5 @@ pub mod FoundLemmas
 pub mod ShareLemmas
 pub mod OnLemmas
 pub mod PlacedLemmas
+pub mod DropLemmas
+pub mod FirstLemmas

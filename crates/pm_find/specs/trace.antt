@@ -1,2 +1,3 @@
+pub mod PlanPlaces
 pub mod Telling
 pub mod Texts

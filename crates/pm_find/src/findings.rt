@@ -1,16 +1,16 @@
 //! What stands out in a run.
 
-ghost use Rattle.std.specs.Prelude.{◌≡◌, ◌+◌, ◌<◌, ◌^◌, IfOk, [], if◌then◌else◌, length, reverse, true};
+ghost use Rattle.std.specs.Prelude.{◌≡◌, ◌<◌, ◌^◌, IfOk, length, reverse, true};
 ghost use Rattle.std.specs.List.{list_all};
 ghost use Rattle.pm_find.specs.findings.AllFound.{all_found};
-ghost use Rattle.pm_find.specs.findings.StandsOut.{weight_of};
-ghost use Rattle.pm_find.specs.findings.WatchTable.{IsTable};
+ghost use Rattle.pm_find.specs.findings.StandsOut.{is_follower, note_if, weight_of};
 ghost use Rattle.pm_model.specs.Lawful.{IsLawful};
 ghost use Rattle.pm_model.specs.LineOf.{is_line_of};
 
 mod breaking;
 mod choosing;
 mod codes;
+mod ending;
 mod kinds;
 mod laws;
 mod telling;
@@ -19,14 +19,16 @@ mod watched;
 
 use breaking::tell_domains;
 pub use choosing::{faults, has_faults};
+pub use ending::Holder;
+use ending::no_drops;
 pub use laws::{never_on_is_said, open_counts_are_share, puts_find_counts};
 use pm_base::{ActorId, Cb, DevId, NoMemory};
+use pm_laws::counts::sizes;
 use pm_model::{Helper, Line, Plan};
 use pm_safety::dependencies::Bonds;
 pub use pm_safety::dependencies::{Bond, DomainOn, Excuse};
 use std::alloc::Global;
 use telling::{after, at_end, at_lines};
-use watch::Watch;
 pub use watched::Count;
 
 /// How much a finding weighs (this project's own).
@@ -56,13 +58,16 @@ pub enum Kind {
         owner: ActorId,
         line: u32,
     },
-    /// A call that answers another error, and whether a count is open that the call took.
+    /// A call that answers another error, whether a count is open that the call took, and whether that is its driver's own
+    /// affair: nobody reads what a put answers; or a callback failed, and the count that the call keeps, if it keeps one,
+    /// is given back before its caller takes another.
     Answer {
         actor: ActorId,
         helper: Helper,
         dev: DevId,
         code: i32,
         keeps: bool,
+        settled: bool,
     },
     /// A call that is to be tried again.
     Refused {
@@ -71,31 +76,43 @@ pub enum Kind {
         dev: DevId,
         code: i32,
     },
+    /// A `set_active` or `set_suspended` that is to be tried again: the kernel prints an error there.
+    RefusedStatus {
+        actor: ActorId,
+        helper: Helper,
+        dev: DevId,
+        code: i32,
+    },
+    /// A put that has no count to give back, and whether it only follows a `get_if_active` or `get_if_in_use` that took
+    /// none and whose error nobody read.
+    RefusedPut {
+        actor: ActorId,
+        helper: Helper,
+        dev: DevId,
+        code: i32,
+        follows: bool,
+    },
     /// A get that took no count, since the device isn't on.
     NoCount {
         actor: ActorId,
         helper: Helper,
         dev: DevId,
     },
-    /// A device that is Active at the end, and the earliest count on it that a caller hasn't given back.
+    /// A device that is Active at the end with no count of a caller, and that is enabled, or whose disabling dropped a
+    /// suspend that was still to come; and what holds it.
     LeftOn {
         dev: DevId,
-        holder: Option<Count>,
+        by: Holder,
     },
-    /// A device that is Active when it has been disabled, and that count.
-    DisabledOn {
-        dev: DevId,
-        holder: Option<Count>,
-    },
-    /// A put of a count during which the device was never Active and its caller was told no error of the device, and
-    /// the line of its get.
+    /// A put of a count whose get asked for a resume, during which the device was never Active and its caller was told
+    /// no error of the device, and the line of the get.
     NeverOn {
         actor: ActorId,
         dev: DevId,
         line: u32,
     },
-    /// A put that lets a device suspend once its autosuspend delay has passed, though the delay counts from an earlier
-    /// moment: for so many milliseconds before the put the device wasn't marked as busy; and the delay.
+    /// A put that lets a device, which was used, suspend once its autosuspend delay has passed, though the delay counts
+    /// from an earlier moment: for so many milliseconds before the put the device wasn't marked as busy; and the delay.
     Unmarked {
         actor: ActorId,
         helper: Helper,
@@ -131,46 +148,49 @@ pub struct Finding {
     pub kind: Kind,
 }
 
+// A note, where it follows from something else that is told or that is right.
+fn note_if(follows: bool, heavier: Weight) -> Weight
+    ensures { result ≡ note_if follows heavier }
+{
+    if follows { Weight::Note } else { heavier }
+}
+
+// Whether a device that is held so follows the one that holds it.
+fn is_follower(by: Holder) -> bool
+    ensures { result ≡ is_follower by }
+{
+    matches!(by, Holder::Child(_) | Holder::Consumer(_))
+}
+
 impl Kind {
-    /// How much it weighs: a finding of the caller's own fault, or a domain that is off, is an error, what may be meant
-    /// a warning.
+    /// How much it weighs: a finding of the caller's own fault is an error, what may be meant a warning, and a note what only
+    /// follows from something else that is told, or comes in a run of a driver that is right.
     pub fn weight(&self) -> Weight
         ensures { result ≡ weight_of self.now }
     {
-        match self {
-            Kind::Leak { .. }
-            | Kind::Stolen { .. }
-            | Kind::Answer { .. }
-            | Kind::Poisoned { .. }
-            | Kind::Off(Bond::Domain { .. }) => Weight::Error,
-            Kind::LeftOn { .. }
-            | Kind::DisabledOn { .. }
+        match *self {
+            Kind::Leak { .. } => Weight::Error,
+            Kind::Answer { settled, .. } => note_if(settled, Weight::Error),
+            Kind::RefusedPut { follows, .. } => note_if(follows, Weight::Error),
+            Kind::LeftOn { by, .. } => note_if(is_follower(by), Weight::Warning),
+            Kind::Stolen { .. }
+            | Kind::RefusedStatus { .. }
             | Kind::NeverOn { .. }
             | Kind::Unmarked { .. }
             | Kind::DomainOn(_)
-            | Kind::Off(Bond::Parent { .. } | Bond::Supplier { .. }) => Weight::Warning,
-            Kind::Refused { .. } | Kind::NoCount { .. } | Kind::Failed { .. } => Weight::Note,
+            | Kind::Off(_) => Weight::Warning,
+            Kind::Refused { .. }
+            | Kind::NoCount { .. }
+            | Kind::Failed { .. }
+            | Kind::Poisoned { .. } => Weight::Note,
         }
     }
 }
 
-// What is kept after these lines, if they are a finished run, and else what is kept before any.
-fn ends_of(alloc: Global, plan: &Plan, lines: &[Line], is_finished: bool) -> Result<Watch, NoMemory>
-    requires few { length lines.now < 2 ^ 32 }
-    requires of_plan { list_all (is_line_of plan.now) (reverse lines.now) ≡ true }
-    ensures { IfOk result (λ ends. IsTable (length plan.now.devices + 1) (length plan.now.callers) (if is_finished then reverse lines.now else []) ends) }
-{
-    if is_finished {
-        after(alloc, plan, lines)
-    } else {
-        after(alloc, plan, &[])
-    }
-}
-
 /// All that stands out at these lines of a run of a plan, in their order, and at the end where the run is finished.
-/// It reads the lines twice, or once where it isn't, and at each line it looks at the counts that are open on the
-/// line's device, and at that one's children and links; at the end, for each domain that is on, at all devices. Fails
-/// where memory runs out.
+/// It reads the lines twice, and at each line it looks at the counts that are open on the line's device, and at that
+/// one's children and links; at the end, for each device that is left on, at all links and devices, and for each domain
+/// that is on, at all devices. Fails where memory runs out.
 pub fn findings(
     alloc: Global,
     plan: &Plan,
@@ -182,13 +202,18 @@ pub fn findings(
     requires of_plan { list_all (is_line_of plan.now) (reverse lines.now) ≡ true }
     ensures { IfOk result (λ all. all.items ≡ all_found plan.now is_finished (reverse lines.now)) }
 {
-    let ends = ends_of(alloc, plan, lines, is_finished)?;
+    sizes();
+    let ends = after(alloc, plan, lines)?;
     let mut bonds = Bonds::start(alloc, plan)?;
-    let mut all = at_lines(alloc, plan, &ends, &mut bonds, lines)?;
-    if is_finished {
-        let number = lines.len() as u32;
-        at_end(&mut all, &ends, plan.devices.len(), number)?;
-        tell_domains(alloc, &mut all, &bonds, plan, number)?;
+    let mut drops = no_drops(alloc, plan)?;
+    if !is_finished {
+        let none = after(alloc, plan, &[])?;
+        let all = at_lines(alloc, plan, &none, &ends, &mut bonds, &mut drops, lines)?;
+        return Ok(all);
     }
+    let mut all = at_lines(alloc, plan, &ends, &ends, &mut bonds, &mut drops, lines)?;
+    let number = lines.len() as u32;
+    at_end(&mut all, &ends, &drops, bonds.parts(), plan, number)?;
+    tell_domains(alloc, &mut all, &bonds, plan, number)?;
     Ok(all)
 }

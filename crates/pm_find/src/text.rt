@@ -1,7 +1,8 @@
 //! The text of findings.
 
 ghost use Rattle.std.specs.Prelude.{◌≡◌, ◌++◌, OnOk};
-ghost use Rattle.pm_find.specs.text.Texts.{count_text, counted_text, finding_text, findings_text};
+ghost use Rattle.pm_find.specs.text.Texts.{count_text, counted_text, finding_text};
+ghost use Rattle.pm_model.specs.Spelling.{newline};
 
 mod bonds;
 mod kinds;
@@ -16,16 +17,26 @@ use pm_base::NoMemory;
 use pm_model::Plan;
 use words::{kind_word, weight_word};
 
+// Appends what is told of a place, and a newline.
+fn push_line_end(text: &mut Vec<u8>, place: &[u8]) -> Result<(), NoMemory>
+    ensures { OnOk result (text.new.items ≡ text.old.items ++ (place.now ++ newline)) }
+{
+    push(text, place)?;
+    push(text, b"\n")?;
+    Ok(())
+}
+
 /// Appends the line of a finding in a trace that is called so, as
-/// `cam.trace:12: error: leak: sensor never gives back the count of imx that get_sync took here`, with its newline.
-/// Fails where memory runs out.
+/// `cam.trace:12: error: leak: sensor never gives back the count of imx that get_sync took here (cam.toml:9:22)`, with
+/// its newline; the place in the plan is given, or is no bytes. Fails where memory runs out.
 pub fn push_finding(
     text: &mut Vec<u8>,
     plan: &Plan,
     file: &[u8],
     found: &Finding,
+    place: &[u8],
 ) -> Result<(), NoMemory>
-    ensures { OnOk result (text.new.items ≡ text.old.items ++ finding_text plan.now file.now found.now) }
+    ensures { OnOk result (text.new.items ≡ text.old.items ++ finding_text plan.now file.now found.now place.now) }
 {
     push(text, file)?;
     push(text, b":")?;
@@ -36,22 +47,7 @@ pub fn push_finding(
     push(text, kind_word(&found.kind))?;
     push(text, b": ")?;
     push_kind(text, plan, &found.kind)?;
-    push(text, b"\n")?;
-    Ok(())
-}
-
-/// Appends a line for each finding. Fails where memory runs out.
-pub fn push_findings(
-    text: &mut Vec<u8>,
-    plan: &Plan,
-    file: &[u8],
-    all: &[Finding],
-) -> Result<(), NoMemory>
-    ensures { OnOk result (text.new.items ≡ text.old.items ++ findings_text plan.now file.now all.now) }
-{
-    for found in all {
-        push_finding(text, plan, file, found)?;
-    }
+    push_line_end(text, place)?;
     Ok(())
 }
 

@@ -21,7 +21,7 @@ use Rattle.pm_book.specs.Pages.{Adds, Pages, by_move, by_running, by_stage, has_
 use Rattle.pm_book.specs.Turn.{HasTime, IsTurn, says_running}
 use Rattle.pm_book.proofs.TurnLemmas.{runs_behind, step_alone}
 use Rattle.pm_state.specs.Turns.{is_running, running_due}
-use Rattle.pm_hands.specs.declared.turn.Wrote.{Wrote}
+use Rattle.pm_hands.specs.declared.callback.Wrote.{Wrote}
 use Rattle.pm_hands.specs.Turning.{Begins, ByWrote, IsOver}
 
 -- a callback of a device that isn't the plan's takes no time

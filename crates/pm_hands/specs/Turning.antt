@@ -9,11 +9,11 @@ use Rattle.pm_book.specs.Pages.{Adds, Pages, is_full, world_of}
 use Rattle.pm_book.specs.Turn.{HasTime}
 use Rattle.pm_state.specs.Standing.{IsActor}
 use Rattle.pm_state.specs.Turns.{is_running}
-use Rattle.pm_hands.specs.declared.turn.Callback.{Callback}
+use Rattle.pm_hands.specs.declared.callback.Callback.{Callback}
 use Rattle.pm_hands.specs.declared.turn.Turn.{Turn}
 use Rattle.pm_hands.specs.declared.turn.Turn.TheVariants as turn
-use Rattle.pm_hands.specs.declared.turn.Wrote.{Wrote}
-use Rattle.pm_hands.specs.declared.turn.Wrote.TheVariants as wrote
+use Rattle.pm_hands.specs.declared.callback.Wrote.{Wrote}
+use Rattle.pm_hands.specs.declared.callback.Wrote.TheVariants as wrote
 
 -- one line more, which the list permitted
 pub record AddsOne (old new : Pages) : Type 0 where

@@ -3,10 +3,12 @@
 ghost use Rattle.std.specs.Prelude.{◌≡◌, ◌≤◌, ◌<◌, ◌-◌, ◌^◌, ◌↔◌, IsTrue, MatchOption, length, min, true, unwrap_or};
 ghost use Rattle.pm_wq.specs.Hints.{IsOf};
 
+use crate::callback::{Callback, Gated, Wrote};
 use crate::choice::Choice;
-use crate::turn::{Callback, Turn, Wrote, end, take_any_turn, take_turn};
+use crate::locks::{Hand, Island, Islands};
+use crate::turn::{Turn, take_any_turn, take_turn};
 use crate::way::next_island;
-use pm_base::{ActorId, NoMemory};
+use pm_base::NoMemory;
 use pm_book::Book;
 use pm_gate::{Clock, Gate};
 use pm_wq::{HintPass, Hints};
@@ -55,48 +57,54 @@ fn turn_by(book: &mut Book, now: u64, choice: &mut Option<Choice>) -> Result<Tur
 }
 
 // One turn with a book, under its lock; none where another holds that, who writes then.
-fn locked_turn(
-    island: &Mutex<Book>,
+fn locked_turn<G: Gate>(
+    island: &Island<'_>,
+    hand: &mut Hand<'_, G>,
     now: u64,
     choice: &mut Option<Choice>,
 ) -> Result<Option<Turn>, NoMemory> {
-    match island.try_lock() {
+    match island.try_lock(hand) {
         Some(mut book) => Ok(Some(turn_by(&mut book, now, choice)?)),
         None => Ok(None),
     }
 }
 
-// Ends the callback of an actor, if it may, under the book's lock, and says whether nothing of it is left
-// to do.
-fn locked_end<R: Wait>(
+// Ends a callback, if it may, under the book's lock, and gives it back where something of it is left to do.
+fn locked_end<R: Wait, G: Gate>(
     rt: &R,
-    island: &Mutex<Book>,
-    actor: ActorId,
+    island: &Island<'_>,
+    hand: &mut Hand<'_, G>,
+    open: Gated,
     now: u64,
     is_late: bool,
-) -> bool {
-    end(&mut island.lock(rt), actor, now, is_late)
+) -> Option<Gated> {
+    open.end(&mut island.lock(rt, hand), now, is_late)
 }
 
 // Writes the end line of a callback that has begun at this moment by the clock when it may be written, and at
 // the latest when the callback's time has passed by the clock, for which it rests.
-fn end_callback<R: Wait, C: Clock>(
+fn end_callback<R: Wait, C: Clock, G: Gate>(
     rt: &R,
-    island: &Mutex<Book>,
-    callback: Callback,
+    island: &Island<'_>,
+    hand: &mut Hand<'_, G>,
+    gated: Gated,
     since: u64,
     clock: &C,
 ) {
-    let until = since.saturating_add(u64::from(callback.ms));
+    let ms = gated.ms();
+    let until = since.saturating_add(u64::from(ms));
+    let mut open = gated;
     for _ in rt.forever() {
         let reading = clock.now();
         let now = counted(reading);
-        let is_late = has_passed(since, reading, callback.ms);
-        if locked_end(rt, island, callback.actor, now, is_late) {
-            break;
+        let is_late = has_passed(since, reading, ms);
+        match locked_end(rt, island, hand, open, now, is_late) {
+            Some(still) => open = still,
+            None => return,
         }
         clock.rest(until);
     }
+    unreachable!()
 }
 
 /// Lets a callback run that has begun at this moment by the clock, with no lock held, and writes its end line
@@ -104,21 +112,33 @@ fn end_callback<R: Wait, C: Clock>(
 /// rests. Where the clock can't be read, no time is left. This may wait for other threads.
 pub fn run_callback<R: Wait, C: Clock, G: Gate>(
     rt: &R,
-    island: &Mutex<Book>,
+    island: &Island<'_>,
+    hand: &mut Hand<'_, G>,
     callback: Callback,
     since: u64,
     clock: &C,
-    gate: &G,
 ) {
-    gate.callback(callback.dev, callback.cb, callback.nth);
-    end_callback(rt, island, callback, since, clock);
+    let gated = hand.gate(callback);
+    end_callback(rt, island, hand, gated, since, clock);
+}
+
+// One turn with a book by a number, under its lock.
+fn locked_any_turn<R: Wait, G: Gate>(
+    rt: &R,
+    island: &Island<'_>,
+    hand: &mut Hand<'_, G>,
+    now: u64,
+    number: u64,
+) -> Result<Turn, NoMemory> {
+    take_any_turn(&mut island.lock(rt, hand), now, number)
 }
 
 // Lets a few lines be written beside a callback, as many as the choice says, and says which other callback the
 // last of them began, if it did. Without a choice there are none.
-fn write_beside<R: Wait>(
+fn write_beside<R: Wait, G: Gate>(
     rt: &R,
-    island: &Mutex<Book>,
+    island: &Island<'_>,
+    hand: &mut Hand<'_, G>,
     now: u64,
     choice: &mut Option<Choice>,
 ) -> Option<Callback> {
@@ -126,10 +146,12 @@ fn write_beside<R: Wait>(
         return None;
     };
     for _ in 0..choice.beside() {
-        match take_any_turn(&mut island.lock(rt), now, choice.next()) {
+        match locked_any_turn(rt, island, hand, now, choice.next()) {
             Ok(Turn::Wrote(Wrote::Line)) => {}
             Ok(Turn::Wrote(Wrote::Began(callback))) => return Some(callback),
-            _ => return None,
+            Ok(Turn::Waits) => return None,
+            Ok(Turn::Over) => return None,
+            Err(_) => return None,
         }
     }
     None
@@ -139,27 +161,28 @@ fn write_beside<R: Wait>(
 // other hand may come, this hand writes.
 fn run_callbacks<R: Wait, C: Clock, G: Gate>(
     rt: &R,
-    island: &Mutex<Book>,
+    island: &Island<'_>,
+    hand: &mut Hand<'_, G>,
     first: Callback,
     now: u64,
     choice: &mut Option<Choice>,
     clock: &C,
-    gate: &G,
 ) {
     let mut open = first;
     for _ in rt.forever() {
-        gate.callback(open.dev, open.cb, open.nth);
-        let next = if open.ms == 0 {
-            write_beside(rt, island, now, choice)
+        let gated = hand.gate(open);
+        let next = if gated.ms() == 0 {
+            write_beside(rt, island, hand, now, choice)
         } else {
             None
         };
-        end_callback(rt, island, open, now, clock);
+        end_callback(rt, island, hand, gated, now, clock);
         match next {
             Some(callback) => open = callback,
-            None => break,
+            None => return,
         }
     }
+    unreachable!()
 }
 
 // Tells that an island may have a line to write.
@@ -174,50 +197,56 @@ fn tell<R: Wait>(rt: &R, hints: &Hints, pass: &mut HintPass, island: usize)
 
 // One hand. It begins at this island and stays at one while a line may be written there. Where it finds none at
 // any, one behind the other, and isn't sent to one, it naps.
-fn hand<R: Wait, C: Clock, G: Gate>(
+fn take_turns<R: Wait, C: Clock, G: Gate>(
     rt: &R,
-    islands: &[Mutex<Book>],
+    islands: Islands<'_>,
+    hand: &mut Hand<'_, G>,
     hints: &Hints,
     first: usize,
     mut choice: Option<Choice>,
     clock: &C,
-    gate: &G,
 ) {
-    if islands.is_empty() {
+    let count = islands.len();
+    if count == 0 {
         return;
     }
     let mut pass = hints.pass();
-    let mut at = first % islands.len();
+    let mut at = first % count;
     // At how many islands on the way here there was nothing to write, one behind the other, and how many of
     // these, the last ones, were over.
     let mut still = 0;
     let mut over = 0;
     for _ in rt.forever() {
         let now = counted(clock.now());
-        match locked_turn(&islands[at], now, &mut choice) {
+        let island = islands.at(at);
+        match locked_turn(&island, hand, now, &mut choice) {
             Ok(Some(Turn::Wrote(wrote))) => {
                 still = 0;
                 over = 0;
-                if let Wrote::Began(callback) = wrote {
-                    tell(rt, hints, &mut pass, at);
-                    run_callbacks(rt, &islands[at], callback, now, &mut choice, clock, gate);
+                match wrote {
+                    Wrote::Began(callback) => {
+                        tell(rt, hints, &mut pass, at);
+                        run_callbacks(rt, &island, hand, callback, now, &mut choice, clock);
+                    }
+                    Wrote::Line => {}
                 }
                 continue;
             }
             Ok(Some(Turn::Over)) => over += 1,
-            Ok(Some(Turn::Waits) | None) => over = 0,
+            Ok(Some(Turn::Waits)) => over = 0,
+            Ok(None) => over = 0,
             Err(_) => break,
         }
-        if over >= islands.len() {
+        if over >= count {
             break;
         }
         let hint = hints.ask(rt, &mut pass);
-        at = next_island(hint, at, islands.len());
+        at = next_island(hint, at, count);
         still += 1;
         if hint.is_some() {
             still = 0;
             over = 0;
-        } else if still >= islands.len() {
+        } else if still >= count {
             still = 0;
             nap(clock, now);
         }
@@ -239,7 +268,8 @@ fn hand_at<R: Wait, C: Clock, G: Gate>(
     } else {
         None
     };
-    hand(rt, islands, hints, place, choice, clock, gate);
+    let (islands, mut hand) = (Islands::of(islands), Hand::of(gate));
+    take_turns(rt, islands, &mut hand, hints, place, choice, clock);
 }
 
 /// Runs the books of islands by 1 to 16 threads, each book under a lock of its own. Each hand takes turns

@@ -2,43 +2,18 @@
 
 ghost use Rattle.std.specs.Prelude.{◌≡◌, ◌+◌, ◌*◌, false, true, IfNone, IfOk, IfSome, IsTrue, MatchOption, OnErr, length};
 ghost use Rattle.pm_model.specs.Lawful.{IsFinished};
-ghost use Rattle.pm_model.specs.PlanRows.{ms_of};
-ghost use Rattle.pm_book.specs.Pages.{has_written, is_full, step_answer, world_of};
+ghost use Rattle.pm_book.specs.Pages.{is_full, world_of};
 ghost use Rattle.pm_book.specs.Turn.{IsTurn};
 ghost use Rattle.pm_state.specs.Standing.{IsActor};
 ghost use Rattle.pm_state.specs.Turns.{is_running};
 ghost use Rattle.pm_hands.specs.Turning.{AddsOne, ByTurn, ByWrote, Goes, SomeRuns};
 
-use pm_base::{ActorId, Cb, DevId, NoMemory};
-use pm_book::{Book, EndStep, Step};
-use pm_device::ms_of;
+use crate::callback::{Wrote, try_step};
+use pm_base::{ActorId, DevId, NoMemory};
+use pm_book::{Book, EndStep};
 use pm_model::{Event, Line, Plan};
 
-/// A callback that a hand began.
-#[derive(Clone, Copy, PartialEq, Eq)]
-pub struct Callback {
-    /// Who began it.
-    pub actor: ActorId,
-    /// The device's.
-    pub dev: DevId,
-    pub cb: Cb,
-    /// Which of its kind on the device it is, counted from 1.
-    pub nth: u64,
-    /// How long it takes by the plan, in milliseconds.
-    pub ms: u32,
-}
-
-/// A line that was written.
-#[derive(Clone, Copy, PartialEq, Eq)]
-pub enum Wrote {
-    /// It began this callback.
-    Began(Callback),
-    /// It began none.
-    Line,
-}
-
 /// What came of a hand's turn with a book.
-#[derive(Clone, Copy, PartialEq, Eq)]
 pub enum Turn {
     /// A line was written.
     Wrote(Wrote),
@@ -46,18 +21,6 @@ pub enum Turn {
     Waits,
     /// The run is finished, or its list has all the lines that the plan allows, or its time is at an end.
     Over,
-}
-
-// How long a callback of a device takes, in milliseconds; 0 of a device that isn't the plan's.
-#[tactic(auto, using(crate::proofs::StepLemmas::no_device))]
-fn callback_ms(plan: &Plan, dev: DevId, cb: Cb) -> u32
-    ensures { result ≡ ms_of plan.now cb dev }
-{
-    if (dev.0 as usize) < plan.devices.len() {
-        ms_of(plan, cb, dev)
-    } else {
-        0
-    }
 }
 
 // How many actors a plan has.
@@ -113,28 +76,6 @@ fn device_in(event: &Event) -> Option<DevId> {
         | Event::Domain { dev, .. }
         | Event::Work { dev, .. }
         | Event::Timer { dev, .. } => Some(*dev),
-    }
-}
-
-/// Lets an actor go on by one line, if it may, at the moment of the last line, or at this later one by the
-/// clock. Else nothing is changed, and after `NoMemory` neither.
-pub fn try_step(book: &mut Book, actor: ActorId, now: u64) -> Result<Option<Wrote>, NoMemory>
-    requires { IsActor book.old.plan actor }
-    ensures ok { IfOk result (λ wrote. MatchOption wrote
-        ((book.new ≡ book.old) × (has_written (step_answer book.old actor now) ≡ false))
-        (ByWrote book.old book.new)) }
-    ensures err { OnErr result (book.new ≡ book.old) }
-{
-    match book.step(actor, now)? {
-        Step::Begun(dev, cb, nth) => Ok(Some(Wrote::Began(Callback {
-            actor,
-            dev,
-            cb,
-            nth,
-            ms: callback_ms(book.plan(), dev, cb),
-        }))),
-        Step::Wrote => Ok(Some(Wrote::Line)),
-        _ => Ok(None),
     }
 }
 
@@ -373,10 +314,10 @@ fn end_running(book: &mut Book, actor: ActorId, now: u64, is_late: bool) -> bool
     }
 }
 
-/// Writes the end line of a callback that the actor began, and says whether nothing of it is left to do:
-/// the line was written, or the list is full, or no callback of the actor runs. It is written at this
-/// moment by the clock, or where it is late, at the moment at which it is due.
-pub fn end(book: &mut Book, actor: ActorId, now: u64, is_late: bool) -> bool
+// Writes the end line of a callback that the actor began, and says whether nothing of it is left to do:
+// the line was written, or the list is full, or no callback of the actor runs. It is written at this
+// moment by the clock, or where it is late, at the moment at which it is due.
+pub(crate) fn end_of(book: &mut Book, actor: ActorId, now: u64, is_late: bool) -> bool
     ensures goes { Goes book.old book.new }
     ensures late { is_late ≡ true → result ≡ true }
     ensures open { result ≡ false → book.new ≡ book.old }

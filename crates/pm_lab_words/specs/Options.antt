@@ -1,5 +1,5 @@
 -- The options of pm_lab's commands (this project's own).
-use Rattle.std.specs.Prelude.{ℕ, Bool, true, false, not, ◌&&◌, List, Option, Some, None, codes, drop, length, is_none, nat_eq, if◌then◌else◌}
+use Rattle.std.specs.Prelude.{ℕ, Bool, true, false, not, ◌&&◌, ◌||◌, List, Option, Some, None, codes, drop, length, is_none, nat_eq, if◌then◌else◌}
 use Rattle.std.specs.List.{starts_with}
 use Rattle.std.specs.Str.{bytes_eq}
 use Rattle.pm_lab_words.specs.declared.names.Command.{Command}
@@ -27,7 +27,7 @@ name_of word =
     else if bytes_eq word (codes "--json") then Some name.Json
     else if bytes_eq word (codes "--late") then Some name.Late
     else if bytes_eq word (codes "--most") then Some name.Most
-    else if bytes_eq word (codes "--spots") then Some name.Spots
+    else if bytes_eq word (codes "--states") || bytes_eq word (codes "--spots") then Some name.States
     else if bytes_eq word (codes "--differ") then Some name.Differ
     else if bytes_eq word (codes "--seen") then Some name.Seen
     else None
@@ -36,7 +36,7 @@ name_of word =
 abbrev pub has_value : Name → Bool
 has_value name.Expect = true
 has_value name.Most = true
-has_value name.Spots = true
+has_value name.States = true
 has_value name.Seen = true
 has_value _ = false
 
@@ -48,14 +48,14 @@ takes command.Find name.Notes = true
 takes command.Picture name.Json = true
 takes command.Orders name.Late = true
 takes command.Orders name.Most = true
-takes command.Orders name.Spots = true
+takes command.Orders name.States = true
 takes command.Orders name.Differ = true
 takes command.Orders name.Expect = true
 takes command.Orders name.Seen = true
 takes command.Order name.Expect = true
 takes command.Order name.Late = true
 takes command.Order name.Most = true
-takes command.Order name.Spots = true
+takes command.Order name.States = true
 takes _ _ = false
 
 -- an option and its value
@@ -71,8 +71,9 @@ abbrev pub joined : List ℕ → Option Valued
 joined word =
     joined_by word (codes "--expect=") name.Expect
     (joined_by word (codes "--most=") name.Most
-    (joined_by word (codes "--spots=") name.Spots
-    (joined_by word (codes "--seen=") name.Seen None)))
+    (joined_by word (codes "--states=") name.States
+    (joined_by word (codes "--spots=") name.States
+    (joined_by word (codes "--seen=") name.Seen None))))
 
 -- the options that were given
 pub record Options : Type 0 where
@@ -83,11 +84,11 @@ pub record Options : Type 0 where
   pub differ : Bool
   pub expect : Option (List ℕ)
   pub most : Option (List ℕ)
-  pub spots : Option (List ℕ)
+  pub states : Option (List ℕ)
   pub seen : Option (List ℕ)
 
 abbrev pub none_given : Options
-none_given = record { notes = false; ktap = false; json = false; late = false; differ = false; expect = None; most = None; spots = None; seen = None }
+none_given = record { notes = false; ktap = false; json = false; late = false; differ = false; expect = None; most = None; states = None; seen = None }
 
 -- an option was given
 abbrev pub has : Options → Name → Bool
@@ -97,7 +98,7 @@ has o name.Expect = not (is_none o.expect)
 has o name.Json = o.json
 has o name.Late = o.late
 has o name.Most = not (is_none o.most)
-has o name.Spots = not (is_none o.spots)
+has o name.States = not (is_none o.states)
 has o name.Differ = o.differ
 has o name.Seen = not (is_none o.seen)
 
@@ -109,7 +110,7 @@ with_one o name.Expect value = record o { expect = Some value }
 with_one o name.Json value = record o { json = true }
 with_one o name.Late value = record o { late = true }
 with_one o name.Most value = record o { most = Some value }
-with_one o name.Spots value = record o { spots = Some value }
+with_one o name.States value = record o { states = Some value }
 with_one o name.Differ value = record o { differ = true }
 with_one o name.Seen value = record o { seen = Some value }
 

@@ -15,7 +15,7 @@ options_of o = record {
   differ = o.differ;
   expect = option_map (λ word. word.now) o.expect;
   most = option_map (λ word. word.now) o.most;
-  spots = option_map (λ word. word.now) o.spots;
+  states = option_map (λ word. word.now) o.states;
   seen = option_map (λ word. word.now) o.seen;
 }
 

@@ -13,7 +13,7 @@ use Rattle.pm_lab_words.specs.Given.{given_by}
 use Rattle.pm_lab_words.specs.Numbers.{code_in, number_between, number_or, status_in}
 use Rattle.pm_lab_words.specs.Options.{Options, command_of}
 
--- what an order is to show: the n-th command of a caller returns a code; a device ends so
+-- what a schedule is to show: the n-th command of a caller returns a code; a device ends so
 pub data Sought : Type 0 where
   Return : (caller : List ℕ) (number : ℕ) (code : ℤ) → Sought
   End : (device : List ℕ) (status : Status) (usage : ℕ) (error : ℤ) → Sought
@@ -31,13 +31,13 @@ pub data Asked : Type 0 where
   Order : (plan : List ℕ) (bounds : Bounds) (sought : Sought) → Asked
   OrderFailing : (plan expect : List ℕ) (bounds : Bounds) (index : ℕ) → Asked
 
--- how far the orders are looked through: at most so many disturbances, 0 to 99, and spots, 1 to 10,000,000
+-- how far the schedules are looked through: at most so many preemptions, 0 to 99, and states, 1 to 10,000,000
 abbrev pub bounds_with : Bool → ℕ → ℕ → Bounds
-bounds_with late most spots = record { late = late; most = most; spots = spots }
+bounds_with late most states = record { late = late; most = most; states = states }
 
 abbrev pub bounds_of : Options → Option Bounds
 bounds_of o =
-    option_and_then (λ most. option_map (λ spots. bounds_with o.late most spots) (number_or 1 10000000 1000000 o.spots)) (number_or 0 99 2 o.most)
+    option_and_then (λ most. option_map (λ states. bounds_with o.late most states) (number_or 1 10000000 1000000 o.states)) (number_or 0 99 2 o.most)
 
 -- of find: --ktap stands beside --expect alone
 abbrev pub find_with : List ℕ → List ℕ → Bool → Option (List ℕ) → Bool → Option Asked
@@ -48,14 +48,14 @@ find_with plan trace notes None true = None
 abbrev pub find_of : List ℕ → List ℕ → Options → Option Asked
 find_of plan trace o = find_with plan trace o.notes o.expect o.ktap
 
--- of orders: --expect doesn't stand beside --seen
+-- of schedules: --expect doesn't stand beside --seen
 abbrev pub orders_with : List ℕ → Bounds → Bool → Option (List ℕ) → Option (List ℕ) → Option Asked
 orders_with plan bounds differ None seen = Some (Orders plan bounds differ seen)
 orders_with plan bounds differ (Some expect) None = Some (OrdersExpected plan expect bounds differ)
 orders_with plan bounds differ (Some expect) (Some log) = None
 
-abbrev pub orders_of : List ℕ → Options → Option Asked
-orders_of plan o = option_and_then (λ bounds. orders_with plan bounds o.differ o.expect o.seen) (bounds_of o)
+abbrev pub schedules_of : List ℕ → Options → Option Asked
+schedules_of plan o = option_and_then (λ bounds. orders_with plan bounds o.differ o.expect o.seen) (bounds_of o)
 
 -- of order: CALLER N CODE, or end DEVICE STATUS USAGE ERROR
 abbrev pub return_of : List ℕ → List ℕ → List ℕ → Option Sought
@@ -95,7 +95,7 @@ abbrev pub asked_of : Command → List (List ℕ) → Options → Option Asked
 asked_of command.Say (plan ∷ []) o = Some (Say plan)
 asked_of command.Find (plan ∷ trace ∷ []) o = find_of plan trace o
 asked_of command.Picture (plan ∷ trace ∷ []) o = Some (Picture plan trace o.json)
-asked_of command.Orders (plan ∷ []) o = orders_of plan o
+asked_of command.Orders (plan ∷ []) o = schedules_of plan o
 asked_of command.Order words o = order_of words o
 asked_of command.Kernel (plan ∷ []) o = Some (Kernel plan)
 asked_of _ _ _ = None

@@ -23,7 +23,7 @@ pub enum Name {
     Json,
     Late,
     Most,
-    Spots,
+    States,
     Differ,
     Seen,
 }
@@ -54,7 +54,7 @@ pub fn name_of(word: &str) -> Option<Name>
         "--json" => Some(Name::Json),
         "--late" => Some(Name::Late),
         "--most" => Some(Name::Most),
-        "--spots" => Some(Name::Spots),
+        "--states" | "--spots" => Some(Name::States),
         "--differ" => Some(Name::Differ),
         "--seen" => Some(Name::Seen),
         _ => None,
@@ -65,7 +65,7 @@ pub fn name_of(word: &str) -> Option<Name>
 pub fn has_value(name: Name) -> bool
     ensures { result ≡ has_value name }
 {
-    matches!(name, Name::Expect | Name::Most | Name::Spots | Name::Seen)
+    matches!(name, Name::Expect | Name::Most | Name::States | Name::Seen)
 }
 
 /// Whether a command takes an option.
@@ -77,9 +77,9 @@ pub fn takes(command: Command, name: Name) -> bool
         Command::Picture => matches!(name, Name::Json),
         Command::Orders => matches!(
             name,
-            Name::Late | Name::Most | Name::Spots | Name::Differ | Name::Expect | Name::Seen
+            Name::Late | Name::Most | Name::States | Name::Differ | Name::Expect | Name::Seen
         ),
-        Command::Order => matches!(name, Name::Late | Name::Most | Name::Spots | Name::Expect),
+        Command::Order => matches!(name, Name::Late | Name::Most | Name::States | Name::Expect),
         Command::Say | Command::Kernel => false,
     }
 }

@@ -17,7 +17,7 @@ pub struct Options<'a> {
     pub differ: bool,
     pub expect: Option<&'a str>,
     pub most: Option<&'a str>,
-    pub spots: Option<&'a str>,
+    pub states: Option<&'a str>,
     pub seen: Option<&'a str>,
 }
 
@@ -41,7 +41,7 @@ impl<'a> Options<'a> {
             differ: false,
             expect: None,
             most: None,
-            spots: None,
+            states: None,
             seen: None,
         }
     }
@@ -57,7 +57,7 @@ impl<'a> Options<'a> {
             Name::Json => self.json,
             Name::Late => self.late,
             Name::Most => self.most.is_some(),
-            Name::Spots => self.spots.is_some(),
+            Name::States => self.states.is_some(),
             Name::Differ => self.differ,
             Name::Seen => self.seen.is_some(),
         }
@@ -82,7 +82,7 @@ impl<'a> Options<'a> {
             Name::Json => more.json = true,
             Name::Late => more.late = true,
             Name::Most => more.most = Some(value),
-            Name::Spots => more.spots = Some(value),
+            Name::States => more.states = Some(value),
             Name::Differ => more.differ = true,
             Name::Seen => more.seen = Some(value),
         }
@@ -119,7 +119,8 @@ pub fn joined(word: &str) -> Option<Valued<'_>>
     ensures { option_map valued_of result ≡ joined word.now }
 {
     let seen = joined_by(word, "--seen=", Name::Seen, None);
-    let spots = joined_by(word, "--spots=", Name::Spots, seen);
-    let most = joined_by(word, "--most=", Name::Most, spots);
+    let spots = joined_by(word, "--spots=", Name::States, seen);
+    let states = joined_by(word, "--states=", Name::States, spots);
+    let most = joined_by(word, "--most=", Name::Most, states);
     joined_by(word, "--expect=", Name::Expect, most)
 }

@@ -2,7 +2,7 @@
 
 ghost use Rattle.std.specs.Prelude.{◌≡◌, map, option_map, string_bytes};
 ghost use Rattle.pm_lab_words.specs.Read.{given_of, options_of};
-ghost use Rattle.pm_lab_words.specs.Request.{asked, asked_by, asked_of, asked_with, bounds_of, end_behind, end_of, failing_of, fails_behind, find_of, help_on, order_of, order_with, orders_of, orders_with, return_of, sought_in, sought_of};
+ghost use Rattle.pm_lab_words.specs.Request.{asked, asked_by, asked_of, asked_with, bounds_of, end_behind, end_of, failing_of, fails_behind, find_of, help_on, order_of, order_with, schedules_of, orders_with, return_of, sought_in, sought_of};
 
 use crate::given::given_by;
 use crate::names::{Command, command_of};
@@ -10,18 +10,18 @@ use crate::numbers::{code_in, number_between, number_or, status_in};
 use crate::options::Options;
 use pm_base::Status;
 
-/// How far the orders of a plan are looked through.
+/// How far the schedules of a plan are looked through.
 #[derive(Clone, Copy, PartialEq, Eq)]
 pub struct Bounds {
     /// Whether anybody may be late.
     pub late: bool,
-    /// How many lines disturb, at most: 0 to 99.
+    /// How many lines preempt, at most: 0 to 99.
     pub most: u32,
-    /// How many spots each search looks at, at most: 1 to 10,000,000. `orders` searches each island for itself.
-    pub spots: u32,
+    /// How many states each search looks at, at most: 1 to 10,000,000. `orders` searches each island for itself.
+    pub states: u32,
 }
 
-/// What an order is to show.
+/// What a schedule is to show.
 #[derive(Clone, Copy, PartialEq, Eq)]
 pub enum Sought<'a> {
     /// The `number`-th command of a caller's script, counted from 1, returns this code.
@@ -70,7 +70,7 @@ pub enum Request<'a> {
         trace: &'a str,
         json: bool,
     },
-    /// `orders PLAN`: tells what the orders of the plan show.
+    /// `orders PLAN`: tells what the schedules of the plan show.
     Orders {
         plan: &'a str,
         bounds: Bounds,
@@ -85,13 +85,13 @@ pub enum Request<'a> {
         bounds: Bounds,
         differ: bool,
     },
-    /// `order PLAN SOUGHT`: writes the trace of an order that shows what is sought.
+    /// `order PLAN SOUGHT`: writes the trace of a schedule that shows what is sought.
     Order {
         plan: &'a str,
         bounds: Bounds,
         sought: Sought<'a>,
     },
-    /// `order PLAN --expect FILE fails INDEX`: writes the trace of an order that breaks the expectation of this number, counted
+    /// `order PLAN --expect FILE fails INDEX`: writes the trace of a schedule that breaks the expectation of this number, counted
     /// from 1.
     OrderFailing {
         plan: &'a str,
@@ -105,16 +105,16 @@ pub enum Request<'a> {
     },
 }
 
-/// How far the orders are looked through.
+/// How far the schedules are looked through.
 fn bounds_of(options: &Options<'_>) -> Option<Bounds>
     ensures { result ≡ bounds_of (options_of options.now) }
 {
     let most = number_or(0, 99, 2, options.most)?;
-    let spots = number_or(1, 10_000_000, 1_000_000, options.spots)?;
+    let states = number_or(1, 10_000_000, 1_000_000, options.states)?;
     Some(Bounds {
         late: options.late,
         most,
-        spots,
+        states,
     })
 }
 
@@ -167,8 +167,8 @@ fn orders_with<'a>(
 }
 
 /// The command `orders` of a plan. A file of expectations and a log are looked at one by one.
-fn orders_of<'a>(plan: &'a str, options: &Options<'a>) -> Option<Request<'a>>
-    ensures { option_map asked result ≡ orders_of plan.now (options_of options.now) }
+fn schedules_of<'a>(plan: &'a str, options: &Options<'a>) -> Option<Request<'a>>
+    ensures { option_map asked result ≡ schedules_of plan.now (options_of options.now) }
 {
     let bounds = bounds_of(options)?;
     orders_with(plan, bounds, options.differ, options.expect, options.seen)
@@ -304,7 +304,7 @@ fn asked_of<'a>(command: Command, words: &[&'a str], options: &Options<'a>) -> O
             trace,
             json: options.json,
         }),
-        (Command::Orders, [plan]) => orders_of(plan, options),
+        (Command::Orders, [plan]) => schedules_of(plan, options),
         (Command::Order, words) => order_of(words, options),
         (Command::Kernel, [plan]) => Some(Request::Kernel { plan }),
         _ => None,

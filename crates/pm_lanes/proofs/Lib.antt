@@ -2,4 +2,4 @@ pub mod PushLemmas
 pub mod NextLemmas
 pub mod LaneAlike
 pub mod TellLemmas
-pub mod WalkLemmas
+pub mod ShowLemmas

@@ -1,4 +1,4 @@
 pub mod Lanes
 pub mod Pieces
-pub mod Walking
+pub mod Showing
 pub mod calls

@@ -3,18 +3,20 @@
 ghost use Rattle.std.specs.Prelude.{◌≡◌, ◌+◌, ◌<◌, ◌++◌, ◌^◌, IfOk, OnOk, length, reverse, take, true};
 ghost use Rattle.std.specs.List.{list_all};
 ghost use Rattle.pm_device.specs.Parts.{IsFor};
-ghost use Rattle.pm_lanes.specs.Pieces.{at_line, pieces, seen_of_plan, shown_before, shown_behind, turned_since};
-ghost use Rattle.pm_lanes.specs.Walking.{IsStep, StandsAfter};
+ghost use Rattle.pm_book.specs.Replayed.{IsAfter};
+ghost use Rattle.pm_lanes.specs.Pieces.{at_line, is_open, pieces, seen_of_plan, shown_before, shown_behind, turned_since};
+ghost use Rattle.pm_lanes.specs.Showing.{IsStep};
 ghost use Rattle.pm_model.specs.Lawful.{IsLawful};
 ghost use Rattle.pm_model.specs.LineOf.{is_line_of};
+ghost use Rattle.pm_model.specs.World.{place};
 ghost use Rattle.pm_state.specs.Standing.{IsActor, IsOf};
 
 use crate::pushing::push;
 use crate::seen::{Seen, push_turned, seen_of};
 use crate::shown::Piece;
 use crate::telling::{device_of, push_freed, push_switched, runs, told};
-use crate::walk::Walk;
-use pm_base::{DevId, NoMemory};
+use pm_base::{ActorId, DevId, NoMemory};
+use pm_book::Replay;
 use pm_device::Parts;
 use pm_model::{Line, Plan};
 use std::alloc::Global;
@@ -48,11 +50,20 @@ fn push_turn(
 }
 
 // What is seen of a device where a run stands.
-fn seen_at(walk: &Walk, plan: &Plan, dev: DevId) -> Option<Seen>
-    requires { IsOf plan.now walk.now.state }
-    ensures { result ≡ seen_of_plan plan.now walk.now.state.world.views dev }
+fn seen_at(replay: &Replay, plan: &Plan, dev: DevId) -> Option<Seen>
+    requires { IsOf plan.now replay.now.standing }
+    ensures { result ≡ seen_of_plan plan.now replay.now.standing.world.views dev }
 {
-    glance(plan, walk.state.parts(), dev)
+    glance(plan, replay.parts(), dev)
+}
+
+// Whether a stage of an actor is open where a run stands.
+fn is_open(replay: &Replay, plan: &Plan, actor: ActorId) -> bool
+    requires is_of { IsOf plan.now replay.now.standing }
+    requires in_range { IsActor plan.now actor }
+    ensures { result ≡ is_open (place replay.now.standing.world actor) }
+{
+    replay.state().top(plan, actor).is_some()
 }
 
 // Appends what a line tells, and which domains it switches, where the run stands before it.
@@ -62,14 +73,14 @@ fn show_before(
     all: &mut Vec<Piece>,
     number: u32,
     plan: &Plan,
-    walk: &Walk,
+    replay: &Replay,
     line: &Line,
 ) -> Result<(), NoMemory>
-    requires { IsOf plan.now walk.now.state }
-    ensures { OnOk result (all.new.items ≡ all.old.items ++ at_line number (shown_before plan.now walk.now.state.world line.now)) }
+    requires { IsOf plan.now replay.now.standing }
+    ensures { OnOk result (all.new.items ≡ all.old.items ++ at_line number (shown_before plan.now replay.now.standing.world line.now)) }
 {
     push(all, number, told(line))?;
-    push_switched(alloc, all, number, plan, walk.state.parts(), &line.event)
+    push_switched(alloc, all, number, plan, replay.parts(), &line.event)
 }
 
 // Appends what is otherwise behind a line, by what was seen of its device and whether its actor had a stage
@@ -79,19 +90,19 @@ fn show_behind(
     all: &mut Vec<Piece>,
     number: u32,
     plan: &Plan,
-    walk: &Walk,
+    replay: &Replay,
     line: &Line,
     seen: Option<Seen>,
     was_open: bool,
 ) -> Result<(), NoMemory>
-    requires is_of { IsOf plan.now walk.now.state }
+    requires is_of { IsOf plan.now replay.now.standing }
     requires in_range { IsActor plan.now line.now.actor }
-    ensures { OnOk result (all.new.items ≡ all.old.items ++ at_line number (shown_behind plan.now line.now seen was_open walk.now.state.world)) }
+    ensures { OnOk result (all.new.items ≡ all.old.items ++ at_line number (shown_behind plan.now line.now seen was_open replay.now.standing.world)) }
 {
     let dev = device_of(&line.event);
-    push_turn(all, number, dev, seen, seen_at(walk, plan, dev))?;
-    push_freed(all, number, plan, walk.state.parts(), &line.event)?;
-    let is_open = walk.is_open(plan, line.actor);
+    push_turn(all, number, dev, seen, seen_at(replay, plan, dev))?;
+    push_freed(all, number, plan, replay.parts(), &line.event)?;
+    let is_open = is_open(replay, plan, line.actor);
     push(all, number, runs(line.actor, was_open, is_open))
 }
 
@@ -99,7 +110,7 @@ fn show_behind(
 fn step(
     alloc: Global,
     all: &mut Vec<Piece>,
-    walk: &mut Walk,
+    replay: &mut Replay,
     plan: &Plan,
     lines: &[Line],
     place: usize,
@@ -108,18 +119,18 @@ fn step(
     requires of_plan { list_all (is_line_of plan.now) (reverse lines.now) ≡ true }
     requires few { length lines.now < 2 ^ 32 }
     requires within { place < length lines.now }
-    requires stands { StandsAfter plan.now (reverse (take place lines.now)) walk.old }
-    ensures stands { OnOk result (StandsAfter plan.now (reverse (take (place + 1) lines.now)) walk.new) }
-    ensures shown { OnOk result (IsStep plan.now lines.now place walk.old walk.new all.old.items all.new.items) }
+    requires stands { IsAfter plan.now replay.old (reverse (take place lines.now)) }
+    ensures stands { OnOk result (IsAfter plan.now replay.new (reverse (take (place + 1) lines.now))) }
+    ensures shown { OnOk result (IsStep plan.now lines.now place replay.old replay.new all.old.items all.new.items) }
 {
     let line = &lines[place];
     let number = place as u32 + 1;
     let dev = device_of(&line.event);
-    let seen = seen_at(walk, plan, dev);
-    let was_open = walk.is_open(plan, line.actor);
-    show_before(alloc, all, number, plan, walk, line)?;
-    walk.go(plan, lines, place);
-    show_behind(all, number, plan, walk, line, seen, was_open)
+    let seen = seen_at(replay, plan, dev);
+    let was_open = is_open(replay, plan, line.actor);
+    show_before(alloc, all, number, plan, replay, line)?;
+    replay.go(plan, line);
+    show_behind(all, number, plan, replay, line, seen, was_open)
 }
 
 /// All that is shown of a run of a plan, line by line. At each line it looks at the line's device, its domains
@@ -130,10 +141,10 @@ pub fn all_pieces(alloc: Global, plan: &Plan, lines: &[Line]) -> Result<Vec<Piec
     requires few { length lines.now < 2 ^ 32 }
     ensures { IfOk result (λ all. all.items ≡ pieces plan.now (reverse lines.now)) }
 {
-    let mut walk = Walk::start(alloc, plan)?;
+    let mut replay = Replay::start(alloc, plan)?;
     let mut all = Vec::new(alloc);
     for place in 0..lines.len() {
-        step(alloc, &mut all, &mut walk, plan, lines, place)?;
+        step(alloc, &mut all, &mut replay, plan, lines, place)?;
     }
     Ok(all)
 }

@@ -8,7 +8,6 @@ mod pushing;
 mod seen;
 mod shown;
 mod telling;
-mod walk;
 
 pub use gather::all_pieces;
 pub use nexts::next_places;

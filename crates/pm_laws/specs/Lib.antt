@@ -1,3 +1,4 @@
+pub mod Invariant
 pub mod counts
 pub mod stacks
 pub mod bounds

@@ -5,6 +5,7 @@
 pub mod bounds;
 pub mod counts;
 pub mod gets;
+pub mod invariant;
 pub mod islands;
 pub mod safe;
 pub mod stacks;

@@ -1,3 +1,5 @@
+pub mod AppendLemmas
+pub mod DigitLemmas
 pub mod EnumPlaces
 pub mod Forms
 pub mod Lengths

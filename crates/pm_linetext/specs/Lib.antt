@@ -1,4 +1,6 @@
+pub mod Appended
 pub mod AtHand
+pub mod Digits
 pub mod Fronts
 pub mod NamesFit
 pub mod Payload

@@ -3,7 +3,8 @@
 //! A line of a plan has one text in each format. `LineSpeller` puts it with a newline into a `TimedText`, with no
 //! memory and without failure, and so does `NamesAtHand`, without the plan and in two steps. `write_line` and
 //! `write_line2` append it to a `Vec`, without a newline, and take no memory but for that. A `ShortText` is a
-//! short text in an array, as the line of a verdict or of a reason.
+//! short text in an array, as the line of a verdict or of a reason. The functions `push` .. `push_command` append the
+//! pieces of any other text, and `natural_in` reads a number.
 #![tactic(auto)]
 
 ghost use Rattle.std.specs.Prelude.{◌≡◌, ℕ, ◌+◌, ◌<◌, ◌≤◌, ◌++◌, true, length, IsOk, OnErr, OnOk, vec_capacity, vec_len};
@@ -15,7 +16,9 @@ ghost use Rattle.pm_model.specs.declared.event.Line.{Line};
 ghost use Rattle.pm_model.specs.declared.plan.Plan.{Plan};
 ghost use Rattle.pm_linetext.specs.ShortLine.{is_short_line};
 
+mod appended;
 mod at_hand;
+mod digits;
 mod events;
 mod fields;
 mod names;
@@ -27,7 +30,12 @@ mod text;
 mod timed;
 mod words;
 
+pub use crate::appended::{
+    caller_name, device_name, domain_name, push, push_actor, push_call, push_caller, push_command,
+    push_device, push_domain, push_helper, push_number, push_signed,
+};
 pub use crate::at_hand::NamesAtHand;
+pub use crate::digits::natural_in;
 pub use crate::speller::LineSpeller;
 use crate::text::LineText;
 pub use crate::timed::TimedText;

@@ -40,7 +40,7 @@ impl NameSource for Plan {
 
 /// The name of the row at a place, and no bytes past the last.
 #[tactic(auto, using(crate::proofs::PieceLemmas::name_here))]
-fn name_at<T: Named>(rows: &NamedList<T>, place: usize) -> &[u8]
+pub(crate) fn name_at<T: Named>(rows: &NamedList<T>, place: usize) -> &[u8]
     ensures { result.now ≡ slice_index_or (map T.name_of rows.now) place [] }
 {
     match rows.get(place) {

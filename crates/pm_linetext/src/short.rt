@@ -5,10 +5,11 @@ ghost use Rattle.std.specs.Fmt.{signed_decimal};
 ghost use Rattle.pm_model.specs.Spelling.{device_name};
 ghost use Rattle.pm_model.specs.Text.{names_of};
 
+use crate::appended::device_name;
 use arrayvec::ArrayVec;
 use itoa::Buffer;
 use pm_base::DevId;
-use pm_model::{Named, Plan};
+use pm_model::Plan;
 use std::marker::Model;
 
 /// The bytes that a short text may have: a name of 32 bytes, three numbers of 20 digits, and the words between them.
@@ -79,26 +80,15 @@ impl ShortText {
         ensures value { self.new ≡ self.old ++ device_name (names_of plan.now) dev.0 }
         ensures len { length self.new ≤ length self.old + 32 }
     {
-        self.push(device_name(plan, dev));
+        self.push(short_name(plan, dev));
     }
 }
 
-// The name of a device of the plan, and no bytes for another.
-#[tactic(auto, using(crate::proofs::ShortLemmas::name_here))]
-fn name_at(plan: &Plan, dev: DevId) -> &[u8]
-    ensures { result.now ≡ device_name (names_of plan.now) dev.0 }
-{
-    match plan.devices.get(dev.0 as usize) {
-        Some(row) => row.name().as_slice(),
-        None => &[],
-    }
-}
-
-// That name, which is short.
+// The name of a device of the plan, which is short, and no bytes for another.
 #[tactic(auto, using(crate::proofs::ShortLemmas::name_short))]
-fn device_name(plan: &Plan, dev: DevId) -> &[u8]
+fn short_name(plan: &Plan, dev: DevId) -> &[u8]
     ensures name { result.now ≡ device_name (names_of plan.now) dev.0 }
     ensures short { length result.now ≤ 32 }
 {
-    name_at(plan, dev)
+    device_name(plan, dev)
 }

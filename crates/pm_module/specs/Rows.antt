@@ -10,7 +10,8 @@ use Rattle.pm_model.specs.declared.rows.CallerRow.{CallerRow}
 use Rattle.pm_model.specs.declared.rows.DeviceRow.{DeviceRow}
 use Rattle.pm_model.specs.declared.rows.DomainRow.{DomainRow}
 use Rattle.pm_model.specs.declared.rows.LinkRow.{LinkRow}
-use Rattle.pm_model.specs.Spelling.{Names, command_text, device_part, helper_word}
+use Rattle.pm_model.specs.Spelling.{Names, command_text, helper_word}
+use Rattle.pm_linetext.specs.Appended.{call_text}
 
 -- a text of C
 abbrev pub quoted : List ℕ → List ℕ
@@ -84,7 +85,7 @@ link_row row =
 
 -- what a command's return is told with, before its code
 abbrev pub return_text : Names → Command → List ℕ
-return_text names command = helper_word command.helper ++ device_part names command.helper command.dev
+return_text names command = call_text names command.helper command.dev
 
 -- its helper, its device and its number
 abbrev pub called_text : Command → List ℕ

@@ -4,11 +4,11 @@ ghost use Rattle.std.specs.Prelude.{◌≡◌, ◌++◌, OnOk, codes, is_some};
 ghost use Rattle.pm_module.specs.Rows.{callback_text, device_callbacks, device_ends, device_flags, device_place, domain_place, field_line, idle_codes, truth};
 
 use crate::pieces::{
-    push, push_device_place, push_domain_place, push_name_field, push_number, push_truth,
-    start_field,
+    push_device_place, push_domain_place, push_name_field, push_truth, start_field,
 };
 use crate::rows::push_rows;
 use pm_base::{DevId, DomId, NoMemory};
+use pm_linetext::{push, push_number};
 use pm_model::{DeviceRow, Plan};
 
 /// Appends what a device is and where it stands.
@@ -72,7 +72,7 @@ fn push_callback(text: &mut Vec<u8>, plan: &Plan, ms: u32, codes: &[i32]) -> Res
     ensures { OnOk result (text.new.items ≡ text.old.items ++ callback_text ms codes.now) }
 {
     push(text, b"{ .ms = ")?;
-    push_number(text, ms)?;
+    push_number(text, ms as u64)?;
     push(text, b", .codes = (const int[]){ ")?;
     push_rows(text, plan, codes)?;
     push(text, b"LAB_NO_MORE } }")

@@ -12,5 +12,5 @@ mod words;
 
 pub use engine::ENGINE;
 pub use head::HEAD;
+pub use pm_linetext::push_command;
 pub use tables::module_text;
-pub use words::push_command;

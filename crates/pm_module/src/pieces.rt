@@ -1,34 +1,11 @@
 //! The pieces of a module's text, each of which is appended to what stands before it.
 
-ghost use Rattle.std.specs.Prelude.{◌≡◌, ◌++◌, OnOk, codes, decimal};
-ghost use Rattle.std.specs.Fmt.{signed_decimal};
+ghost use Rattle.std.specs.Prelude.{◌≡◌, ◌++◌, OnOk, codes};
 ghost use Rattle.pm_module.specs.Rows.{device_place, domain_place, field_line, field_start, quoted, truth};
 
-use itoa::Buffer;
 use pm_base::{DevId, DomId, NoMemory};
+use pm_linetext::{push, push_number};
 use pm_model::Name;
-
-/// Appends bytes.
-pub(crate) fn push(text: &mut Vec<u8>, piece: &[u8]) -> Result<(), NoMemory>
-    ensures { OnOk result (text.new.items ≡ text.old.items ++ piece.now) }
-{
-    text.extend_from_slice(piece)?;
-    Ok(())
-}
-
-/// Appends a number in decimal.
-pub(crate) fn push_number(text: &mut Vec<u8>, number: u32) -> Result<(), NoMemory>
-    ensures { OnOk result (text.new.items ≡ text.old.items ++ decimal number) }
-{
-    push(text, Buffer::new().format(number).as_bytes())
-}
-
-/// Appends a number in decimal, with a minus where it is below 0.
-pub(crate) fn push_signed(text: &mut Vec<u8>, number: i64) -> Result<(), NoMemory>
-    ensures { OnOk result (text.new.items ≡ text.old.items ++ signed_decimal number) }
-{
-    push(text, Buffer::new().format(number).as_bytes())
-}
 
 /// Appends a text of C.
 fn push_quoted(text: &mut Vec<u8>, bytes: &[u8]) -> Result<(), NoMemory>
@@ -51,7 +28,7 @@ pub(crate) fn push_device_place(text: &mut Vec<u8>, dev: Option<DevId>) -> Resul
     ensures { OnOk result (text.new.items ≡ text.old.items ++ device_place dev) }
 {
     match dev {
-        Some(dev) => push_number(text, dev.0),
+        Some(dev) => push_number(text, dev.0 as u64),
         None => push(text, b"-1"),
     }
 }
@@ -61,7 +38,7 @@ pub(crate) fn push_domain_place(text: &mut Vec<u8>, dom: Option<DomId>) -> Resul
     ensures { OnOk result (text.new.items ≡ text.old.items ++ domain_place dom) }
 {
     match dom {
-        Some(dom) => push_number(text, dom.0),
+        Some(dom) => push_number(text, dom.0 as u64),
         None => push(text, b"-1"),
     }
 }

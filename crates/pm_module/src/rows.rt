@@ -8,11 +8,10 @@ ghost use Rattle.pm_model.specs.declared.plan.Plan.{Plan};
 ghost use Rattle.pm_module.specs.Rows.{called_text, caller_row, code_item, command_row, device_row, domain_row, link_row};
 
 use crate::device::{push_callbacks, push_ends, push_flags};
-use crate::pieces::{
-    push, push_domain_place, push_name, push_name_field, push_number, push_signed, push_truth,
-};
-use crate::words::{push_call_text, push_helper, push_return_text};
+use crate::pieces::{push_domain_place, push_name, push_name_field, push_truth};
+use crate::words::{push_call_text, push_return_text};
 use pm_base::NoMemory;
+use pm_linetext::{push, push_helper, push_number, push_signed};
 use pm_model::{CallerRow, Command, DeviceRow, DomainRow, LinkRow, Plan, Script};
 
 /// What has a row in a table, or in a list of a row.
@@ -66,9 +65,9 @@ impl Row for LinkRow {
 
     fn push_row(&self, text: &mut Vec<u8>, _plan: &Plan) -> Result<(), NoMemory> {
         push(text, b"\t{ .consumer = ")?;
-        push_number(text, self.consumer.0)?;
+        push_number(text, self.consumer.0 as u64)?;
         push(text, b", .supplier = ")?;
-        push_number(text, self.supplier.0)?;
+        push_number(text, self.supplier.0 as u64)?;
         push(text, b", .pm_runtime = ")?;
         push_truth(text, self.pm_runtime)?;
         push(text, b", .later = ")?;
@@ -103,7 +102,7 @@ fn push_called(text: &mut Vec<u8>, command: &Command) -> Result<(), NoMemory>
 {
     push_helper(text, command.helper)?;
     push(text, b", ")?;
-    push_number(text, command.dev.0)?;
+    push_number(text, command.dev.0 as u64)?;
     push(text, b", ")?;
     push_operand_number(text, command)
 }

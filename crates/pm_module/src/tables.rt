@@ -6,9 +6,9 @@ ghost use Rattle.pm_module.specs.Module.{caller_table, device_table, domain_tabl
 
 use crate::engine::ENGINE;
 use crate::head::HEAD;
-use crate::pieces::push;
 use crate::rows::{Row, push_rows};
 use pm_base::NoMemory;
+use pm_linetext::push;
 use pm_model::Plan;
 use std::alloc::Global;
 

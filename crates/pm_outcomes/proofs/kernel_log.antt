@@ -1,3 +1,4 @@
-pub mod MarkLemmas
+pub mod PrefixLemmas
 pub mod SplitLemmas
 pub mod ReadLemmas
+pub mod SubjectLemmas

@@ -1,4 +1,4 @@
 mod FirstLemmas
-pub mod MarkAlike
+pub mod ObservationAlike
 mod OrderLemmas
 mod ListingLemmas

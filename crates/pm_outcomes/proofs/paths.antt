@@ -1,6 +1,6 @@
 mod Actors
 mod RunLemmas
-mod WayLemmas
+mod PathLemmas
 mod FoundLemmas
 mod ListLemmas
 mod WitnessLemmas

@@ -1,5 +1,5 @@
-//! What the orders of a plan show: each code that a command returns in some order and each way in which a device ends,
-//! with the least number of disturbances (this project's own).
+//! What the schedules of a plan show: each code that a command returns in some schedule and each way in which a device ends,
+//! with the least number of preemptions (this project's own).
 
 mod finding;
 mod firsts;

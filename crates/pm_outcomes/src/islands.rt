@@ -1,4 +1,4 @@
-//! The islands of a plan one by one: the part of each, where a mark is at home, and that what is lawful for the part of
+//! The islands of a plan one by one: the part of each, where an observation is at home, and that what is lawful for the part of
 //! one is lawful for the plan (this project's own).
 
 mod alone;

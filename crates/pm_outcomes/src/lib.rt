@@ -1,4 +1,4 @@
-//! What the orders of a plan show, each with the least number of disturbances; a run that shows what is asked for; and what
+//! What the schedules of a plan show, each with the least number of preemptions; a run that shows what is asked for; and what
 //! a kernel's log tells of a run (this project's own).
 #![tactic(auto)]
 

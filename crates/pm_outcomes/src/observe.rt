@@ -1,4 +1,4 @@
-//! What a spot shows (this project's own).
+//! What a snapshot shows (this project's own).
 
 mod ends;
 mod finished;

@@ -1,4 +1,4 @@
-//! The orders of a plan's lines at a pace, searched through: where they stand by which number of disturbances (this
+//! The schedules of a plan's lines at a pace, searched through: where they stand by which number of preemptions (this
 //! project's own).
 
 mod graph;
@@ -8,5 +8,5 @@ mod run;
 mod searching;
 mod witness;
 
-pub use searching::all_orders;
-pub use witness::order_to;
+pub use searching::all_schedules;
+pub use witness::schedule_to;

@@ -1,8 +1,9 @@
 //! Bands: the status of devices, domains that are on, links that are held, devices that are disabled; and callbacks on them.
 
 use pm_base::{Cb, DevId, NoMemory, Status};
-use pm_find::text::{push, push_code, push_number};
+use pm_find::text::push_code;
 use pm_lanes::{Piece, Shown};
+use pm_linetext::{push, push_number};
 use pm_sheet::columns::Span;
 use pm_sheet::rows::{Holding, Row, Subject};
 use pm_sheet::svg::Style;
@@ -268,7 +269,7 @@ fn write_usage(canvas: &mut Canvas<'_>, line: u32, dev: DevId, usage: u32) -> Re
     };
     canvas.point_at(line)?;
     canvas.say(b"")?;
-    push_number(&mut canvas.pen.words, usage)?;
+    push_number(&mut canvas.pen.words, u64::from(usage))?;
     let x = canvas.x(line).saturating_add(1);
     canvas.label(Style::Count, x, row.y.saturating_add(14), false)
 }

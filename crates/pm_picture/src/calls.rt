@@ -6,11 +6,11 @@ ghost use Rattle.pm_sheet.specs.svg.Shapes.{Draws};
 
 use pm_base::{ActorId, EAGAIN, EBUSY, EINPROGRESS, NoMemory};
 use pm_find::findings::{Kind, Weight};
-use pm_find::text::{push, push_actor, push_code, push_number};
+use pm_find::text::push_code;
 use pm_lanes::calls::{Answer, Call};
 use pm_lanes::{Piece, Shown};
+use pm_linetext::{push, push_actor, push_command, push_number};
 use pm_model::Helper;
-use pm_module::push_command;
 use pm_sheet::columns::{Columns, Span};
 use pm_sheet::rows::{Row, Rows, Subject};
 use pm_sheet::scene::{Notes, Run};
@@ -157,7 +157,7 @@ fn push_stolen(text: &mut Vec<u8>, run: &Run<'_>, owner: ActorId) -> Result<(), 
 // Appends since which line a call is refused.
 fn push_since(text: &mut Vec<u8>, line: u32) -> Result<(), NoMemory> {
     push(text, b" since line ")?;
-    push_number(text, line)
+    push_number(text, u64::from(line))
 }
 
 // Appends what stands out in a call, in short.
@@ -167,7 +167,8 @@ fn push_note(text: &mut Vec<u8>, run: &Run<'_>, kind: &Kind) -> Result<(), NoMem
         Kind::Answer { keeps: true, .. } => push(text, b", keeps its count"),
         Kind::Stolen { owner, .. } => push_stolen(text, run, owner),
         Kind::NeverOn { .. } => push(text, b", never was active"),
-        Kind::DisabledOn { .. } => push(text, b", still active"),
+        Kind::RefusedPut { .. } => push(text, b", no count to give back"),
+        Kind::RefusedStatus { .. } => push(text, b", the status stays"),
         Kind::Unmarked { .. } => push(text, b", not marked as busy"),
         Kind::Poisoned { line, .. } => push_since(text, line),
         _ => Ok(()),

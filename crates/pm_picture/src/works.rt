@@ -1,8 +1,8 @@
 //! Work items and timers of devices, in a picture of all.
 
 use pm_base::{ActorId, DevId, NoMemory, Req};
-use pm_find::text::push;
 use pm_lanes::Shown;
+use pm_linetext::{push, push_number};
 use pm_model::{Event, WorkAct};
 use pm_sheet::columns::Span;
 use pm_sheet::rows::Subject;
@@ -95,10 +95,7 @@ fn draw_below(
 // Writes until when a timer is armed.
 fn say_deadline(canvas: &mut Canvas<'_>, deadline: u64) -> Result<(), NoMemory> {
     canvas.say(b"timer ")?;
-    push(
-        &mut canvas.pen.words,
-        itoa::Buffer::new().format(deadline).as_bytes(),
-    )?;
+    push_number(&mut canvas.pen.words, deadline)?;
     push(&mut canvas.pen.words, b" ms")
 }
 

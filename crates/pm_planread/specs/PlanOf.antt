@@ -12,6 +12,7 @@ use Rattle.pm_planread.specs.tree.KindFault.{kind_fault}
 use Rattle.pm_planread.specs.tree.Places.{place}
 use Rattle.pm_planread.specs.tree.Raw.{raw_plan}
 use Rattle.pm_planread.specs.tree.Tree.{document}
+use Rattle.pm_planread.specs.declared.tree.keys.Format.TheVariants as format
 use Rattle.pm_planread.specs.declared.tree.place.Section.TheVariants.{Top}
 use Rattle.pm_planread.specs.declared.tree.raw.RawPlan.{RawPlan}
 use Rattle.pm_planread.specs.Faults.{refused, unless}
@@ -85,7 +86,7 @@ named_plan raw =
 
 -- the refusals of the tree
 unfoldable pub tree_plan : Members → Result Contents PlanFault
-tree_plan tree = unless (key_fault tree) why.Key (unless (kind_fault tree) why.Kind (named_plan (raw_plan tree)))
+tree_plan tree = unless (key_fault format.Plan tree) why.Key (unless (kind_fault format.Plan tree) why.Kind (named_plan (raw_plan tree)))
 
 abbrev pub document_plan : Option Members → Result Contents PlanFault
 document_plan None = Err (refused why.NotToml (place Top 0 0))

@@ -15,5 +15,5 @@ pub mod tree;
 
 pub use crate::tree::Section;
 pub use messages::{Message, refusal_message};
-pub use read::read_plan;
+pub use read::{named_plan, read_plan};
 pub use refusal::{PlanFault, PlanWhy};

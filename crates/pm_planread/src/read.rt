@@ -16,7 +16,9 @@ use crate::rows::{
     name_fault, natural_within, number_fault, repeat_fault, too_many_fault, unknown_fault,
 };
 use crate::scripts::caller_rows;
-use crate::tree::{Place, RawPlan, Section, document, is_sound, key_fault, kind_fault, raw_plan};
+use crate::tree::{
+    Format, Place, RawPlan, Section, document, is_sound, key_fault, kind_fault, raw_plan,
+};
 use pm_base::{MAX_LINES, PLAN_BYTES};
 use pm_model::{DeviceList, DomainList, LinkList, Plan};
 use pm_names::Finder;
@@ -48,17 +50,17 @@ fn tree_plan(alloc: Global, tree: &Table) -> Result<Plan, PlanFault>
     ensures ok { IfOk result (λ plan. tree_plan (table_view tree.now) ≡ Ok (contents_of plan)) }
     ensures fault { IfErr result (IsFaultOf (tree_plan (table_view tree.now))) }
 {
-    if !is_sound(tree) {
-        refuse(PlanWhy::Key, key_fault(tree))?;
-        refuse(PlanWhy::Kind, kind_fault(tree))?;
+    if !is_sound(Format::Plan, tree) {
+        refuse(PlanWhy::Key, key_fault(Format::Plan, tree))?;
+        refuse(PlanWhy::Kind, kind_fault(Format::Plan, tree))?;
     }
     let raw = raw_plan(alloc, tree)?;
     named_plan(alloc, &raw)
 }
 
-/// The plan of rows with names.
+/// The plan of rows with names, or the first refusal that isn't of keys and kinds.
 #[tactic(auto, unfolding(crate::specs::PlanOf::named_plan), using(crate::proofs::FewLemmas::few_of))]
-fn named_plan(alloc: Global, raw: &RawPlan) -> Result<Plan, PlanFault>
+pub fn named_plan(alloc: Global, raw: &RawPlan) -> Result<Plan, PlanFault>
     ensures ok { IfOk result (λ plan. named_plan raw.now ≡ Ok (contents_of plan)) }
     ensures fault { IfErr result (IsFaultOf (named_plan raw.now)) }
 {

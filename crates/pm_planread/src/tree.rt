@@ -14,9 +14,13 @@ mod text;
 mod tree;
 
 pub use key_faults::key_fault;
+pub use keys::Format;
 pub use kind_faults::kind_fault;
 pub use place::{Place, Section};
-pub use raw::{Codes64, RawCaller, RawDevice, RawDomain, RawLink, RawPlan, raw_plan};
+pub use raw::{
+    Codes64, RawCaller, RawDevice, RawDomain, RawLink, RawPlan, number_at, raw_plan, switch_at,
+    text_at, texts_in,
+};
 pub use sound::is_sound;
 pub use text::Text;
-pub use tree::document;
+pub use tree::{Entry, document, entries_of, items_in, list_at, list_in};

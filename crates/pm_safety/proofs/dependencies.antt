@@ -10,6 +10,6 @@ mod BrokenBy
 mod StandLemmas
 mod GroupLemmas
 mod PastLemmas
-mod ReplayLemmas
+mod LineLemmas
 mod ToldLemmas
 mod KeptLemmas

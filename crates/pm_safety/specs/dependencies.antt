@@ -7,5 +7,4 @@ pub mod Broken
 pub mod Turning
 pub mod Looked
 pub mod Grouped
-pub mod Replayed
 pub mod Kept

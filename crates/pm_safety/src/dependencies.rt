@@ -6,7 +6,6 @@ mod domains;
 mod groups;
 mod laws;
 mod past;
-mod replay;
 mod standing;
 mod told;
 
@@ -14,5 +13,4 @@ pub use bond::{Bond, Excuse};
 pub use bonds::Bonds;
 pub use domains::{DomainOn, domains_left};
 pub use laws::{domains_stay_on, lines_break_near_bonds, lines_turn_their_device};
-pub use replay::Replay;
 pub use standing::{off_domain, off_link, off_parent};

@@ -8,7 +8,7 @@
 pub mod further;
 pub mod lint_text;
 pub mod lints;
-mod notes;
+pub mod notes;
 mod others;
 mod refused;
 mod told;

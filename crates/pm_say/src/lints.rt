@@ -35,4 +35,6 @@ pub enum Warning {
     DomainOff { caller: usize, command: usize },
     /// The last get or put of a device in a script that has more or fewer gets of it than puts.
     Uneven { caller: usize, command: usize },
+    /// `disable` of a device that some script lets use autosuspend, and that none stops from it.
+    KeepsAutosuspend { caller: usize, command: usize },
 }

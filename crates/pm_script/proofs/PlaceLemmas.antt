@@ -5,9 +5,8 @@ use Rattle.pm_model.specs.Spelling.{takes_device}
 use Rattle.pm_model.specs.declared.event.Helper.{Helper}
 use Rattle.pm_model.specs.declared.event.Operand.{Operand}
 use Rattle.pm_model.specs.declared.event.Operand.TheVariants.{Nothing, Milliseconds, Switch, Supplier}
-use Rattle.std.specs.Prelude.{Result, Ok, Err, pos}
+use Rattle.std.specs.Prelude.{Result, Ok, Err}
 use Rattle.pm_model.specs.Spelling.{operand_of}
-use Rattle.pm_model.specs.declared.event.Command.{Command}
 use Rattle.pm_script.specs.Command.{command_at, command_in, device_in, ended, helper_in, operand_in, result_and_then, word_count, word_left, words_before_operand}
 use Rattle.pm_script.specs.declared.fault.ScriptFault.{ScriptFault}
 

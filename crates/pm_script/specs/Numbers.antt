@@ -1,27 +1,17 @@
 -- The numbers that a command takes: an optional minus sign and 1 to 10 decimal digits, or the words on and off (this
 -- project's own).
-use Rattle.std.specs.Prelude.{ℕ, Bool, ◌&&◌, ◌||◌, List, [], ◌∷◌, Option, Some, None, ℤ, pos, neg_ℤ, codes, length, nat_eq, nat_le, int_le, option_and_then, option_map, if◌then◌else◌}
-use Rattle.std.specs.Char.{is_ascii_digit}
-use Rattle.std.specs.List.{list_all}
+use Rattle.std.specs.Prelude.{ℕ, Bool, ◌&&◌, ◌||◌, List, [], ◌∷◌, Option, Some, None, ℤ, pos, neg_ℤ, codes, nat_eq, int_le, option_and_then, option_map, if◌then◌else◌}
 use Rattle.std.specs.Ordering.{int_eq}
 use Rattle.std.specs.Str.{bytes_eq}
-use Rattle.std.specs.Str.Parse.{digits_value}
 use Rattle.pm_model.specs.IsPlan.{least_ms}
 use Rattle.pm_model.specs.declared.event.Helper.{Helper}
-
--- 1 to 10 decimal digits
-abbrev pub are_digits : List ℕ → Bool
-are_digits text = nat_le 1 (length text) && nat_le (length text) 10 && list_all is_ascii_digit text
-
--- the number that the digits write
-unfoldable pub natural_in : List ℕ → Option ℕ
-natural_in text = if are_digits text then Some (digits_value 10 text) else None
+use Rattle.pm_linetext.specs.Digits.{natural_in}
 
 -- the number that an optional minus sign and digits write; -0 is 0
 unfoldable pub number_in : List ℕ → Option ℤ
 number_in [] = None
 number_in (c ∷ text) =
-    if nat_eq c 45 then option_map (λ n. neg_ℤ (pos n)) (natural_in text) else option_map (λ n. pos n) (natural_in (c ∷ text))
+    if nat_eq c 45 then option_map (λ n. neg_ℤ (pos n)) (natural_in 10 text) else option_map (λ n. pos n) (natural_in 10 (c ∷ text))
 
 -- the helper takes this number
 abbrev pub is_taken : Helper → ℤ → Bool

@@ -5,9 +5,8 @@ use crate::head::Head;
 use crate::rows::{Row, Rows, Subject};
 use crate::scene::{LeftOn, Run, Survey, push_end};
 use crate::svg::Style;
-use itoa::Buffer;
 use pm_base::{DevId, NoMemory};
-use pm_find::text::{push, push_number};
+use pm_linetext::{push, push_number};
 use std::alloc::Global;
 
 /// Room for moments above the lanes, in pixels.
@@ -180,7 +179,8 @@ fn draw_moment(canvas: &mut Canvas<'_>, x: u32, time: u64, free: &mut u32) -> Re
     if x < *free {
         return Ok(());
     }
-    canvas.say(Buffer::new().format(time).as_bytes())?;
+    canvas.say(b"")?;
+    push_number(&mut canvas.pen.words, time)?;
     push(&mut canvas.pen.words, b" ms")?;
     *free = x
         .saturating_add(text_width(canvas.pen.words.len()))
@@ -211,7 +211,7 @@ fn write_number(canvas: &mut Canvas<'_>, number: u32, x: u32) -> Result<(), NoMe
     let bottom = canvas.frame.top.saturating_add(canvas.rows.height());
     canvas.point_at(number)?;
     canvas.say(b"line ")?;
-    push_number(&mut canvas.pen.words, number)?;
+    push_number(&mut canvas.pen.words, u64::from(number))?;
     canvas.label(Style::Number, x, bottom.saturating_add(14), false)
 }
 

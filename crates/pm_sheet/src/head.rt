@@ -2,10 +2,10 @@
 
 use crate::canvas::{Canvas, text_width};
 use crate::svg::Style;
-use itoa::Buffer;
 use pm_base::NoMemory;
 use pm_find::findings::{Finding, Weight};
-use pm_find::text::{push, push_finding};
+use pm_find::text::push_finding;
+use pm_linetext::{push, push_number};
 
 /// So many findings are told at most.
 pub const MOST: usize = 6;
@@ -46,10 +46,7 @@ impl Head<'_> {
 
 // Appends a number and a word.
 fn push_counted(canvas: &mut Canvas<'_>, count: u64, word: &[u8]) -> Result<(), NoMemory> {
-    push(
-        &mut canvas.pen.words,
-        Buffer::new().format(count).as_bytes(),
-    )?;
+    push_number(&mut canvas.pen.words, count)?;
     push(&mut canvas.pen.words, word)
 }
 
@@ -133,7 +130,7 @@ fn draw_keys(canvas: &mut Canvas<'_>) -> Result<(), NoMemory> {
 fn write_finding(canvas: &mut Canvas<'_>, found: &Finding, y: u32) -> Result<(), NoMemory> {
     let plan = canvas.run.plan;
     canvas.say(b"")?;
-    push_finding(&mut canvas.pen.words, plan, b"line", found)?;
+    push_finding(&mut canvas.pen.words, plan, b"line", found, b"")?;
     canvas.pen.words.pop();
     if let Some(colon) = canvas.pen.words.get_mut(4) {
         *colon = b' ';

@@ -7,7 +7,7 @@ use crate::columns::Span;
 use crate::scene::Run;
 use crate::svg::{Block, Drawing, Label, Rule, Style};
 use pm_base::NoMemory;
-use pm_find::text::push;
+use pm_linetext::push;
 use std::alloc::Global;
 
 /// What draws.

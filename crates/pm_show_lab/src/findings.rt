@@ -7,7 +7,7 @@ use anyhow::Result;
 use pm_base::{NoMemory, PLAN_BYTES};
 use pm_book::Book;
 use pm_find::findings::findings;
-use pm_find::text::{push_count, push_findings};
+use pm_find::text::{push_count, push_finding};
 use pm_io::{Files, read_all};
 use pm_laws::bounds::lines_are_bounded;
 use pm_planread::read_plan;
@@ -63,7 +63,9 @@ fn told(alloc: Global, file: &[u8], book: &Book) -> Result<Vec<u8>, NoMemory> {
     let lines = book.lines();
     let all = findings(alloc, book.plan(), lines, book.finished())?;
     let mut text = Vec::new(alloc);
-    push_findings(&mut text, book.plan(), file, &all)?;
+    for found in all.as_slice() {
+        push_finding(&mut text, book.plan(), file, found, b"")?;
+    }
     push_count(&mut text, all.len(), lines.len())?;
     Ok(text)
 }

@@ -1,9 +1,9 @@
-//! Shows the orders of the plans of the folder `data`, searched through.
+//! Shows the schedules of the plans of the folder `data`, searched through.
 //!
-//! `searches.list` names the searches: a plan, whose file is `orders_NAME.toml`, a pace, how many disturbances there may be, how many spots, and what is
-//! told. Of each it is told how the search ended, how many spots there are by at most 0, 1, .. disturbances, and the text
-//! of what they show, of all or of what differs, or how many marks there are by at most 0, 1, .. disturbances. How many
-//! spots there are at a prompt pace, of the camera, the failing parent and the panel, was counted by another program too.
+//! `searches.list` names the searches: a plan, whose file is `orders_NAME.toml`, a pace, how many preemptions there may be, how many snapshots, and what is
+//! told. Of each it is told how the search ended, how many snapshots there are by at most 0, 1, .. preemptions, and the text
+//! of what they show, of all or of what differs, or how many observations there are by at most 0, 1, .. preemptions. How many
+//! snapshots there are at an eager pace, of the camera, the failing parent and the panel, was counted by another program too.
 //! Behind them a small graph of numbers is searched (`numbers`), and its rounds can be counted by hand.
 
 mod numbers;
@@ -43,7 +43,7 @@ fn pace_of(word: &str) -> Pace {
     if word == "late" {
         Pace::Late
     } else {
-        Pace::Prompt
+        Pace::Eager
     }
 }
 
@@ -62,35 +62,40 @@ fn tell<R: Print>(
         return Ok(());
     };
     let all = all_outcomes(alloc, &plan, pace, most, limit)?;
-    show_rounds(rt, all.found.ended, all.found.rounds.as_slice(), "spots")?;
+    show_rounds(
+        rt,
+        all.found.ended,
+        all.found.rounds.as_slice(),
+        "snapshots",
+    )?;
     match told {
         "counts" => show_counts(rt, &all),
         _ => show_text(rt, alloc, &plan, &all, told == "differ"),
     }
 }
 
-/// Writes how many marks there are by at most 0, 1, .. disturbances.
+/// Writes how many observations there are by at most 0, 1, .. preemptions.
 fn show_counts<R: Print>(rt: &R, all: &Outcomes) -> Result<()> {
     for most in 0..all.found.rounds.len() {
         let count = marks_within(all, most);
         print!(rt; "{count} ")?;
     }
-    println!(rt; "marks")?;
+    println!(rt; "observations")?;
     Ok(())
 }
 
-/// How many marks there are by at most so many disturbances.
+/// How many observations there are by at most so many preemptions.
 fn marks_within(all: &Outcomes, most: usize) -> usize {
     let mut count = 0usize;
-    for mark in all.marks.as_slice() {
-        if mark.round <= most {
+    for observation in all.observations.as_slice() {
+        if observation.round <= most {
             count = count.saturating_add(1);
         }
     }
     count
 }
 
-/// Writes what the orders show.
+/// Writes what the schedules show.
 fn show_text<R: Print>(
     rt: &R,
     alloc: Global,

@@ -7,7 +7,7 @@
 use anyhow::Result;
 use pm_base::PLAN_BYTES;
 use pm_io::{Files, read_all};
-use pm_say::say;
+use pm_say_driver::say_file;
 use std::alloc::{AllocError, Global};
 use std::io::{Print, Write};
 use std::{io, str};
@@ -29,7 +29,7 @@ pub fn show<R: Print, F: Files>(rt: &R, alloc: Global, files: &mut F) -> Result<
 
 /// Writes what is told of a plan.
 fn tell<R: Print>(rt: &R, alloc: Global, case: &str, plan: &[u8]) -> Result<()> {
-    let said = say(alloc, case.as_bytes(), plan)?;
+    let said = say_file(alloc, case.as_bytes(), plan)?;
     let kind = said.kind;
     let mut out = io::writer(rt);
     writeln!(out, "# {kind:?}")?;

@@ -9,7 +9,7 @@ mod texts;
 
 use crate::common::{tell, word};
 use anyhow::Result;
-use audits::{SAID, is_said};
+use audits::{SAID, STORED, is_said, is_said_of_stored};
 use calls::{by_few_bytes, ends_whole, failed_reads, failed_writes};
 use edits::{Usb, judged_as_told, stored_usb};
 use judges::{book_takes, judge_offers, judge_takes, steps_then_drain};
@@ -29,6 +29,7 @@ pub fn show<R: Print + Threads + Wait + Sync, F: Files>(
     files: &mut F,
 ) -> Result<()> {
     tell_audits(rt, alloc)?;
+    tell_stored_audits(rt, alloc, files)?;
     tell_judges(rt, alloc)?;
     tell_stands(rt, alloc)?;
     tell_runs(rt, alloc)?;
@@ -42,6 +43,19 @@ pub fn show<R: Print + Threads + Wait + Sync, F: Files>(
 fn tell_audits<P: Print>(rt: &P, alloc: Global) -> io::Result<()> {
     for said in &SAID {
         tell(rt, said.shows, is_said(alloc, said))?;
+    }
+    Ok(())
+}
+
+/// Tells whether the same is said of stored traces, however they are cut into pieces.
+fn tell_stored_audits<P: Print, F: Files>(rt: &P, alloc: Global, files: &mut F) -> io::Result<()> {
+    for said in &STORED {
+        let trace = said.trace;
+        let told = match is_said_of_stored(alloc, files, said) {
+            Ok(is_so) => word(Ok(is_so)),
+            Err(_) => "not tried",
+        };
+        println!(rt; "{trace} in one piece, in pieces of 7 bytes and of one: {told}")?;
     }
     Ok(())
 }

@@ -6,6 +6,7 @@
 
 mod comparing;
 mod counters;
+mod worked;
 
 use crate::common::{ticker, words_of};
 use anyhow::Result;
@@ -20,7 +21,7 @@ use std::io::Print;
 use std::sync::Wait;
 use std::thread::Threads;
 
-/// Tells of each command, and of the counters after each run.
+/// Tells of each command, of the counters after each run, and of what else is told of runs.
 pub fn show<R: Print + Threads + Wait + Sync, F: Files>(
     rt: &R,
     alloc: Global,
@@ -41,7 +42,7 @@ pub fn show<R: Print + Threads + Wait + Sync, F: Files>(
             println!(rt; "counters {plan}: {told}")?;
         }
     }
-    Ok(())
+    worked::show(rt, alloc, files)
 }
 
 /// The file with what is stored, and the words behind its name. A line that begins with `#` is no case.

@@ -77,7 +77,7 @@ pub fn show<R: Print + Threads + Wait + Clock + Sync>(rt: &R, alloc: Global) -> 
 }
 
 /// What the cases show that are in no table, and what each came to.
-fn other_cases<R: Threads + Wait + Clock + Sync>(rt: &R, alloc: Global) -> [Tried; 15] {
+fn other_cases<R: Threads + Wait + Clock + Sync>(rt: &R, alloc: Global) -> [Tried; 16] {
     let [devices, links, scripts] = generator::shows(alloc);
     told! {
         "list, rows come back as they were": named::come_back(alloc);
@@ -88,6 +88,7 @@ fn other_cases<R: Threads + Wait + Clock + Sync>(rt: &R, alloc: Global) -> [Trie
         "generated plan, devices and domains": devices;
         "generated plan, links": links;
         "generated plan, scripts": scripts;
+        "generated plan, two devices": generator::two_devices(alloc);
         "summary, begins are counted": summaries::begins_are_counted(alloc);
         "summary, the text is one line": summaries::text_is_one_line(alloc);
         "gate, callbacks at once meet": Ok(gates::at_once_meet(rt));

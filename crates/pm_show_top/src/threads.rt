@@ -13,7 +13,7 @@ use cases::{
     held_lock_stops_no_other, hints_decide_nothing, strange_book_is_replaced,
 };
 use choosing::{Shown, desk_waits_for_callers, hands_rest, in_some, silent_clock_ends};
-use plans::{HUB, TIMED};
+use plans::{HUB, TIED, TIMED};
 use std::alloc::Global;
 use std::io;
 use std::io::Print;
@@ -74,7 +74,7 @@ fn island_cases<R: Threads + Wait + Sync>(rt: &R, alloc: Global) -> [Tried; 5] {
 }
 
 /// What is shown of what `run` writes, and of scripts that passes call.
-fn written_cases<R: Threads + Wait + Sync>(rt: &R, alloc: Global) -> [Tried; 10] {
+fn written_cases<R: Threads + Wait + Sync>(rt: &R, alloc: Global) -> [Tried; 13] {
     [
         (
             "what run writes by 2 hands has side by side what serial has one behind the other",
@@ -85,8 +85,14 @@ fn written_cases<R: Threads + Wait + Sync>(rt: &R, alloc: Global) -> [Tried; 10]
             meets(rt, alloc, Way::Hands(2)),
         ),
         (
-            "run by 4 hands calls the gate once for each begin line that it writes",
-            run_counts_callbacks(rt, alloc),
+            "run by 1 hand calls the gate once for each begin line that it writes",
+            run_counts_callbacks(rt, alloc, 1),
+        ),
+        ("by 2 hands", run_counts_callbacks(rt, alloc, 2)),
+        ("by 4 hands", run_counts_callbacks(rt, alloc, 4)),
+        (
+            "what run writes by 2 hands of one island passes its audit",
+            passes_audit(rt, alloc, Way::Hands(2), TIED),
         ),
         (
             "what run writes by 1 hand has the times of its clock",

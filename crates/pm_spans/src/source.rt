@@ -12,6 +12,7 @@ mod places;
 mod visible;
 
 pub use excerpt::{Span, push_excerpt, push_hint};
-pub use pieces::{push, push_number};
+pub use pieces::push_number;
 pub use places::{Spot, mark_len, push_place, spot_of, without_return};
+pub use pm_linetext::push;
 pub use visible::push_visible;

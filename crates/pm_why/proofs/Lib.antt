@@ -1,3 +1,4 @@
+pub mod BookLemmas
 pub mod Counts
 pub mod Claims
 pub mod ClaimRows

@@ -1,5 +1,5 @@
 -- The counts of each reason on a device, and how they move with a line.
-use Rattle.std.proofs.Common.{ℕ, ◌≡◌, ◌+◌, ◌<◌, Bool, true, false, cond, not, ◌&&◌, List, ◌∷◌, Option, Some, None, length, if◌then◌else◌, ap, refl, sym, ◌∙◌, arith, subst}
+use Rattle.std.proofs.Common.{ℕ, ◌≡◌, ◌+◌, ◌<◌, Bool, true, false, cond, not, ◌&&◌, List, ◌∷◌, Some, None, length, if◌then◌else◌, ap, refl, sym, ◌∙◌, arith, subst}
 use Rattle.std.specs.Option.{option_and_then}
 use Rattle.std.proofs.lemmas.List.Sums.{sum_by-cons}
 use Rattle.pm_base.specs.declared.Cb.TheVariants as cb

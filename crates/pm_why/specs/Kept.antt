@@ -1,5 +1,5 @@
 -- What is kept of a device while the lines of a run come (this project's own). Lists of lines have the newest line first.
-use Rattle.std.specs.Prelude.{ℕ, ◌≡◌, List, Option, Some, None, IfSome, if◌then◌else◌}
+use Rattle.std.specs.Prelude.{ℕ, ◌≡◌, Option, Some, None, IfSome, if◌then◌else◌}
 use Rattle.pm_base.specs.declared.DevId.{DevId}
 use Rattle.pm_model.specs.declared.event.Event.{Event}
 use Rattle.pm_model.specs.History.{History}

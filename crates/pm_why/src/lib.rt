@@ -10,11 +10,13 @@ ghost use Rattle.pm_why.specs.declared.Reason.TheVariants as reason;
 ghost use Rattle.pm_why.specs.Kept.{IsTold, TellsOf};
 ghost use Rattle.pm_why.specs.Reasons.{child_reasons, is_child, reasons_on, when};
 
+mod booked;
 mod gets;
 mod kept;
 mod laws;
 mod texts;
 
+pub use booked::book_reasons;
 use gets::{Count, Found};
 pub use kept::Gets;
 pub use laws::{counts_are_usage, free_devices_suspend, puts_close_gets};

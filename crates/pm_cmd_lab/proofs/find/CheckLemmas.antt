@@ -8,6 +8,7 @@ use Rattle.pm_expect.specs.declared.expectation.Expectations.{Expectations}
 use Rattle.pm_expect_report.specs.refused.Tells.{Tells}
 use Rattle.pm_find.specs.declared.trace.telling.Found.{Found}
 use Rattle.pm_model.specs.declared.plan.Plan.{Plan}
+use Rattle.pm_planread.specs.PlanOf.{contents_of, plan_of}
 use Rattle.pm_cmd_lab.specs.ends.Coming.{Came, Work, Writes}
 use Rattle.pm_cmd_lab.specs.ends.Ending.{Answered, Ending, OfThis, Refused, SaidRefused, ended, no_memory, unread, unwritten}
 use Rattle.pm_cmd_lab.specs.ends.Reading.{OfPlan, held, read as plan_read}
@@ -53,15 +54,19 @@ over_expected all known file Ends plan text expected U V out work later are came
     came_weaker (Ends plan text expected) (OfExpectations all known file Ends plan) U V (λ ending ends. read text expected are ending ends) later out work came
 
 -- of the trace's file
-pub found_of_trace : (all : Bool) (known : Option (List ℕ)) (trace file : List ℕ) (ktap notes : Bool) (plan : Plan) (text : List ℕ) (expected : Expectations) (found : Found) (Unread : Type 0) (out : Taking) (work : Work)
-    → IsTold all known plan file text expected trace ktap notes found → Came (FindEnds found) work ⊥ out → Came (OfCheck all known trace file ktap notes plan text expected) work Unread out
-found_of_trace all known trace file ktap notes plan text expected found Unread out work is came =
-    came_weaker (FindEnds found) (OfCheck all known trace file ktap notes plan text expected) ⊥ Unread (λ ending ends. told found is ending ends) (λ none. absurd none) out work came
+pub found_of_trace : (all : Bool) (known : Option (List ℕ)) (name trace file source named given : List ℕ) (ktap notes : Bool) (plan : Plan) (text : List ℕ) (expected : Expectations) (found : Found) (Unread : Type 0) (out : Taking) (work : Work)
+    → plan_of source ≡ Ok (contents_of plan) → named ≡ name → given ≡ source → IsTold all known plan file text expected (record { trace = trace; plan = named; text = given }) ktap notes found
+    → Came (FindEnds found) work ⊥ out → Came (OfCheck all known name trace file ktap notes plan text expected) work Unread out
+found_of_trace all known name trace file source named given ktap notes plan text expected found Unread out work reads same_name same_text is came =
+    came_weaker (FindEnds found) (OfCheck all known name trace file ktap notes plan text expected) ⊥ Unread
+    (λ ending ends. told source reads found
+    (subst (λ (n : List ℕ). IsTold all known plan file text expected (record { trace = trace; plan = n; text = source }) ktap notes found) same_name
+    (subst (λ (t : List ℕ). IsTold all known plan file text expected (record { trace = trace; plan = named; text = t }) ktap notes found) same_text is)) ending ends) (λ none. absurd none) out work came
 
-pub trace_long : (all : Bool) (known : Option (List ℕ)) (trace file : List ℕ) (ktap notes : Bool) (plan : Plan) (text : List ℕ) (expected : Expectations) (said : Vec ℕ Global) (Unread : Type 0) (out : Taking)
-    → IsTooLong all known 67108864 → said.items ≡ trace_too_long → TookNothing out → Came (OfCheck all known trace file ktap notes plan text expected) (Err (fault.Refused said)) Unread out
-trace_long all known trace file ktap notes plan text expected said Unread out long same nothing =
-    (subst (λ (bytes : List ℕ). OfCheck all known trace file ktap notes plan text expected (Refused bytes)) (sym same) (too_many long), nothing)
+pub trace_long : (all : Bool) (known : Option (List ℕ)) (name trace file : List ℕ) (ktap notes : Bool) (plan : Plan) (text : List ℕ) (expected : Expectations) (said : Vec ℕ Global) (Unread : Type 0) (out : Taking)
+    → IsTooLong all known 67108864 → said.items ≡ trace_too_long → TookNothing out → Came (OfCheck all known name trace file ktap notes plan text expected) (Err (fault.Refused said)) Unread out
+trace_long all known name trace file ktap notes plan text expected said Unread out long same nothing =
+    (subst (λ (bytes : List ℕ). OfCheck all known name trace file ktap notes plan text expected (Refused bytes)) (sym same) (too_many long), nothing)
 
 -- which file's read failed
 pub plan_failed : (all : Bool) (known : List ℕ → Option (List ℕ)) (plan expect trace name : List ℕ) (Alone Failed : Type 0) → (IsSome (known plan) → Alone) → OfThis plan Failed name → CheckUnread all known plan expect trace Alone Failed name

@@ -1,5 +1,5 @@
 -- What `find` comes to.
-use Rattle.std.proofs.Common.{◌≡◌, ◌∙◌, ℕ, Bool, List, Option, Err, Vec, Global, ap, subst, sym}
+use Rattle.std.proofs.Common.{◌≡◌, ◌∙◌, ℕ, Bool, List, Option, Ok, Err, Vec, Global, ap, subst, sym}
 use Rattle.std.specs.Prelude.{IsSome}
 use Rattle.pm_cmd_ends.specs.Coming.{trace_too_long}
 use Rattle.pm_cmd_ends.specs.Ending.{Taking, TookNothing}
@@ -7,6 +7,7 @@ use Rattle.pm_cmd_ends.specs.Reading.{IsRead, IsTooLong}
 use Rattle.pm_find.specs.trace.Telling.{IsTold}
 use Rattle.pm_find.specs.declared.trace.telling.Found.{Found}
 use Rattle.pm_model.specs.declared.plan.Plan.{Plan}
+use Rattle.pm_planread.specs.PlanOf.{contents_of, plan_of}
 use Rattle.pm_cmd_lab.specs.ends.Coming.{Came, Work, Writes, ending_of}
 use Rattle.pm_cmd_lab.specs.ends.Ending.{OfThis, Refused}
 use Rattle.pm_cmd_lab.specs.declared.ends.ending.Fault.TheVariants as fault
@@ -23,16 +24,20 @@ found_written piece found outcome out work same_outcome same came =
     (λ none. none) out work came
 
 -- of the trace's file
-pub found_of_file : (all : Bool) (known : Option (List ℕ)) (file : List ℕ) (notes : Bool) (plan : Plan) (found : Found) (Unread : Type 0) (out : Taking) (work : Work)
-    → IsTold all known plan file notes found → Came (FindEnds found) work ⊥ out → Came (OfFind all known file notes plan) work Unread out
-found_of_file all known file notes plan found Unread out work is came =
-    came_weaker (FindEnds found) (OfFind all known file notes plan) ⊥ Unread (λ ending ends. told found is ending ends) (λ none. absurd none) out work came
+pub found_of_file : (all : Bool) (known : Option (List ℕ)) (name file text named read : List ℕ) (notes : Bool) (plan : Plan) (found : Found) (Unread : Type 0) (out : Taking) (work : Work)
+    → plan_of text ≡ Ok (contents_of plan) → named ≡ name → read ≡ text → IsTold all known plan (record { trace = file; plan = named; text = read }) notes found → Came (FindEnds found) work ⊥ out
+    → Came (OfFind all known name file notes plan) work Unread out
+found_of_file all known name file text named read notes plan found Unread out work source same_name same_text is came =
+    came_weaker (FindEnds found) (OfFind all known name file notes plan) ⊥ Unread
+    (λ ending ends. told text source found
+    (subst (λ (n : List ℕ). IsTold all known plan (record { trace = file; plan = n; text = text }) notes found) same_name
+    (subst (λ (t : List ℕ). IsTold all known plan (record { trace = file; plan = named; text = t }) notes found) same_text is)) ending ends) (λ none. absurd none) out work came
 
 -- a trace that is too long
-pub long_refused : (all : Bool) (known : Option (List ℕ)) (file : List ℕ) (notes : Bool) (plan : Plan) (text : Vec ℕ Global) (Unread : Type 0) (out : Taking)
-    → IsTooLong all known 67108864 → text.items ≡ trace_too_long → TookNothing out → Came (OfFind all known file notes plan) (Err (fault.Refused text)) Unread out
-long_refused all known file notes plan text Unread out long same nothing =
-    (subst (λ (bytes : List ℕ). OfFind all known file notes plan (Refused bytes)) (sym same) (too_many long), nothing)
+pub long_refused : (all : Bool) (known : Option (List ℕ)) (name file : List ℕ) (notes : Bool) (plan : Plan) (text : Vec ℕ Global) (Unread : Type 0) (out : Taking)
+    → IsTooLong all known 67108864 → text.items ≡ trace_too_long → TookNothing out → Came (OfFind all known name file notes plan) (Err (fault.Refused text)) Unread out
+long_refused all known name file notes plan text Unread out long same nothing =
+    (subst (λ (bytes : List ℕ). OfFind all known name file notes plan (Refused bytes)) (sym same) (too_many long), nothing)
 
 -- which file's read failed
 pub plan_failed : (all : Bool) (known : Option (List ℕ)) (plan trace name : List ℕ) (Alone Failed : Type 0) → (IsSome known → Alone) → OfThis plan Failed name → FindUnread all known plan trace Alone Failed name

@@ -1,4 +1,4 @@
--- The run to which one thread goes on from an order that shows a mark.
+-- The run to which one thread goes on from a schedule that shows an observation.
 use Rattle.std.proofs.Common.{ℕ, ◌≡◌, true, false, List, nat_eq, reverse, refl, sym, subst, ap, ◌∙◌}
 use Rattle.pm_outcomes.specs.islands.Homes.{home}
 use Rattle.pm_cmd_ends.specs.Ending.{Taking}
@@ -8,12 +8,12 @@ use Rattle.pm_cmd_lab.specs.ends.Coming.{Came, Writes, ending_of}
 use Rattle.pm_cmd_lab.specs.ends.Coming.{Work as EndsWork}
 use Rattle.pm_cmd_lab.specs.declared.ends.ending.Outcome.{Outcome}
 use Rattle.pm_cmd_lab.proofs.ends.EndLemmas.{came_weaker}
-use Rattle.pm_cmd_lab.specs.order.Order.{MarkEnds, run_ending, shows}
+use Rattle.pm_cmd_lab.specs.order.Order.{ObservationEnds, run_ending, shows}
 use Rattle.pm_cmd_lab.specs.order.Showing.{IsShowing}
-use Rattle.pm_cmd_lab.specs.order.Work.{IsWayTo, outcome_of_end}
+use Rattle.pm_cmd_lab.specs.order.Work.{IsPathTo, outcome_of_end}
 use Rattle.pm_lab_words.specs.declared.request.Bounds.{Bounds}
 use Rattle.pm_laws.specs.islands.Apart.{StandAlike}
-use Rattle.pm_outcomes.specs.declared.list.marks.Mark.{Mark}
+use Rattle.pm_outcomes.specs.declared.list.observations.Observation.{Observation}
 use Rattle.pm_model.specs.declared.event.Line.{Line}
 use Rattle.pm_model.specs.declared.plan.Plan.{Plan}
 use Rattle.pm_model.specs.FirstBad.{AreLinesOf}
@@ -38,14 +38,14 @@ spelled_text plan spelled lines format spelled_is format_is =
     ap (λ (q : Plan). text_in format q lines) spelled_is ∙ ap (λ (f : Format). text_in f plan lines) format_is ∙ own_format plan lines
 
 -- what a book shows of the run
-is_showing : (bounds : Bounds) (plan spelled : Plan) (mark : Mark) (given lines : List Line) (h : History) (e : End) (way : IsWayTo bounds plan mark given)
-    → StandAlike plan way.at.numbering.island (home way.at.numbering.island mark) (world plan (reverse given)) (world way.part (reverse given)) → spelled ≡ plan → reverse lines ≡ h → IsLawful spelled h → AreLinesOf spelled h
-    → GoesOnFrom plan (reverse given) h e → IsShowing bounds plan mark way.part way.at way.found lines e
-is_showing bounds plan spelled mark given lines h e way stands same lines_are lawful of_plan goes = record {
+is_showing : (bounds : Bounds) (plan spelled : Plan) (observation : Observation) (given lines : List Line) (h : History) (e : End) (path : IsPathTo bounds plan observation given)
+    → StandAlike plan path.at.numbering.island (home path.at.numbering.island observation) (world plan (reverse given)) (world path.part (reverse given)) → spelled ≡ plan → reverse lines ≡ h → IsLawful spelled h → AreLinesOf spelled h
+    → GoesOnFrom plan (reverse given) h e → IsShowing bounds plan observation path.part path.at path.found lines e
+is_showing bounds plan spelled observation given lines h e path stands same lines_are lawful of_plan goes = record {
   lawful = subst (IsLawful plan) (sym lines_are) (subst (λ (q : Plan). IsLawful q h) same lawful);
   of_plan = subst (AreLinesOf plan) (sym lines_are) (subst (λ (q : Plan). AreLinesOf q h) same of_plan);
   order = reverse given;
-  fewest = way.fewest;
+  fewest = path.fewest;
   stands = stands;
   goes_on = subst (λ (l : History). GoesOnFrom plan (reverse given) l e) (sym lines_are) goes;
 }
@@ -55,12 +55,12 @@ pub ending_is : (e : End) (trace : List ℕ) → ending_of (outcome_of_end e) tr
 ending_is end.Finished trace = refl
 ending_is end.AtLimit trace = refl
 
-pub shown_written : (bounds : Bounds) (plan spelled shown : Plan) (mark : Mark) (given lines : List Line) (h : History) (e : End) (told : Outcome) (out : Taking) (work : EndsWork) (way : IsWayTo bounds plan mark given)
-    → StandAlike plan way.at.numbering.island (home way.at.numbering.island mark) (world plan (reverse given)) (world way.part (reverse given)) → spelled ≡ plan → shown ≡ spelled → reverse lines ≡ h
-    → IsLawful spelled h → AreLinesOf spelled h → GoesOnFrom plan (reverse given) h e → told ≡ outcome_of_end e → Came (Writes told (text shown lines)) work ⊥ out → Came (MarkEnds bounds plan mark) work ⊥ out
-shown_written bounds plan spelled shown mark given lines h e told out work way stands same shown_is lines_are lawful of_plan goes told_is came =
-    came_weaker (Writes told (text shown lines)) (MarkEnds bounds plan mark) ⊥ ⊥
-    (λ ending is. subst (MarkEnds bounds plan mark) (sym (is ∙ ends)) (shows way.part way.at way.found lines e (is_showing bounds plan spelled mark given lines h e way stands same lines_are lawful of_plan goes)))
+pub shown_written : (bounds : Bounds) (plan spelled shown : Plan) (observation : Observation) (given lines : List Line) (h : History) (e : End) (told : Outcome) (out : Taking) (work : EndsWork) (path : IsPathTo bounds plan observation given)
+    → StandAlike plan path.at.numbering.island (home path.at.numbering.island observation) (world plan (reverse given)) (world path.part (reverse given)) → spelled ≡ plan → shown ≡ spelled → reverse lines ≡ h
+    → IsLawful spelled h → AreLinesOf spelled h → GoesOnFrom plan (reverse given) h e → told ≡ outcome_of_end e → Came (Writes told (text shown lines)) work ⊥ out → Came (ObservationEnds bounds plan observation) work ⊥ out
+shown_written bounds plan spelled shown observation given lines h e told out work path stands same shown_is lines_are lawful of_plan goes told_is came =
+    came_weaker (Writes told (text shown lines)) (ObservationEnds bounds plan observation) ⊥ ⊥
+    (λ ending is. subst (ObservationEnds bounds plan observation) (sym (is ∙ ends)) (shows path.part path.at path.found lines e (is_showing bounds plan spelled observation given lines h e path stands same lines_are lawful of_plan goes)))
     (λ none. none) out work came
   where
     ends : ending_of told (text shown lines) ≡ run_ending e (text plan lines)

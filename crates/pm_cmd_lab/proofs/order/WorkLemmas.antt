@@ -10,12 +10,12 @@ use Rattle.pm_outcomes.specs.declared.wanted.sought.Missing.{Missing}
 use Rattle.pm_cmd_lab.specs.declared.order.stop.Stop.{Stop}
 use Rattle.pm_cmd_lab.specs.declared.order.stop.Stop.TheVariants as stop
 use Rattle.pm_outcomes.specs.wanted.Missing.{missing_text}
-use Rattle.pm_cmd_lab.specs.order.Order.{MarkEnds, OrderEnds, has, lacks}
+use Rattle.pm_cmd_lab.specs.order.Order.{ObservationEnds, OrderEnds, has, lacks}
 use Rattle.pm_lab_words.specs.Request.{Sought}
-use Rattle.pm_outcomes.specs.wanted.Sought.{mark_sought}
+use Rattle.pm_outcomes.specs.wanted.Sought.{observation_sought}
 use Rattle.pm_cmd_lab.specs.order.Work.{CameTo, IsNotShown, Work, message_after, status_after}
 use Rattle.pm_lab_words.specs.declared.request.Bounds.{Bounds}
-use Rattle.pm_outcomes.specs.declared.list.marks.Mark.{Mark}
+use Rattle.pm_outcomes.specs.declared.list.observations.Observation.{Observation}
 use Rattle.pm_model.specs.declared.plan.Plan.{Plan}
 
 -- behind it its message and its status
@@ -39,20 +39,20 @@ came_of_file all known file plan Ends V out work reads came =
     came_further (Ends plan) (OfPlan all known file Ends) ⊥ V (λ ending ends. held reads.bytes reads.holds ending (read plan reads.is ending ends)) (λ none. absurd none) out work came
 
 -- of a plan that has what the words name
-pub came_of_mark : (bounds : Bounds) (asked : Sought) (plan : Plan) (mark : Mark) (out : Taking) (work : Work) → mark_sought plan asked ≡ Ok mark → CameTo (MarkEnds bounds plan mark) work ⊥ out → CameTo (OrderEnds bounds asked plan) work ⊥ out
-came_of_mark bounds asked plan mark out work is came = came_further (MarkEnds bounds plan mark) (OrderEnds bounds asked plan) ⊥ ⊥ (λ ending ends. has mark is ending ends) (λ none. none) out work came
+pub came_of_observation : (bounds : Bounds) (asked : Sought) (plan : Plan) (observation : Observation) (out : Taking) (work : Work) → observation_sought plan asked ≡ Ok observation → CameTo (ObservationEnds bounds plan observation) work ⊥ out → CameTo (OrderEnds bounds asked plan) work ⊥ out
+came_of_observation bounds asked plan observation out work is came = came_further (ObservationEnds bounds plan observation) (OrderEnds bounds asked plan) ⊥ ⊥ (λ ending ends. has observation is ending ends) (λ none. none) out work came
 
 -- of one that hasn't
-pub came_missing : (bounds : Bounds) (asked : Sought) (plan : Plan) (missing : Missing) (text : Vec ℕ Global) (out : Taking) → mark_sought plan asked ≡ Err missing → text.items ≡ missing_text plan asked missing → TookNothing out
+pub came_missing : (bounds : Bounds) (asked : Sought) (plan : Plan) (missing : Missing) (text : Vec ℕ Global) (out : Taking) → observation_sought plan asked ≡ Err missing → text.items ≡ missing_text plan asked missing → TookNothing out
     → CameTo (OrderEnds bounds asked plan) (Err (stop.Fault (fault.Refused text))) ⊥ out
 came_missing bounds asked plan missing text out is same nothing =
     (subst (λ (t : List ℕ). OrderEnds bounds asked plan (Refused t)) (sym same) (lacks missing is), nothing)
 
--- where there is no order
-pub came_not_shown : (bounds : Bounds) (plan : Plan) (mark : Mark) (why : Stop) (out : Taking) → IsNotShown bounds plan mark why → TookNothing out → CameTo (MarkEnds bounds plan mark) (Err why) ⊥ out
-came_not_shown bounds plan mark (stop.Fault (fault.Refused text)) out not nothing = absurd not
-came_not_shown bounds plan mark (stop.Fault fault.ReadFailed) out not nothing = absurd not
-came_not_shown bounds plan mark (stop.Fault fault.WriteFailed) out not nothing = absurd not
-came_not_shown bounds plan mark (stop.Fault fault.NoMemory) out not nothing = nothing
-came_not_shown bounds plan mark (stop.Absent text) out not nothing = (not, nothing)
-came_not_shown bounds plan mark (stop.Unseen text) out not nothing = (not, nothing)
+-- where there is no schedule
+pub came_not_shown : (bounds : Bounds) (plan : Plan) (observation : Observation) (why : Stop) (out : Taking) → IsNotShown bounds plan observation why → TookNothing out → CameTo (ObservationEnds bounds plan observation) (Err why) ⊥ out
+came_not_shown bounds plan observation (stop.Fault (fault.Refused text)) out not nothing = absurd not
+came_not_shown bounds plan observation (stop.Fault fault.ReadFailed) out not nothing = absurd not
+came_not_shown bounds plan observation (stop.Fault fault.WriteFailed) out not nothing = absurd not
+came_not_shown bounds plan observation (stop.Fault fault.NoMemory) out not nothing = nothing
+came_not_shown bounds plan observation (stop.Absent text) out not nothing = (not, nothing)
+came_not_shown bounds plan observation (stop.Unseen text) out not nothing = (not, nothing)

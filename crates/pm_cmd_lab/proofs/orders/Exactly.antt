@@ -9,15 +9,15 @@ use Rattle.std.proofs.lemmas.Option.{get_or_from_slice_get, slice_get-get_or}
 use Rattle.pm_outcomes.specs.islands.Homes.{has_rest, home}
 use Rattle.pm_cmd_lab.specs.orders.Orders.{IsNamed, IsOfPlan, IslandFound, IslandsFound, both, outcomes_in, own_outcomes, pace_of, reach, reach_in}
 use Rattle.pm_lab_words.specs.declared.request.Bounds.{Bounds}
-use Rattle.pm_outcomes.specs.declared.list.marks.Left.{Left}
-use Rattle.pm_outcomes.specs.declared.list.marks.Mark.{Mark}
-use Rattle.pm_outcomes.specs.declared.list.marks.Mark.TheVariants.{End, Return}
-use Rattle.pm_outcomes.specs.declared.list.marks.Outcome.{Outcome}
-use Rattle.pm_outcomes.specs.declared.list.marks.Returned.{Returned}
-use Rattle.pm_outcomes.specs.list.Shown.{mark_of}
+use Rattle.pm_outcomes.specs.declared.list.observations.Left.{Left}
+use Rattle.pm_outcomes.specs.declared.list.observations.Observation.{Observation}
+use Rattle.pm_outcomes.specs.declared.list.observations.Observation.TheVariants.{End, Return}
+use Rattle.pm_outcomes.specs.declared.list.observations.Outcome.{Outcome}
+use Rattle.pm_outcomes.specs.declared.list.observations.Returned.{Returned}
+use Rattle.pm_outcomes.specs.list.Shown.{observation_of}
 use Rattle.pm_model.specs.declared.plan.Plan.{Plan}
 use Rattle.pm_model.specs.Islands.{Node, the_device}
-use Rattle.pm_explore.specs.schedule.Marks.Mark.{Ends, Returns}
+use Rattle.pm_explore.specs.schedule.Observations.Observation.{Ends, Returns}
 use Rattle.pm_outcomes.specs.text.Reached.{reach_of}
 use Rattle.pm_outcomes.specs.declared.text.reach.Reach.{Reach}
 use Rattle.pm_outcomes.specs.declared.text.reach.Reach.TheVariants.{All, Limit, Within}
@@ -102,7 +102,7 @@ of_filter p x (y ∷ xs) is = go (p y) refl is (λ e. of_filter p x xs e)
         ]
     go false fails e more = (behind y xs (more e).0, (more e).1)
 
--- marks of one kind that stand for the same are the same
+-- observations of one kind that stand for the same are the same
 same_return : (r s : Returned) → Returns r.caller r.command r.code ≡ Returns s.caller s.command s.code → r ≡ s
 same_return r s is =
     let caller : r.caller ≡ s.caller = cc is in
@@ -118,11 +118,11 @@ same_left l m is =
     let error : l.error ≡ m.error = cc is in
     λ i. record { device = device i; status = status i; usage = usage i; error = error i }
 
-same_mark : (a b : Mark) → mark_of a ≡ mark_of b → a ≡ b
-same_mark (Return r) (Return s) is = ap Return (same_return r s is)
-same_mark (Return r) (End m) is = cc is
-same_mark (End l) (Return s) is = cc is
-same_mark (End l) (End m) is = ap End (same_left l m is)
+same_observation : (a b : Observation) → observation_of a ≡ observation_of b → a ≡ b
+same_observation (Return r) (Return s) is = ap Return (same_return r s is)
+same_observation (Return r) (End m) is = cc is
+same_observation (End l) (Return s) is = cc is
+same_observation (End l) (End m) is = ap End (same_left l m is)
 
 -- how many parts there are
 abbrev pub parts_of : Plan → (Node → ℕ) → ℕ → ℕ
@@ -157,66 +157,66 @@ itself : (n : ℕ) → nat_eq n n ≡ true
 itself n = grind arith
 
 module _ (bounds : Bounds) (plan : Plan) (found : IslandsFound bounds plan) where
-  -- an outcome of the whole list, of a mark that is at home on an island, is one of the island's
-  own_of : (one : IslandFound bounds plan found.numbering.island) (m : Mark) (o : Outcome) → IsIn one found.islands → home found.numbering.island m ≡ one.number → mark_of o.mark ≡ mark_of m
-      → IsIn o (outcomes_in found.islands) → IsIn o one.found.marks
+  -- an outcome of the whole list, of an observation that is at home on an island, is one of the island's
+  own_of : (one : IslandFound bounds plan found.numbering.island) (m : Observation) (o : Outcome) → IsIn one found.islands → home found.numbering.island m ≡ one.number → observation_of o.observation ≡ observation_of m
+      → IsIn o (outcomes_in found.islands) → IsIn o one.found.observations
   own_of one m o there at is there_o =
       let island = found.numbering.island in
       let from = in_one (λ (x : IslandFound bounds plan island). own_outcomes x) o found.islands there_o in
-      let kept = of_filter (λ (p : Outcome). nat_eq (home island p.mark) from.0.number) o from.0.found.marks from.2 in
-      let home_is : home island m ≡ from.0.number = ap (home island) (sym (same_mark o.mark m is)) ∙ named (home island o.mark) from.0.number kept.1 in
+      let kept = of_filter (λ (p : Outcome). nat_eq (home island p.observation) from.0.number) o from.0.found.observations from.2 in
+      let home_is : home island m ≡ from.0.number = ap (home island) (sym (same_observation o.observation m is)) ∙ named (home island o.observation) from.0.number kept.1 in
       let same : from.0 ≡ one = one_of (λ (x : IslandFound bounds plan island). x.number) (parts_of plan island found.count) found.islands from.0 one found.numbers from.1 there (sym home_is ∙ at) in
-      subst (λ (x : IslandFound bounds plan island). IsIn o x.found.marks) same kept.0
+      subst (λ (x : IslandFound bounds plan island). IsIn o x.found.observations) same kept.0
 
   -- and the other way round
-  of_own : (one : IslandFound bounds plan found.numbering.island) (m : Mark) (o : Outcome) → IsIn one found.islands → home found.numbering.island m ≡ one.number → mark_of o.mark ≡ mark_of m
-      → IsIn o one.found.marks → IsIn o (outcomes_in found.islands)
+  of_own : (one : IslandFound bounds plan found.numbering.island) (m : Observation) (o : Outcome) → IsIn one found.islands → home found.numbering.island m ≡ one.number → observation_of o.observation ≡ observation_of m
+      → IsIn o one.found.observations → IsIn o (outcomes_in found.islands)
   of_own one m o there at is there_o =
       let island = found.numbering.island in
-      let home_is : home island o.mark ≡ one.number = ap (home island) (same_mark o.mark m is) ∙ at in
-      let passes : nat_eq (home island o.mark) one.number ≡ true = ap (λ a. nat_eq a one.number) home_is ∙ itself one.number in
+      let home_is : home island o.observation ≡ one.number = ap (home island) (same_observation o.observation m is) ∙ at in
+      let passes : nat_eq (home island o.observation) one.number ≡ true = ap (λ a. nat_eq a one.number) home_is ∙ itself one.number in
       in_all (λ (x : IslandFound bounds plan island). own_outcomes x) o one found.islands there
-      (in_filter (λ (p : Outcome). nat_eq (home island p.mark) one.number) o one.found.marks passes there_o)
+      (in_filter (λ (p : Outcome). nat_eq (home island p.observation) one.number) o one.found.observations passes there_o)
 
-  listed_here : (one : IslandFound bounds plan found.numbering.island) (m : Mark) (k : ℕ) → IsIn one found.islands → home found.numbering.island m ≡ one.number
-      → IsListedWithin (outcomes_in found.islands) k (mark_of m) → IsListedWithin one.found.marks k (mark_of m)
+  listed_here : (one : IslandFound bounds plan found.numbering.island) (m : Observation) (k : ℕ) → IsIn one found.islands → home found.numbering.island m ≡ one.number
+      → IsListedWithin (outcomes_in found.islands) k (observation_of m) → IsListedWithin one.found.observations k (observation_of m)
   listed_here one m k there at l =
-      let o = at_in l.outcome one.found.marks (own_of one m l.outcome there at l.mark (in_at (outcomes_in found.islands) l.index l.outcome l.there)) in
-      record { index = o.0; outcome = l.outcome; there = o.1; mark = l.mark; few = l.few }
+      let o = at_in l.outcome one.found.observations (own_of one m l.outcome there at l.observation (in_at (outcomes_in found.islands) l.index l.outcome l.there)) in
+      record { index = o.0; outcome = l.outcome; there = o.1; observation = l.observation; few = l.few }
 
-  listed_there : (one : IslandFound bounds plan found.numbering.island) (m : Mark) (k : ℕ) → IsIn one found.islands → home found.numbering.island m ≡ one.number
-      → IsListedWithin one.found.marks k (mark_of m) → IsListedWithin (outcomes_in found.islands) k (mark_of m)
+  listed_there : (one : IslandFound bounds plan found.numbering.island) (m : Observation) (k : ℕ) → IsIn one found.islands → home found.numbering.island m ≡ one.number
+      → IsListedWithin one.found.observations k (observation_of m) → IsListedWithin (outcomes_in found.islands) k (observation_of m)
   listed_there one m k there at l =
-      let o = at_in l.outcome (outcomes_in found.islands) (of_own one m l.outcome there at l.mark (in_at one.found.marks l.index l.outcome l.there)) in
-      record { index = o.0; outcome = l.outcome; there = o.1; mark = l.mark; few = l.few }
+      let o = at_in l.outcome (outcomes_in found.islands) (of_own one m l.outcome there at l.observation (in_at one.found.observations l.index l.outcome l.there)) in
+      record { index = o.0; outcome = l.outcome; there = o.1; observation = l.observation; few = l.few }
 
-  pub within : (one : IslandFound bounds plan found.numbering.island) (m : Mark) (k : ℕ) → Contains found.islands one → home found.numbering.island m ≡ one.number → IsSeen one.found.ended one.found.rounds k
-      → IsListedWithin (outcomes_in found.islands) k (mark_of m) ↔ IsHadWithin (pace_of bounds) one.part k (mark_of m)
+  pub within : (one : IslandFound bounds plan found.numbering.island) (m : Observation) (k : ℕ) → Contains found.islands one → home found.numbering.island m ≡ one.number → IsSeen one.found.ended one.found.rounds k
+      → IsListedWithin (outcomes_in found.islands) k (observation_of m) ↔ IsHadWithin (pace_of bounds) one.part k (observation_of m)
   within one m k has at seen =
       let place = at_of found.islands one has in
       let there = in_at found.islands place.0 one place.1 in
       let exact = one.found.exact k seen in
-      (λ l. exact.sound (mark_of m) (listed_here one m k there at l), λ had. listed_there one m k there at (exact.complete (mark_of m) had))
+      (λ l. exact.sound (observation_of m) (listed_here one m k there at l), λ had. listed_there one m k there at (exact.complete (observation_of m) had))
 
-  pub of_all : (one : IslandFound bounds plan found.numbering.island) (m : Mark) → Contains found.islands one → home found.numbering.island m ≡ one.number → one.found.ended ≡ Whole
-      → IsListed (outcomes_in found.islands) (mark_of m) ↔ IsHad (pace_of bounds) one.part (mark_of m)
-  of_all one m has at whole = (λ l. exact.sound (mark_of m) (here_ l), λ had. there_ (exact.complete (mark_of m) had))
+  pub of_all : (one : IslandFound bounds plan found.numbering.island) (m : Observation) → Contains found.islands one → home found.numbering.island m ≡ one.number → one.found.ended ≡ Whole
+      → IsListed (outcomes_in found.islands) (observation_of m) ↔ IsHad (pace_of bounds) one.part (observation_of m)
+  of_all one m has at whole = (λ l. exact.sound (observation_of m) (here_ l), λ had. there_ (exact.complete (observation_of m) had))
     where
       there : IsIn one found.islands
       there = let place = at_of found.islands one has in in_at found.islands place.0 one place.1
 
-      exact : AreExact (pace_of bounds) one.part one.found.marks
+      exact : AreExact (pace_of bounds) one.part one.found.observations
       exact = one.found.whole whole
 
-      here_ : IsListed (outcomes_in found.islands) (mark_of m) → IsListed one.found.marks (mark_of m)
+      here_ : IsListed (outcomes_in found.islands) (observation_of m) → IsListed one.found.observations (observation_of m)
       here_ l =
-          let o = at_in l.outcome one.found.marks (own_of one m l.outcome there at l.mark (in_at (outcomes_in found.islands) l.index l.outcome l.there)) in
-          record { index = o.0; outcome = l.outcome; there = o.1; mark = l.mark }
+          let o = at_in l.outcome one.found.observations (own_of one m l.outcome there at l.observation (in_at (outcomes_in found.islands) l.index l.outcome l.there)) in
+          record { index = o.0; outcome = l.outcome; there = o.1; observation = l.observation }
 
-      there_ : IsListed one.found.marks (mark_of m) → IsListed (outcomes_in found.islands) (mark_of m)
+      there_ : IsListed one.found.observations (observation_of m) → IsListed (outcomes_in found.islands) (observation_of m)
       there_ l =
-          let o = at_in l.outcome (outcomes_in found.islands) (of_own one m l.outcome there at l.mark (in_at one.found.marks l.index l.outcome l.there)) in
-          record { index = o.0; outcome = l.outcome; there = o.1; mark = l.mark }
+          let o = at_in l.outcome (outcomes_in found.islands) (of_own one m l.outcome there at l.observation (in_at one.found.observations l.index l.outcome l.there)) in
+          record { index = o.0; outcome = l.outcome; there = o.1; observation = l.observation }
 
 -- which rounds the last line names
 least_both : (k j l : ℕ) → k ≤ min j l → (k ≤ j) × (k ≤ l)
@@ -258,7 +258,7 @@ rounds bounds plan found one k has is =
     let each = all_named (λ (x : IslandFound bounds plan found.numbering.island). reach x.found) k All found.islands is in
     named_round k one.found.ended (length one.found.rounds) (each.1 one there)
 
--- where a mark is at home
+-- where an observation is at home
 left_false : (b c : Bool) → (b || c) ≡ false → b ≡ false
 left_false true c e = e
 left_false false c e = refl
@@ -288,7 +288,7 @@ device_below plan island count d false e le lt =
     let same : 0 + d ≡ d = omega arith in
     not_le count (island (the_device d)) (subst (λ i. nat_le count (island (the_device i)) ≡ false) same (none_passes (λ x. nat_le count (island (the_device x))) 0 (length plan.devices) d none lt))
 
-home_below : (bounds : Bounds) (plan : Plan) (found : IslandsFound bounds plan) (m : Mark) → IsOfPlan plan m
+home_below : (bounds : Bounds) (plan : Plan) (found : IslandsFound bounds plan) (m : Observation) → IsOfPlan plan m
     → home found.numbering.island m < parts_of plan found.numbering.island found.count
 home_below bounds plan found (Return r) lt = below_many (has_rest plan found.numbering.island found.count) _ found.count (found.numbering.callers r.caller lt)
 home_below bounds plan found (End l) lt = device_below plan found.numbering.island found.count l.device.0 (has_rest plan found.numbering.island found.count) refl (found.loose l.device.0) lt
@@ -298,7 +298,7 @@ get [] i lt = absurd (omega (arith, lt))
 get (x ∷ xs) zero lt = (x, refl)
 get (x ∷ xs) (suc i) lt = get xs i (omega (arith, lt))
 
-pub homes : (bounds : Bounds) (plan : Plan) (found : IslandsFound bounds plan) (m : Mark) → IsOfPlan plan m
+pub homes : (bounds : Bounds) (plan : Plan) (found : IslandsFound bounds plan) (m : Observation) → IsOfPlan plan m
     → (one : IslandFound bounds plan found.numbering.island) × Contains found.islands one × (home found.numbering.island m ≡ one.number)
 homes bounds plan found m of_plan =
     let island = found.numbering.island in

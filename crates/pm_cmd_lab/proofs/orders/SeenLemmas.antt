@@ -1,5 +1,6 @@
 -- What `orders --seen` comes to.
-use Rattle.std.proofs.Common.{◌≡◌, ℕ, Bool, List, Option, Err, Vec, Global, subst, sym}
+use Rattle.std.proofs.Common.{◌≡◌, ◌∙◌, ℕ, Bool, List, Option, Err, Vec, Global, ap, subst, sym}
+use Rattle.std.proofs.lemmas.List.{reverse-reverse}
 use Rattle.pm_cmd_ends.specs.Ending.{Taking, TookNothing}
 use Rattle.pm_cmd_ends.specs.Reading.{Holds, IsRead}
 use Rattle.pm_cmd_lab.specs.orders.Seen.{IsLogUnheld, OfSeen, SeenEnds, SeenUnread, lacks, no_outcome, of_log, of_plan, tells_of, too_many}
@@ -14,6 +15,12 @@ use Rattle.std.specs.Prelude.{IsSome, Some, reverse}
 use Rattle.pm_outcomes.specs.kernel_log.Placing.{IsWhole}
 use Rattle.pm_outcomes.specs.kernel_log.Runs.{outcome_of}
 use Rattle.pm_outcomes.specs.declared.kernel_log.tells.Tell.{Tell}
+
+-- another list of the same outcome isn't whole either
+pub not_whole : (plan : Plan) (log : List ℕ) (found tells : List Tell) → outcome_of plan log ≡ Some (reverse found) → ¬ IsWhole plan found → outcome_of plan log ≡ Some (reverse tells) → IsWhole plan tells → ⊥
+not_whole plan log found tells is lacking other whole =
+    let same : reverse found ≡ reverse tells = cc (is, other) in
+    lacking (subst (IsWhole plan) (sym (sym (reverse-reverse found) ∙ ap reverse same ∙ reverse-reverse tells)) whole)
 
 -- a log that isn't read whole, before anything is written
 pub log_unread : (all : Bool) (known : Option (List ℕ)) (bounds : Bounds) (differ : Bool) (plan : Plan) (Unread : Type 0) (out : Taking) (f : Fault)

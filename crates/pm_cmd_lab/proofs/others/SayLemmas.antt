@@ -8,18 +8,18 @@ use Rattle.pm_cmd_lab.specs.ends.Reading.{TellsTooLong, held, too_long}
 use Rattle.pm_cmd_lab.specs.declared.ends.ending.Outcome.{Outcome}
 use Rattle.pm_cmd_lab.specs.declared.ends.ending.Outcome.TheVariants as outcome
 use Rattle.pm_cmd_lab.proofs.ends.EndLemmas.{came_weaker}
-use Rattle.pm_say.specs.Says.{Says}
+use Rattle.pm_say_driver.specs.Told.{SaysFile}
 use Rattle.pm_say.specs.declared.told.Said.{Said}
 use Rattle.pm_cmd_lab.specs.others.Commands.{SayEnds, SayEndsOf, outcome_of}
 
 -- what is said of bytes, written
-pub said_written : (file handed_file bytes piece : List ℕ) (said : Said) (told : Outcome) (out : Taking) (work : Work) → Says handed_file bytes said
+pub said_written : (file handed_file bytes piece : List ℕ) (said : Said) (told : Outcome) (out : Taking) (work : Work) → SaysFile handed_file bytes said
     → handed_file ≡ file → told ≡ outcome_of said.kind → piece ≡ said.text.items → Came (Writes told piece) work ⊥ out → Came (SayEndsOf file bytes) work ⊥ out
 said_written file handed_file bytes piece said told out work says same_file same_told same came =
     came_weaker (Writes told piece) (SayEndsOf file bytes) ⊥ ⊥
     (λ ending is. record {
       said = said;
-      says = subst (λ (name : List ℕ). Says name bytes said) same_file says;
+      says = subst (λ (name : List ℕ). SaysFile name bytes said) same_file says;
       is = is ∙ (ap (λ (o : Outcome). ending_of o piece) same_told ∙ ap (λ (text : List ℕ). ending_of (outcome_of said.kind) text) same);
     })
     (λ none. none) out work came

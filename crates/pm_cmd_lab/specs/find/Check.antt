@@ -11,6 +11,7 @@ use Rattle.pm_expect.specs.declared.refusal.Section.TheVariants.{Top}
 use Rattle.pm_expect.specs.declared.refusal.Why.TheVariants.{TooLong}
 use Rattle.pm_expect_report.specs.refused.Tells.{Tells}
 use Rattle.pm_find.specs.declared.trace.telling.Found.{Found}
+use Rattle.pm_find.specs.trace.Texts.{Files}
 use Rattle.pm_cmd_lab.specs.ends.Coming.{Came, Work, Writes}
 use Rattle.pm_cmd_lab.specs.ends.Ending.{Ending, Refused, SaidRefused}
 use Rattle.pm_cmd_lab.specs.declared.ends.ending.Fault.{Fault}
@@ -18,6 +19,7 @@ use Rattle.pm_cmd_lab.specs.declared.ends.ending.Fault.TheVariants as fault
 use Rattle.pm_cmd_lab.specs.declared.ends.ending.Outcome.TheVariants as outcome
 use Rattle.pm_cmd_lab.specs.find.Find.{FindEnds}
 use Rattle.pm_model.specs.declared.plan.Plan.{Plan}
+use Rattle.pm_planread.specs.PlanOf.{contents_of, plan_of}
 
 -- the file of expectations has this text, and this is what it expects of the plan's runs
 pub record AreRead (all : Bool) (known : Option (List ℕ)) (plan : Plan) (text : List ℕ) (expected : Expectations) : Type 0 where
@@ -38,21 +40,22 @@ pub data OfExpectations (all : Bool) (known : Option (List ℕ)) (file : List �
       → OfExpectations all known file Ends plan ending
 
 -- what is told of the file of a trace
-pub record IsTold (all : Bool) (known : Option (List ℕ)) (plan : Plan) (file text : List ℕ) (expected : Expectations) (trace : List ℕ) (ktap notes : Bool) (found : Found) : Type 0 where
+pub record IsTold (all : Bool) (known : Option (List ℕ)) (plan : Plan) (file text : List ℕ) (expected : Expectations) (files : Files) (ktap notes : Bool) (found : Found) : Type 0 where
   pub bytes : List ℕ
   pub holds : Holds all known 67108864 bytes
-  pub told : IsToldOf plan file text expected trace bytes ktap notes found
+  pub told : IsToldOf plan file text expected files bytes ktap notes found
 
--- `find PLAN TRACE --expect FILE`, over what the file expects: a trace that is too long is told so; or the trace is read, and the text is
--- what is told of it
-pub data OfCheck (all : Bool) (known : Option (List ℕ)) (trace file : List ℕ) (ktap notes : Bool) (plan : Plan) (text : List ℕ) (expected : Expectations) : Ending → Type 0 where
-  too_many : IsTooLong all known 67108864 → OfCheck all known trace file ktap notes plan text expected (Refused trace_too_long)
-  told : (found : Found) → IsTold all known plan file text expected trace ktap notes found → (ending : Ending) → FindEnds found ending
-      → OfCheck all known trace file ktap notes plan text expected ending
+-- `find PLAN TRACE --expect FILE`, over what the file expects, of a plan in a file of this name: a trace that is too long is told so; or the trace is
+-- read, and the text is what is told of it, with places in a text that is the plan
+pub data OfCheck (all : Bool) (known : Option (List ℕ)) (name trace file : List ℕ) (ktap notes : Bool) (plan : Plan) (text : List ℕ) (expected : Expectations) : Ending → Type 0 where
+  too_many : IsTooLong all known 67108864 → OfCheck all known name trace file ktap notes plan text expected (Refused trace_too_long)
+  told : (source : List ℕ) → plan_of source ≡ Ok (contents_of plan) → (found : Found)
+      → IsTold all known plan file text expected (record { trace = trace; plan = name; text = source }) ktap notes found → (ending : Ending) → FindEnds found ending
+      → OfCheck all known name trace file ktap notes plan text expected ending
 
 -- over a plan, of files of which so much is told
-abbrev pub CheckEnds : Bool → (List ℕ → Option (List ℕ)) → List ℕ → List ℕ → Bool → Bool → Plan → Ending → Type 0
-CheckEnds all tells expect trace ktap notes = OfExpectations all (tells expect) expect (OfCheck all (tells trace) trace expect ktap notes)
+abbrev pub CheckEnds : Bool → (List ℕ → Option (List ℕ)) → List ℕ → List ℕ → List ℕ → Bool → Bool → Plan → Ending → Type 0
+CheckEnds all tells name expect trace ktap notes = OfExpectations all (tells expect) expect (OfCheck all (tells trace) name trace expect ktap notes)
 
 -- which file's read failed, behind a plan that was read: that of the expectations; or the trace's, and the expectations were read
 pub data RunUnread (all : Bool) (known : Option (List ℕ)) (plan : Plan) (expect trace : List ℕ) (Failed : Type 0) : List ℕ → Type 0 where

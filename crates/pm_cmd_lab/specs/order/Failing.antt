@@ -14,7 +14,7 @@ use Rattle.pm_cmd_lab.specs.order.Order.{none_ending, run_ending, too_far_text}
 use Rattle.pm_cmd_lab.specs.order.Work.{Work}
 use Rattle.pm_cmd_lab.specs.declared.order.stop.Stop.{Stop}
 use Rattle.pm_cmd_lab.specs.declared.order.stop.Stop.TheVariants as stop
-use Rattle.pm_cmd_lab.specs.orders.Orders.{OrdersFound, pace_of, reach}
+use Rattle.pm_cmd_lab.specs.orders.Orders.{SchedulesFound, pace_of, reach}
 use Rattle.pm_lab_words.specs.declared.request.Bounds.{Bounds}
 use Rattle.pm_model.specs.declared.event.Line.{Line}
 use Rattle.pm_model.specs.declared.plan.Plan.{Plan}
@@ -28,12 +28,12 @@ use Rattle.pm_serial.specs.declared.running.End.{End}
 use Rattle.pm_outcomes.specs.paths.Found.{IsTooFar}
 use Rattle.pm_outcomes.specs.witness.Going.{GoesOnFrom}
 
--- An order of the plan within the bounds stands where the expectation is broken, and no more of its lines disturb than of any that does.
+-- A schedule of the plan within the bounds stands where the expectation is broken, and no more of its lines preempt than of any that does.
 pub record BreaksFewest (bounds : Bounds) (plan : Plan) (e : Expectation) (order : History) : Type 0 where
   pub breach : Breach
   pub so : BreaksSo (pace_of bounds) plan bounds.most e breach order
 
--- Lines, in order, are a lawful run of the plan, of which each has a text. It begins with such an order, from which one thread goes on
+-- Lines, in order, are a lawful run of the plan, of which each has a text. It begins with such a schedule, from which one thread goes on
 -- with it, and ends so.
 pub record IsBreaking (bounds : Bounds) (plan : Plan) (e : Expectation) (lines : List Line) (ended : End) : Type 0 where
   pub lawful : IsLawful plan (reverse lines)
@@ -42,29 +42,29 @@ pub record IsBreaking (bounds : Bounds) (plan : Plan) (e : Expectation) (lines :
   pub fewest : BreaksFewest bounds plan e order
   pub goes_on : GoesOnFrom plan order (reverse lines) ended
 
--- no order breaks it: none of at most k disturbances, for each k of which all orders were seen; and where the search saw all, none at all
-pub record IsUnbroken (bounds : Bounds) (plan : Plan) (found : OrdersFound bounds plan) (e : Expectation) : Type 0 where
+-- no schedule breaks it: none of at most k preemptions, for each k of which all schedules were seen; and where the search saw all, none at all
+pub record IsUnbroken (bounds : Bounds) (plan : Plan) (found : SchedulesFound bounds plan) (e : Expectation) : Type 0 where
   pub within : (k : ℕ) → IsSeen found.ended found.rounds k → ¬ IsBrokenWithin (pace_of bounds) plan k e
   pub of_all : found.ended ≡ Whole → ¬ IsBroken (pace_of bounds) plan e
 
--- Of an expectation: this is the text of a run that breaks it; or no order does, of those that were gone through; or the way to where one does
+-- Of an expectation: this is the text of a run that breaks it; or no schedule does, of those that were gone through; or the path to where one does
 -- has more lines than the plan allows.
 pub data BreakEnds (bounds : Bounds) (plan : Plan) (e : Expectation) : Ending → Type 0 where
   breaks : (lines : List Line) (ended : End) → IsBreaking bounds plan e lines ended → BreakEnds bounds plan e (run_ending ended (text plan lines))
-  unbroken : (found : OrdersFound bounds plan) → IsUnbroken bounds plan found e → BreakEnds bounds plan e (none_ending (reach found) (unbroken_line plan (reach found) e))
-  too_far : (found : OrdersFound bounds plan) → (at : ℕ) → IsTooFar plan found.parents at → BreakEnds bounds plan e (Unseen too_far_text)
+  unbroken : (found : SchedulesFound bounds plan) → IsUnbroken bounds plan found e → BreakEnds bounds plan e (none_ending (reach found) (unbroken_line plan (reach found) e))
+  too_far : (found : SchedulesFound bounds plan) → (at : ℕ) → IsTooFar plan found.parents at → BreakEnds bounds plan e (Unseen too_far_text)
 
 -- over what a file expects of a plan: it has no expectation of this number, from 1; or it has
 pub data FailingEnds (bounds : Bounds) (index : ℕ) (plan : Plan) (text : List ℕ) (expected : Expectations) : Ending → Type 0 where
   lacks : slice_get (all_of expected) (index - 1) ≡ None → FailingEnds bounds index plan text expected (Refused (no_expectation_line index (length (all_of expected))))
   has : (e : Expectation) → slice_get (all_of expected) (index - 1) ≡ Some e → (ending : Ending) → BreakEnds bounds plan e ending → FailingEnds bounds index plan text expected ending
 
--- lines, in order, are a lawful order that breaks it
-pub record IsWayBreaking (bounds : Bounds) (plan : Plan) (e : Expectation) (lines : List Line) : Type 0 where
+-- lines, in order, are a lawful schedule that breaks it
+pub record IsPathBreaking (bounds : Bounds) (plan : Plan) (e : Expectation) (lines : List Line) : Type 0 where
   pub lawful : IsLawful plan (reverse lines)
   pub fewest : BreaksFewest bounds plan e (reverse lines)
 
--- why there is no such order: none breaks it, or a limit came; or memory ran out
+-- why there is no such schedule: none breaks it, or a limit came; or memory ran out
 abbrev pub IsNotBroken : Bounds → Plan → Expectation → Stop → Type 0
 IsNotBroken bounds plan e (stop.Fault (fault.Refused text)) = ⊥
 IsNotBroken bounds plan e (stop.Fault fault.ReadFailed) = ⊥

@@ -6,11 +6,11 @@ use Rattle.pm_outcomes.specs.declared.wanted.sought.Missing.{Missing}
 use Rattle.pm_outcomes.specs.wanted.Missing.{missing_text}
 use Rattle.pm_cmd_lab.specs.order.Showing.{IsInNone, IsShowing}
 use Rattle.pm_lab_words.specs.Request.{Sought}
-use Rattle.pm_outcomes.specs.wanted.Sought.{mark_sought}
-use Rattle.pm_cmd_lab.specs.orders.Orders.{OrdersFound, reach}
+use Rattle.pm_outcomes.specs.wanted.Sought.{observation_sought}
+use Rattle.pm_cmd_lab.specs.orders.Orders.{SchedulesFound, reach}
 use Rattle.pm_lab_words.specs.declared.request.Bounds.{Bounds}
-use Rattle.pm_outcomes.specs.declared.list.marks.Mark.{Mark}
-use Rattle.pm_outcomes.specs.list.Shown.{mark_of}
+use Rattle.pm_outcomes.specs.declared.list.observations.Observation.{Observation}
+use Rattle.pm_outcomes.specs.list.Shown.{observation_of}
 use Rattle.pm_model.specs.declared.event.Line.{Line}
 use Rattle.pm_model.specs.declared.plan.Plan.{Plan}
 use Rattle.pm_model.specs.Text.{text}
@@ -26,23 +26,23 @@ abbrev pub run_ending : End → List ℕ → Ending
 run_ending end.Finished trace = Done trace
 run_ending end.AtLimit trace = AtLimit trace
 
--- that of a mark that none of the orders has, so far as they were gone through
+-- that of an observation that none of the schedules has, so far as they were gone through
 abbrev pub none_ending : Reach → List ℕ → Ending
 none_ending All message = Absent message
 none_ending (Within k) message = Absent message
 none_ending (Limit k) message = Unseen message
 
 abbrev pub too_far_text : List ℕ
-too_far_text = codes "order: the way there has more lines than the plan allows\n"
+too_far_text = codes "order: the path there has more lines than the plan allows\n"
 
--- Of a mark of the plan, by the orders of the part of its island: this is the text of a run that shows it; or no order has it, of those
--- that were gone through; or the way to where it shows has as many lines as the plan allows.
-pub data MarkEnds (bounds : Bounds) (plan : Plan) (mark : Mark) : Ending → Type 0 where
-  shows : (part : Plan) (at : IsHomePart plan mark part) (found : OrdersFound bounds part) (lines : List Line) (e : End) → IsShowing bounds plan mark part at found lines e → MarkEnds bounds plan mark (run_ending e (text plan lines))
-  in_none : (part : Plan) (at : IsHomePart plan mark part) (found : OrdersFound bounds part) → IsInNone bounds part found (mark_of mark) → MarkEnds bounds plan mark (none_ending (reach found) (absent_line plan (reach found) mark))
-  too_far : (part : Plan) (at : IsHomePart plan mark part) (found : OrdersFound bounds part) (place : ℕ) → IsTooFar part found.parents place → MarkEnds bounds plan mark (Unseen too_far_text)
+-- Of an observation of the plan, by the schedules of the part of its island: this is the text of a run that shows it; or no schedule has it, of those
+-- that were gone through; or the path to where it shows has as many lines as the plan allows.
+pub data ObservationEnds (bounds : Bounds) (plan : Plan) (observation : Observation) : Ending → Type 0 where
+  shows : (part : Plan) (at : IsHomePart plan observation part) (found : SchedulesFound bounds part) (lines : List Line) (e : End) → IsShowing bounds plan observation part at found lines e → ObservationEnds bounds plan observation (run_ending e (text plan lines))
+  in_none : (part : Plan) (at : IsHomePart plan observation part) (found : SchedulesFound bounds part) → IsInNone bounds part found (observation_of observation) → ObservationEnds bounds plan observation (none_ending (reach found) (absent_line plan (reach found) observation))
+  too_far : (part : Plan) (at : IsHomePart plan observation part) (found : SchedulesFound bounds part) (place : ℕ) → IsTooFar part found.parents place → ObservationEnds bounds plan observation (Unseen too_far_text)
 
 -- over a plan: it doesn't have what the words name; or it has
 pub data OrderEnds (bounds : Bounds) (asked : Sought) (plan : Plan) : Ending → Type 0 where
-  lacks : (missing : Missing) → mark_sought plan asked ≡ Err missing → OrderEnds bounds asked plan (Refused (missing_text plan asked missing))
-  has : (mark : Mark) → mark_sought plan asked ≡ Ok mark → (ending : Ending) → MarkEnds bounds plan mark ending → OrderEnds bounds asked plan ending
+  lacks : (missing : Missing) → observation_sought plan asked ≡ Err missing → OrderEnds bounds asked plan (Refused (missing_text plan asked missing))
+  has : (observation : Observation) → observation_sought plan asked ≡ Ok observation → (ending : Ending) → ObservationEnds bounds plan observation ending → OrderEnds bounds asked plan ending

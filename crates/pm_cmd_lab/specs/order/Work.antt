@@ -9,12 +9,12 @@ use Rattle.pm_cmd_lab.specs.declared.ends.ending.Outcome.{Outcome}
 use Rattle.pm_cmd_lab.specs.declared.ends.ending.Outcome.TheVariants as outcome
 use Rattle.pm_cmd_lab.specs.declared.order.stop.Stop.{Stop}
 use Rattle.pm_cmd_lab.specs.declared.order.stop.Stop.TheVariants as stop
-use Rattle.pm_cmd_lab.specs.order.Order.{MarkEnds}
+use Rattle.pm_cmd_lab.specs.order.Order.{ObservationEnds}
 use Rattle.pm_cmd_lab.specs.order.Showing.{IsFewest}
-use Rattle.pm_cmd_lab.specs.orders.Orders.{OrdersFound}
+use Rattle.pm_cmd_lab.specs.orders.Orders.{SchedulesFound}
 use Rattle.pm_lab_words.specs.declared.request.Bounds.{Bounds}
-use Rattle.pm_outcomes.specs.declared.list.marks.Mark.{Mark}
-use Rattle.pm_outcomes.specs.list.Shown.{mark_of}
+use Rattle.pm_outcomes.specs.declared.list.observations.Observation.{Observation}
+use Rattle.pm_outcomes.specs.list.Shown.{observation_of}
 use Rattle.pm_model.specs.declared.event.Line.{Line}
 use Rattle.pm_model.specs.declared.plan.Plan.{Plan}
 use Rattle.pm_model.specs.Lawful.{IsLawful}
@@ -44,22 +44,22 @@ CameTo Ends (Err (stop.Fault f)) Unread out = Came Ends (Err f) Unread out
 CameTo Ends (Err (stop.Absent message)) Unread out = Ends (Absent message.items) × TookNothing out
 CameTo Ends (Err (stop.Unseen message)) Unread out = Ends (Unseen message.items) × TookNothing out
 
--- lines, in order, are a lawful order of the part of its island that has the mark
-pub record IsWayTo (bounds : Bounds) (plan : Plan) (mark : Mark) (lines : List Line) : Type 0 where
+-- lines, in order, are a lawful schedule of the part of its island that has the observation
+pub record IsPathTo (bounds : Bounds) (plan : Plan) (observation : Observation) (lines : List Line) : Type 0 where
   pub part : Plan
-  pub at : IsHomePart plan mark part
-  pub found : OrdersFound bounds part
+  pub at : IsHomePart plan observation part
+  pub found : SchedulesFound bounds part
   pub lawful : IsLawful part (reverse lines)
-  pub fewest : IsFewest bounds part found (mark_of mark) (reverse lines)
+  pub fewest : IsFewest bounds part found (observation_of observation) (reverse lines)
 
--- why there is no such order: none has the mark, or a limit came; or memory ran out
-abbrev pub IsNotShown : Bounds → Plan → Mark → Stop → Type 0
-IsNotShown bounds plan mark (stop.Fault (fault.Refused text)) = ⊥
-IsNotShown bounds plan mark (stop.Fault fault.ReadFailed) = ⊥
-IsNotShown bounds plan mark (stop.Fault fault.WriteFailed) = ⊥
-IsNotShown bounds plan mark (stop.Fault fault.NoMemory) = ⊤
-IsNotShown bounds plan mark (stop.Absent message) = MarkEnds bounds plan mark (Absent message.items)
-IsNotShown bounds plan mark (stop.Unseen message) = MarkEnds bounds plan mark (Unseen message.items)
+-- why there is no such schedule: none has the observation, or a limit came; or memory ran out
+abbrev pub IsNotShown : Bounds → Plan → Observation → Stop → Type 0
+IsNotShown bounds plan observation (stop.Fault (fault.Refused text)) = ⊥
+IsNotShown bounds plan observation (stop.Fault fault.ReadFailed) = ⊥
+IsNotShown bounds plan observation (stop.Fault fault.WriteFailed) = ⊥
+IsNotShown bounds plan observation (stop.Fault fault.NoMemory) = ⊤
+IsNotShown bounds plan observation (stop.Absent message) = ObservationEnds bounds plan observation (Absent message.items)
+IsNotShown bounds plan observation (stop.Unseen message) = ObservationEnds bounds plan observation (Unseen message.items)
 
 -- how a run that ends so is told of
 abbrev pub outcome_of_end : End → Outcome

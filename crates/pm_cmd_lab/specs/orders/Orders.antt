@@ -3,19 +3,19 @@ use Rattle.std.specs.Prelude.{◌≡◌, ◌<◌, ◌≤◌, ◌+◌, ⊤, ℕ, 
 use Rattle.std.specs.List.{range_with_len}
 use Rattle.std.specs.List.Sorted.{IsSorted}
 use Rattle.pm_outcomes.specs.islands.Homes.{at_home, has_rest}
-use Rattle.pm_cmd_lab.specs.orders.OrdersOutcome.{outcome_of_orders}
+use Rattle.pm_cmd_lab.specs.orders.OrdersOutcome.{outcome_of_schedules}
 use Rattle.pm_cmd_lab.specs.ends.Coming.{ending_of}
 use Rattle.pm_cmd_lab.specs.ends.Ending.{Ending}
 use Rattle.pm_lab_words.specs.declared.request.Bounds.{Bounds}
-use Rattle.pm_outcomes.specs.declared.list.marks.Mark.{Mark}
-use Rattle.pm_outcomes.specs.declared.list.marks.Mark.TheVariants.{End, Return}
-use Rattle.pm_outcomes.specs.declared.list.marks.Outcome.{Outcome}
+use Rattle.pm_outcomes.specs.declared.list.observations.Observation.{Observation}
+use Rattle.pm_outcomes.specs.declared.list.observations.Observation.TheVariants.{End, Return}
+use Rattle.pm_outcomes.specs.declared.list.observations.Outcome.{Outcome}
 use Rattle.pm_outcomes.specs.list.Order.{by_text}
 use Rattle.pm_model.specs.declared.plan.Plan.{Plan}
 use Rattle.pm_model.specs.Islands.{IsPart, Node, Numbering, the_device}
 use Rattle.pm_explore.specs.declared.schedule.Pace.{Pace}
-use Rattle.pm_explore.specs.declared.schedule.Pace.TheVariants.{Late, Prompt}
-use Rattle.pm_explore.specs.schedule.Spots.{Follows, Spot, start_spot}
+use Rattle.pm_explore.specs.declared.schedule.Pace.TheVariants.{Late, Eager}
+use Rattle.pm_explore.specs.schedule.Snapshots.{Follows, Snapshot, start_snapshot}
 use Rattle.pm_outcomes.specs.declared.text.reach.Reach.{Reach}
 use Rattle.pm_outcomes.specs.declared.text.reach.Reach.TheVariants.{All, Limit, Within}
 use Rattle.pm_outcomes.specs.text.Reached.{reach_of}
@@ -28,60 +28,60 @@ use Rattle.pm_explore.specs.search.Exact.{EndWithAll}
 use Rattle.pm_explore.specs.search.Growing.{IsLed}
 use Rattle.pm_explore.specs.search.Seen.{IsSeen}
 use Rattle.pm_explore.specs.search.Trees.{IsTree}
-use Rattle.pm_outcomes.specs.paths.Found.{AreOfAllOrders, AreOfOrders, IsTooFar}
+use Rattle.pm_outcomes.specs.paths.Found.{AreOfAllSchedules, AreOfSchedules, IsTooFar}
 
 abbrev pub pace_of : Bounds → Pace
-pace_of bounds = if bounds.late then Late else Prompt
+pace_of bounds = if bounds.late then Late else Eager
 
--- What was found of a plan's orders within bounds: marks, and the spots at which orders stand, in so many rounds. For each k of which
--- all orders were seen the marks are exact of orders of at most k disturbances, and the spots of a round that is complete are those of
--- its orders; where the search saw all, of all orders, and the last round has all spots. Each mark has the number of a complete round.
--- The rounds are for 0 to so many disturbances as the bounds say, unless there is no more to see, or a limit came first: as many spots
--- as the bounds say, which are never more, or a way to a spot with as many lines as the plan allows. No spot is there twice, each but the start follows its
--- parent, and on the way to it no more lines disturb than the bounds say, nor more than rounds are complete: a round that isn't is the next.
--- Where no limit came first the last round has all spots. The marks stand in the order of their text, those of one command or device by
+-- What was found of a plan's schedules within bounds: observations, and the snapshots at which schedules stand, in so many rounds. For each k of which
+-- all schedules were seen the observations are exact of schedules of at most k preemptions, and the snapshots of a round that is complete are those of
+-- its schedules; where the search saw all, of all schedules, and the last round has all snapshots. Each observation has the number of a complete round.
+-- The rounds are for 0 to so many preemptions as the bounds say, unless there is no more to see, or a limit came first: as many snapshots
+-- as the bounds say, which are never more, or a path to a snapshot with as many lines as the plan allows. No snapshot is there twice, each but the start follows its
+-- parent, and on the path to it no more lines preempt than the bounds say, nor more than rounds are complete: a round that isn't is the next.
+-- Where no limit came first the last round has all snapshots. The observations stand in the order of their text, those of one command or device by
 -- one another.
-pub record OrdersFound (bounds : Bounds) (plan : Plan) : Type 0 where
-  pub marks : List Outcome
+pub record SchedulesFound (bounds : Bounds) (plan : Plan) : Type 0 where
+  pub observations : List Outcome
   pub rounds : List ℕ
-  pub spots : List Spot
+  pub snapshots : List Snapshot
   pub parents : List ℕ
   pub ended : Ended
-  pub exact : (k : ℕ) → IsSeen ended rounds k → AreExactWithin (pace_of bounds) plan k marks
-  pub of_orders : (k bound : ℕ) → slice_get rounds k ≡ Some bound → AreOfOrders (pace_of bounds) plan k spots bound
-  pub whole : ended ≡ Whole → AreExact (pace_of bounds) plan marks
-  pub all_orders : ended ≡ Whole → AreOfAllOrders (pace_of bounds) plan spots
-  pub last : ended ≡ Whole → EndWithAll spots rounds
-  pub end : ended ≡ Rounds → EndWithAll spots rounds
+  pub exact : (k : ℕ) → IsSeen ended rounds k → AreExactWithin (pace_of bounds) plan k observations
+  pub of_schedules : (k bound : ℕ) → slice_get rounds k ≡ Some bound → AreOfSchedules (pace_of bounds) plan k snapshots bound
+  pub whole : ended ≡ Whole → AreExact (pace_of bounds) plan observations
+  pub all_schedules : ended ≡ Whole → AreOfAllSchedules (pace_of bounds) plan snapshots
+  pub last : ended ≡ Whole → EndWithAll snapshots rounds
+  pub end : ended ≡ Rounds → EndWithAll snapshots rounds
   pub few : length rounds ≤ bounds.most + 1
-  pub tree : IsTree (Follows (pace_of bounds) plan) (start_spot plan) spots parents
-  pub near : IsLed (Follows (pace_of bounds) plan) (min bounds.most (length rounds)) spots parents
-  pub of_rounds : AreOfRounds rounds marks
-  pub once : IsListedOnce marks
-  pub in_order : IsSorted by_text marks
+  pub tree : IsTree (Follows (pace_of bounds) plan) (start_snapshot plan) snapshots parents
+  pub near : IsLed (Follows (pace_of bounds) plan) (min bounds.most (length rounds)) snapshots parents
+  pub of_rounds : AreOfRounds rounds observations
+  pub once : IsListedOnce observations
+  pub in_order : IsSorted by_text observations
   pub complete : ended ≡ Rounds → length rounds ≡ bounds.most + 1
-  pub room : length spots ≤ max bounds.spots 1
-  pub full : ended ≡ Stopped Full → bounds.spots ≤ length spots
+  pub room : length snapshots ≤ max bounds.states 1
+  pub full : ended ≡ Stopped Full → bounds.states ≤ length snapshots
   pub too_far : ended ≡ Stopped TooFar → (at : ℕ) × IsTooFar plan parents at
   pub memory : ended ≡ Stopped WantsMemory → ⊥
 
--- how far the marks are exact
-abbrev pub reach : {bounds : Bounds} {plan : Plan} → OrdersFound bounds plan → Reach
+-- how far the observations are exact
+abbrev pub reach : {bounds : Bounds} {plan : Plan} → SchedulesFound bounds plan → Reach
 reach found = reach_of found.ended (length found.rounds)
 
--- What was found of one island, which has this number: of the orders of its part, the plan with every script outside the island empty.
+-- What was found of one island, which has this number: of the schedules of its part, the plan with every script outside the island empty.
 pub record IslandFound (bounds : Bounds) (plan : Plan) (island : Node → ℕ) : Type 0 where
   pub number : ℕ
   pub part : Plan
   pub is_part : IsPart plan island number part
-  pub found : OrdersFound bounds part
+  pub found : SchedulesFound bounds part
 
 -- the outcomes of an island that are at home there: what its callers' commands return and how its devices end
 abbrev pub own_outcomes : {bounds : Bounds} {plan : Plan} {island : Node → ℕ} → IslandFound bounds plan island → List Outcome
-own_outcomes {island = island} one = at_home island one.number one.found.marks
+own_outcomes {island = island} one = at_home island one.number one.found.observations
 
-abbrev pub own_spots : {bounds : Bounds} {plan : Plan} {island : Node → ℕ} → IslandFound bounds plan island → ℕ
-own_spots one = length one.found.spots
+abbrev pub own_snapshots : {bounds : Bounds} {plan : Plan} {island : Node → ℕ} → IslandFound bounds plan island → ℕ
+own_snapshots one = length one.found.snapshots
 
 -- the lesser round; no round is less than any
 abbrev pub lesser_round : Option ℕ → Option ℕ → Option ℕ
@@ -89,7 +89,7 @@ lesser_round None k = None
 lesser_round (Some j) None = None
 lesser_round (Some j) (Some k) = Some (min j k)
 
--- how far two lists are exact together: of all orders where both are; else up to the lesser round of those that aren't, and cut by a limit where either is
+-- how far two lists are exact together: of all schedules where both are; else up to the lesser round of those that aren't, and cut by a limit where either is
 abbrev pub both : Reach → Reach → Reach
 both All r = r
 both (Within j) All = Within j
@@ -99,15 +99,15 @@ both (Limit j) All = Limit j
 both (Limit j) (Within k) = Limit (lesser_round j (Some k))
 both (Limit j) (Limit k) = Limit (lesser_round j k)
 
--- of islands all outcomes, how far they are exact, and how many spots were found
+-- of islands all outcomes, how far they are exact, and how many snapshots were found
 abbrev pub outcomes_in : {bounds : Bounds} {plan : Plan} {island : Node → ℕ} → List (IslandFound bounds plan island) → List Outcome
 outcomes_in islands = flat_map (λ one. own_outcomes one) islands
 
 abbrev pub reach_in : {bounds : Bounds} {plan : Plan} {island : Node → ℕ} → List (IslandFound bounds plan island) → Reach
 reach_in islands = fold (λ r one. both r (reach one.found)) All islands
 
-abbrev pub spots_in : {bounds : Bounds} {plan : Plan} {island : Node → ℕ} → List (IslandFound bounds plan island) → ℕ
-spots_in islands = sum_by (λ one. own_spots one) islands
+abbrev pub snapshots_in : {bounds : Bounds} {plan : Plan} {island : Node → ℕ} → List (IslandFound bounds plan island) → ℕ
+snapshots_in islands = sum_by (λ one. own_snapshots one) islands
 
 -- What was found of a plan: of each of its islands, by their numbers, and behind them, where a device has no island or there is none, of the plan with
 -- every script empty; such a device has that number.
@@ -119,7 +119,7 @@ pub record IslandsFound (bounds : Bounds) (plan : Plan) : Type 0 where
   pub numbers : map (λ one. one.number) islands ≡ range_with_len 0 (if has_rest plan numbering.island count then count + 1 else count)
 
 -- the plan has the caller that returned, or the device that is left so
-abbrev pub IsOfPlan : Plan → Mark → Type 0
+abbrev pub IsOfPlan : Plan → Observation → Type 0
 IsOfPlan plan (Return r) = r.caller < length plan.callers
 IsOfPlan plan (End l) = l.device.0 < length plan.devices
 
@@ -130,8 +130,8 @@ IsNamed k (Within j) = k ≤ j
 IsNamed k (Limit (Some j)) = k ≤ j
 IsNamed k (Limit None) = ⊥
 
--- `orders PLAN`: the text tells the outcomes that were found, how far they are exact, and the number of the spots
+-- `orders PLAN`: the text tells the outcomes that were found, how far they are exact, and the number of the snapshots
 pub record OrdersEnds (bounds : Bounds) (differ : Bool) (plan : Plan) (ending : Ending) : Type 0 where
   pub found : IslandsFound bounds plan
-  pub is : ending ≡ ending_of (outcome_of_orders (reach_in found.islands) (differs (outcomes_in found.islands)))
-      (told plan differ (reach_in found.islands) (spots_in found.islands) (outcomes_in found.islands))
+  pub is : ending ≡ ending_of (outcome_of_schedules (reach_in found.islands) (differs (outcomes_in found.islands)))
+      (told plan differ (reach_in found.islands) (snapshots_in found.islands) (outcomes_in found.islands))

@@ -5,8 +5,8 @@ use Rattle.pm_cmd_lab.specs.declared.ends.ending.Outcome.TheVariants as outcome
 use Rattle.pm_outcomes.specs.declared.text.reach.Reach.{Reach}
 use Rattle.pm_outcomes.specs.declared.text.reach.Reach.TheVariants.{All, Limit, Within}
 
--- something is found where a command or a device has more than one mark
-abbrev pub outcome_of_orders : Reach → Bool → Outcome
-outcome_of_orders All differs = if differs then outcome.Found else outcome.Done
-outcome_of_orders (Within k) differs = if differs then outcome.Found else outcome.Done
-outcome_of_orders (Limit k) differs = outcome.AtLimit
+-- something is found where a command or a device has more than one observation
+abbrev pub outcome_of_schedules : Reach → Bool → Outcome
+outcome_of_schedules All differs = if differs then outcome.Found else outcome.Done
+outcome_of_schedules (Within k) differs = if differs then outcome.Found else outcome.Done
+outcome_of_schedules (Limit k) differs = outcome.AtLimit

@@ -1,14 +1,14 @@
 -- What `orders --seen` may come to (this project's own).
 use Rattle.std.specs.Prelude.{◌≡◌, ⊤, ℕ, Bool, ◌||◌, List, ◌++◌, Option, Some, None, codes, is_some, IsSome, length, reverse, slice_get}
 use Rattle.pm_cmd_ends.specs.Reading.{Holds, IsRead, IsTooLong}
-use Rattle.pm_cmd_lab.specs.orders.Orders.{IslandsFound, outcomes_in, reach_in, spots_in}
-use Rattle.pm_cmd_lab.specs.orders.OrdersOutcome.{outcome_of_orders}
+use Rattle.pm_cmd_lab.specs.orders.Orders.{IslandsFound, outcomes_in, reach_in, snapshots_in}
+use Rattle.pm_cmd_lab.specs.orders.OrdersOutcome.{outcome_of_schedules}
 use Rattle.pm_cmd_lab.specs.ends.Coming.{ending_of}
 use Rattle.pm_cmd_lab.specs.ends.Ending.{Ending, Refused}
 use Rattle.pm_cmd_lab.specs.declared.ends.ending.Fault.{Fault}
 use Rattle.pm_cmd_lab.specs.declared.ends.ending.Fault.TheVariants as fault
 use Rattle.pm_lab_words.specs.declared.request.Bounds.{Bounds}
-use Rattle.pm_outcomes.specs.declared.list.marks.Outcome.{Outcome}
+use Rattle.pm_outcomes.specs.declared.list.observations.Outcome.{Outcome}
 use Rattle.pm_model.specs.declared.plan.Plan.{Plan}
 use Rattle.pm_outcomes.specs.text.Seen.{seen_line}
 use Rattle.pm_outcomes.specs.text.Texts.{differs, told}
@@ -29,20 +29,20 @@ IsLogUnheld all known Unread fault.ReadFailed = Unread
 IsLogUnheld all known Unread fault.WriteFailed = ⊥
 IsLogUnheld all known Unread fault.NoMemory = ⊤
 
--- of what is told, in order, the first that no mark shows, if there is one
+-- of what is told, in order, the first that no observation shows, if there is one
 abbrev pub IsPlaced : List Outcome → List Tell → Option Tell → Type 0
-IsPlaced marks tells None = AreListed marks tells (length tells)
-IsPlaced marks tells (Some t) = (place : ℕ) × IsFirstUnlisted marks tells place × (slice_get tells place ≡ Some t)
+IsPlaced observations tells None = AreListed observations tells (length tells)
+IsPlaced observations tells (Some t) = (place : ℕ) × IsFirstUnlisted observations tells place × (slice_get tells place ≡ Some t)
 
--- over what a log tells: the text of `orders`, and behind it a line for the first that no mark shows
+-- over what a log tells: the text of `orders`, and behind it a line for the first that no observation shows
 pub record SeenEnds (bounds : Bounds) (differ : Bool) (tells : List Tell) (plan : Plan) (ending : Ending) : Type 0 where
   pub found : IslandsFound bounds plan
   pub unlisted : Option Tell
   pub placed : IsPlaced (outcomes_in found.islands) tells unlisted
-  pub is : ending ≡ ending_of (outcome_of_orders (reach_in found.islands) (differs (outcomes_in found.islands) || is_some unlisted))
-      (told plan differ (reach_in found.islands) (spots_in found.islands) (outcomes_in found.islands) ++ seen_line plan (reach_in found.islands) unlisted)
+  pub is : ending ≡ ending_of (outcome_of_schedules (reach_in found.islands) (differs (outcomes_in found.islands) || is_some unlisted))
+      (told plan differ (reach_in found.islands) (snapshots_in found.islands) (outcomes_in found.islands) ++ seen_line plan (reach_in found.islands) unlisted)
 
--- over the file of a log: it has too many bytes; the last run that it tells of has no whole outcome; or it has, in this order
+-- over the file of a log: it has too many bytes; the last run that it tells of has no whole outcome; or it has, in this schedule
 pub data OfSeen (all : Bool) (known : Option (List ℕ)) (bounds : Bounds) (differ : Bool) (plan : Plan) : Ending → Type 0 where
   too_many : IsTooLong all known 67108864 → OfSeen all known bounds differ plan (Refused log_too_long)
   lacks : (bytes : List ℕ) → Holds all known 67108864 bytes → ((tells : List Tell) → outcome_of plan bytes ≡ Some (reverse tells) → ¬ IsWhole plan tells)

@@ -7,7 +7,7 @@ use Rattle.pm_cmd_lab.specs.declared.ends.ending.Outcome.{Outcome}
 use Rattle.pm_cmd_lab.specs.declared.ends.ending.Outcome.TheVariants as outcome
 use Rattle.pm_model.specs.declared.plan.Plan.{Plan}
 use Rattle.pm_module.specs.Module.{module_text}
-use Rattle.pm_say.specs.Says.{Says}
+use Rattle.pm_say_driver.specs.Told.{SaysFile}
 use Rattle.pm_say.specs.declared.told.Kind.{Kind}
 use Rattle.pm_say.specs.declared.told.Kind.TheVariants as kind
 use Rattle.pm_say.specs.declared.told.Said.{Said}
@@ -33,7 +33,7 @@ outcome_of kind.Refused = outcome.Refused
 -- `say PLAN` over the bytes of the file of this name: the text is what is said of them
 pub record SayEndsOf (file bytes : List ℕ) (ending : Ending) : Type 0 where
   pub said : Said
-  pub says : Says file bytes said
+  pub says : SaysFile file bytes said
   pub is : ending ≡ ending_of (outcome_of said.kind) said.text.items
 
 -- `say PLAN`: a file that is too long is told so on `out` too
@@ -58,8 +58,8 @@ abbrev pub AskedEnds : Bool → (List ℕ → Option (List ℕ)) → Asked → E
 AskedEnds all known Help = Writes outcome.Done HELP.now
 AskedEnds all known (HelpOn c) = Writes outcome.Done (page_of c)
 AskedEnds all known (Say plan) = SayEnds all (known plan) plan
-AskedEnds all known (Find plan trace notes) = OfPlan all (known plan) plan (OfFind all (known trace) trace notes)
-AskedEnds all known (Check plan trace expect ktap notes) = OfPlan all (known plan) plan (CheckEnds all known expect trace ktap notes)
+AskedEnds all known (Find plan trace notes) = OfPlan all (known plan) plan (OfFind all (known trace) plan trace notes)
+AskedEnds all known (Check plan trace expect ktap notes) = OfPlan all (known plan) plan (CheckEnds all known plan expect trace ktap notes)
 AskedEnds all known (Picture plan trace json) = OfPlan all (known plan) plan (OfPicture all (known trace) trace json)
 AskedEnds all known (Orders plan bounds differ None) = OfPlan all (known plan) plan (OrdersEnds bounds differ)
 AskedEnds all known (Orders plan bounds differ (Some log)) = OfPlan all (known plan) plan (OfSeen all (known log) bounds differ)

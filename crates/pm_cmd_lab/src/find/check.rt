@@ -5,20 +5,22 @@ ghost use Rattle.pm_cmd_ends.specs.Ending.{taking};
 ghost use Rattle.pm_expect.specs.Expected.{expected_in};
 ghost use Rattle.pm_expect.specs.Over.{AreOver};
 ghost use Rattle.pm_find.specs.trace.Telling.{IsNotTold};
+ghost use Rattle.pm_find.specs.trace.Texts.{files_of};
 ghost use Rattle.pm_io.specs.Asks.{AskedOnly};
 ghost use Rattle.pm_io.specs.Faults.{Rose};
 ghost use Rattle.pm_cmd_lab.specs.find.Check.{AreRead, CheckEnds, CheckUnread, IsNotRead, IsTextUnread, IsTold, IsToldUnread, OfCheck, RunUnread};
 ghost use Rattle.pm_cmd_lab.specs.ends.Coming.{Came};
 ghost use Rattle.pm_cmd_lab.specs.ends.Ending.{Answered};
 ghost use Rattle.pm_cmd_lab.specs.ends.Reading.{OfPlan};
+ghost use Rattle.pm_planread.specs.PlanOf.{contents_of, plan_of};
 
-use crate::ends::{Fault, Outcome, finish, load, write_text};
+use crate::ends::{Fault, Loaded, Outcome, finish, load_text, write_text};
 use crate::find::find::{too_long_text, write_found};
 use pm_base::TRACE_BYTES;
 use pm_expect::{EXPECT_BYTES, Expectations};
 use pm_expect_report::refused::{Unread, read_or_tell, too_long_text as long_file_text};
 use pm_expect_report::trace::check;
-use pm_find::trace::Found;
+use pm_find::trace::{Found, PlanFile};
 use pm_io::{FileFault, Files, Sink, read_all};
 use pm_model::Plan;
 use std::alloc::Global;
@@ -46,14 +48,16 @@ pub fn check_top<F: Files, O: Sink, E: Sink>(
     err: &mut E,
 ) -> u8
     ensures { Answered (OfPlan F.tells_all (F.told files.old plan.now) plan.now
-        (CheckEnds F.tells_all (F.told files.old) expect.now trace.now ktap notes)) result
+        (CheckEnds F.tells_all (F.told files.old) plan.now expect.now trace.now ktap notes)) result
         (CheckUnread F.tells_all (F.told files.old) plan.now expect.now trace.now
         (AskedOnly plan.now (F.asked files.old) (F.asked files.new))
         (Rose (F.faults files.old) (F.faults files.new)))
         (taking O.taken O.faults out.old out.new) (taking E.taken E.faults err.old err.new) }
 {
-    match load(alloc, plan, files) {
-        Ok(read) => run_expect(alloc, read, trace, expect, ktap, notes, files, out, err),
+    match load_text(alloc, plan, files) {
+        Ok(read) => run_expect(
+            alloc, read, plan, trace, expect, ktap, notes, files, out, err,
+        ),
         Err(fault) => finish(Err(fault), plan, err),
     }
 }
@@ -61,7 +65,8 @@ pub fn check_top<F: Files, O: Sink, E: Sink>(
 /// Reads the file of expectations, and goes on over the plan.
 fn run_expect<F: Files, O: Sink, E: Sink>(
     alloc: Global,
-    plan: Plan,
+    loaded: Loaded,
+    name: &str,
     trace: &str,
     expect: &str,
     ktap: bool,
@@ -70,14 +75,17 @@ fn run_expect<F: Files, O: Sink, E: Sink>(
     out: &mut O,
     err: &mut E,
 ) -> u8
-    ensures { Answered (CheckEnds F.tells_all (F.told files.old) expect.now trace.now ktap notes plan) result
-        (RunUnread F.tells_all (F.told files.old expect.now) plan expect.now trace.now
+    requires { plan_of loaded.text.items ≡ Ok (contents_of loaded.plan) }
+    ensures { Answered (CheckEnds F.tells_all (F.told files.old) name.now expect.now trace.now ktap notes loaded.plan) result
+        (RunUnread F.tells_all (F.told files.old expect.now) loaded.plan expect.now trace.now
         (Rose (F.faults files.old) (F.faults files.new)))
         (taking O.taken O.faults out.old out.new) (taking E.taken E.faults err.old err.new) }
 {
-    match expectations(alloc, &plan, expect, files) {
+    match expectations(alloc, &loaded.plan, expect, files) {
         Ok(read) => finish(
-            run_check(alloc, plan, expect, &read, trace, ktap, notes, files, out),
+            run_check(
+                alloc, loaded, name, expect, &read, trace, ktap, notes, files, out,
+            ),
             trace,
             err,
         ),
@@ -143,7 +151,8 @@ fn expected_in(alloc: Global, plan: &Plan, expect: &str, text: Vec<u8>) -> Resul
 /// Reads the trace, and writes what is told of it.
 fn run_check<F: Files, O: Sink>(
     alloc: Global,
-    plan: Plan,
+    loaded: Loaded,
+    name: &str,
     expect: &str,
     read: &Read,
     trace: &str,
@@ -152,12 +161,18 @@ fn run_check<F: Files, O: Sink>(
     files: &mut F,
     out: &mut O,
 ) -> Result<Outcome, Fault>
-    requires { AreOver plan read.now.expected }
-    ensures { Came (OfCheck F.tells_all (F.told files.old trace.now) trace.now expect.now ktap notes plan read.now.text.items read.now.expected) result
+    requires text { plan_of loaded.text.items ≡ Ok (contents_of loaded.plan) }
+    requires over { AreOver loaded.plan read.now.expected }
+    ensures { Came (OfCheck F.tells_all (F.told files.old trace.now) name.now trace.now expect.now ktap notes loaded.plan read.now.text.items read.now.expected) result
         (Rose (F.faults files.old) (F.faults files.new))
         (taking O.taken O.faults out.old out.new) }
 {
-    match check_trace(alloc, plan, expect, read, trace, ktap, notes, files) {
+    let Loaded { plan, text } = loaded;
+    let file = PlanFile {
+        name: name.as_bytes(),
+        text: &text,
+    };
+    match check_trace(alloc, plan, expect, read, trace, file, ktap, notes, files) {
         Ok(found) => write_found(&found, out),
         Err(FileFault::TooLong) => {
             let text = too_long_text(alloc)?;
@@ -175,12 +190,13 @@ fn check_trace<F: Files>(
     expect: &str,
     read: &Read,
     trace: &str,
+    file: PlanFile<'_>,
     ktap: bool,
     notes: bool,
     files: &mut F,
 ) -> Result<Found, FileFault>
     requires { AreOver plan read.now.expected }
-    ensures told { IfOk result (IsTold F.tells_all (F.told files.old trace.now) plan expect.now read.now.text.items read.now.expected trace.now ktap notes) }
+    ensures told { IfOk result (IsTold F.tells_all (F.told files.old trace.now) plan expect.now read.now.text.items read.now.expected (files_of trace.now file.entry) ktap notes) }
     ensures not_told { IfErr result (IsNotTold F.tells_all (F.told files.old trace.now)
         (Rose (F.faults files.old) (F.faults files.new))) }
 {
@@ -192,6 +208,7 @@ fn check_trace<F: Files>(
         read.text.as_slice(),
         &read.expected,
         trace.as_bytes(),
+        file,
         &bytes,
         ktap,
         notes,

@@ -1,6 +1,6 @@
 //! `find PLAN TRACE`: what stands out in a run, and where.
 
-ghost use Rattle.std.specs.Prelude.{◌≡◌, IfOk};
+ghost use Rattle.std.specs.Prelude.{◌≡◌, IfOk, Ok};
 ghost use Rattle.pm_cmd_ends.specs.Coming.{trace_too_long};
 ghost use Rattle.pm_cmd_ends.specs.Ending.{taking};
 ghost use Rattle.pm_io.specs.Asks.{AskedOnly};
@@ -9,12 +9,12 @@ ghost use Rattle.pm_cmd_lab.specs.find.Find.{FindEnds, FindUnread, OfFind, outco
 ghost use Rattle.pm_cmd_lab.specs.ends.Coming.{Came};
 ghost use Rattle.pm_cmd_lab.specs.ends.Ending.{Answered};
 ghost use Rattle.pm_cmd_lab.specs.ends.Reading.{OfPlan};
+ghost use Rattle.pm_planread.specs.PlanOf.{contents_of, plan_of};
 
-use crate::ends::{Fault, Outcome, finish, load, write_text};
+use crate::ends::{Fault, Loaded, Outcome, finish, load_text, write_text};
 use pm_base::NoMemory;
-use pm_find::trace::{Found, find};
+use pm_find::trace::{Found, PlanFile, find};
 use pm_io::{FileFault, Files, Sink};
-use pm_model::Plan;
 use std::alloc::Global;
 
 /// Runs `find PLAN TRACE`: reads the plan and the trace, and writes to `out` what stands out in the run, with notes
@@ -29,14 +29,18 @@ pub fn find_top<F: Files, O: Sink, E: Sink>(
     err: &mut E,
 ) -> u8
     ensures { Answered (OfPlan F.tells_all (F.told files.old plan.now) plan.now
-        (OfFind F.tells_all (F.told files.old trace.now) trace.now notes)) result
+        (OfFind F.tells_all (F.told files.old trace.now) plan.now trace.now notes)) result
         (FindUnread F.tells_all (F.told files.old plan.now) plan.now trace.now
         (AskedOnly plan.now (F.asked files.old) (F.asked files.new))
         (Rose (F.faults files.old) (F.faults files.new)))
         (taking O.taken O.faults out.old out.new) (taking E.taken E.faults err.old err.new) }
 {
-    match load(alloc, plan, files) {
-        Ok(read) => finish(run_find(alloc, read, trace, notes, files, out), trace, err),
+    match load_text(alloc, plan, files) {
+        Ok(read) => finish(
+            run_find(alloc, read, plan, trace, notes, files, out),
+            trace,
+            err,
+        ),
         Err(fault) => finish(Err(fault), plan, err),
     }
 }
@@ -44,17 +48,24 @@ pub fn find_top<F: Files, O: Sink, E: Sink>(
 /// Reads the trace, and writes what stands out in the run of the plan.
 fn run_find<F: Files, O: Sink>(
     alloc: Global,
-    plan: Plan,
+    read: Loaded,
+    name: &str,
     trace: &str,
     notes: bool,
     files: &mut F,
     out: &mut O,
 ) -> Result<Outcome, Fault>
-    ensures { Came (OfFind F.tells_all (F.told files.old trace.now) trace.now notes plan) result
+    requires { plan_of read.text.items ≡ Ok (contents_of read.plan) }
+    ensures { Came (OfFind F.tells_all (F.told files.old trace.now) name.now trace.now notes read.plan) result
         (Rose (F.faults files.old) (F.faults files.new))
         (taking O.taken O.faults out.old out.new) }
 {
-    match find(alloc, plan, trace, notes, files) {
+    let Loaded { plan, text } = read;
+    let file = PlanFile {
+        name: name.as_bytes(),
+        text: &text,
+    };
+    match find(alloc, plan, trace, file, notes, files) {
         Ok(found) => write_found(&found, out),
         Err(FileFault::TooLong) => {
             let text = too_long_text(alloc)?;

@@ -8,13 +8,13 @@ ghost use Rattle.pm_cmd_lab.specs.ends.Coming.{Came};
 ghost use Rattle.pm_cmd_lab.specs.ends.Ending.{Answered, OfThis};
 ghost use Rattle.pm_cmd_lab.specs.ends.Reading.{OfPlan};
 ghost use Rattle.pm_cmd_lab.specs.find.Check.{OfExpectations};
-ghost use Rattle.pm_cmd_lab.specs.order.Failing.{BreakEnds, FailingEnds, IsToldOfFile, IsWayBreaking};
+ghost use Rattle.pm_cmd_lab.specs.order.Failing.{BreakEnds, FailingEnds, IsToldOfFile, IsPathBreaking};
 ghost use Rattle.pm_cmd_lab.specs.order.Work.{CameTo, outcome_of_end};
 ghost use Rattle.pm_cmd_lab.specs.orders.Expect.{ExpectUnread};
 
 use crate::ends::{Fault, Outcome, finish, load};
 use crate::find::{expectations, tell_unread};
-use crate::order::breaking::way_breaking;
+use crate::order::breaking::path_breaking;
 use crate::order::order::outcome_of_end;
 use crate::order::stop::{Stop, end};
 use crate::order::writing::write_lines;
@@ -24,12 +24,12 @@ use pm_expect_report::orders::no_expectation_text;
 use pm_io::{Files, Sink};
 use pm_lab_words::Bounds;
 use pm_model::{Line, Plan};
-use pm_outcomes::witness::{go_on, orders_are_near};
+use pm_outcomes::witness::{go_on, schedules_are_near};
 use std::alloc::Global;
 
 /// Runs `order PLAN --expect FILE fails INDEX`: reads the plan and the file of expectations, and writes to `out` the trace of a
 /// run that breaks the expectation of this number, counted from 1: first the answers, then the ends, then the uses, each in the
-/// file's order. It is of the plan's orders at a pace and within bounds on disturbances and spots. A file of expectations that is
+/// file's order. It is of the plan's schedules at a pace and within bounds on preemptions and snapshots. A file of expectations that is
 /// refused is told so on `out`. A message goes to `err`, and the answer is the status that the program ends with.
 pub fn failing_top<F: Files, O: Sink, E: Sink>(
     alloc: Global,
@@ -124,12 +124,12 @@ fn write_breaking<O: Sink>(
 ) -> Result<Outcome, Stop>
     ensures { CameTo (BreakEnds bounds plan each) result ⊥ (taking O.taken O.faults out.old out.new) }
 {
-    let lines = way_breaking(alloc, &plan, bounds, each)?;
+    let lines = path_breaking(alloc, &plan, bounds, each)?;
     let outcome = write_broken(alloc, plan, bounds, each, lines.as_slice(), out)?;
     Ok(outcome)
 }
 
-/// Writes the run to which one thread goes on from an order. Everything that takes memory comes before the first write.
+/// Writes the run to which one thread goes on from a schedule. Everything that takes memory comes before the first write.
 fn write_broken<O: Sink>(
     alloc: Global,
     plan: Plan,
@@ -138,10 +138,10 @@ fn write_broken<O: Sink>(
     lines: &[Line],
     out: &mut O,
 ) -> Result<Outcome, Fault>
-    requires way { IsWayBreaking _bounds plan _each lines.now }
+    requires path { IsPathBreaking _bounds plan _each lines.now }
     ensures { Came (BreakEnds _bounds plan _each) result ⊥ (taking O.taken O.faults out.old out.new) }
 {
-    orders_are_near();
+    schedules_are_near();
     let gone = go_on(alloc, plan, lines)?;
     let told = outcome_of_end(gone.end);
     let spelled = gone.book.plan();

@@ -6,26 +6,26 @@ ghost use Rattle.pm_io.specs.Faults.{Rose};
 ghost use Rattle.pm_cmd_lab.specs.ends.Coming.{Came};
 ghost use Rattle.pm_cmd_lab.specs.ends.Ending.{Answered, OfThis};
 ghost use Rattle.pm_cmd_lab.specs.ends.Reading.{OfPlan};
-ghost use Rattle.pm_cmd_lab.specs.order.Order.{MarkEnds, OrderEnds};
+ghost use Rattle.pm_cmd_lab.specs.order.Order.{ObservationEnds, OrderEnds};
 ghost use Rattle.pm_lab_words.specs.Request.{sought_in};
-ghost use Rattle.pm_cmd_lab.specs.order.Work.{CameTo, IsWayTo, outcome_of_end};
+ghost use Rattle.pm_cmd_lab.specs.order.Work.{CameTo, IsPathTo, outcome_of_end};
 
 use crate::ends::{Fault, Outcome, load};
+use crate::order::path::path_of;
 use crate::order::stop::{Stop, end};
-use crate::order::way::way_of;
 use crate::order::writing::write_lines;
 use pm_io::{Files, Sink};
 use pm_lab_words::{Bounds, Sought};
 use pm_model::{Line, Plan};
 use pm_outcomes::islands::islands_stand_alone;
-use pm_outcomes::list::Mark;
-use pm_outcomes::wanted::{mark_sought, missing_text};
-use pm_outcomes::witness::{go_on, orders_are_near};
+use pm_outcomes::list::Observation;
+use pm_outcomes::wanted::{missing_text, observation_sought};
+use pm_outcomes::witness::{go_on, schedules_are_near};
 use pm_serial::End;
 use std::alloc::Global;
 
-/// Runs `order PLAN`: reads the plan, and writes to `out` the trace of a run that shows what is asked for, of the orders of
-/// one island at a pace and within bounds on disturbances and spots. A message goes to `err`, and the answer is the status that the
+/// Runs `order PLAN`: reads the plan, and writes to `out` the trace of a run that shows what is asked for, of the schedules of
+/// one island at a pace and within bounds on preemptions and snapshots. A message goes to `err`, and the answer is the status that the
 /// program ends with.
 pub fn order_top<F: Files, O: Sink, E: Sink>(
     alloc: Global,
@@ -74,8 +74,8 @@ fn write_asked<O: Sink>(
 ) -> Result<Outcome, Stop>
     ensures { CameTo (OrderEnds bounds (sought_in asked.now) plan) result ⊥ (taking O.taken O.faults out.old out.new) }
 {
-    match mark_sought(&plan, asked) {
-        Ok(mark) => write_order(alloc, plan, bounds, mark, out),
+    match observation_sought(&plan, asked) {
+        Ok(observation) => write_order(alloc, plan, bounds, observation, out),
         Err(missing) => {
             let text = missing_text(alloc, &plan, asked, missing)?;
             Err(Stop::Fault(Fault::Refused { text }))
@@ -83,18 +83,18 @@ fn write_asked<O: Sink>(
     }
 }
 
-/// Writes a run of a plan that shows a mark.
+/// Writes a run of a plan that shows an observation.
 fn write_order<O: Sink>(
     alloc: Global,
     plan: Plan,
     bounds: Bounds,
-    mark: Mark,
+    observation: Observation,
     out: &mut O,
 ) -> Result<Outcome, Stop>
-    ensures { CameTo (MarkEnds bounds plan mark) result ⊥ (taking O.taken O.faults out.old out.new) }
+    ensures { CameTo (ObservationEnds bounds plan observation) result ⊥ (taking O.taken O.faults out.old out.new) }
 {
-    let lines = way_of(alloc, &plan, bounds, mark)?;
-    let outcome = write_shown(alloc, plan, bounds, mark, lines.as_slice(), out)?;
+    let lines = path_of(alloc, &plan, bounds, observation)?;
+    let outcome = write_shown(alloc, plan, bounds, observation, lines.as_slice(), out)?;
     Ok(outcome)
 }
 
@@ -108,20 +108,20 @@ pub fn outcome_of_end(end: End) -> Outcome
     }
 }
 
-/// Writes the run to which one thread goes on from an order of an island. Everything that takes memory comes before the first write.
+/// Writes the run to which one thread goes on from a schedule of an island. Everything that takes memory comes before the first write.
 fn write_shown<O: Sink>(
     alloc: Global,
     plan: Plan,
     _bounds: Bounds,
-    _mark: Mark,
+    _observation: Observation,
     lines: &[Line],
     out: &mut O,
 ) -> Result<Outcome, Fault>
-    requires way { IsWayTo _bounds plan _mark lines.now }
-    ensures { Came (MarkEnds _bounds plan _mark) result ⊥ (taking O.taken O.faults out.old out.new) }
+    requires path { IsPathTo _bounds plan _observation lines.now }
+    ensures { Came (ObservationEnds _bounds plan _observation) result ⊥ (taking O.taken O.faults out.old out.new) }
 {
     islands_stand_alone();
-    orders_are_near();
+    schedules_are_near();
     let gone = go_on(alloc, plan, lines)?;
     let told = outcome_of_end(gone.end);
     let spelled = gone.book.plan();

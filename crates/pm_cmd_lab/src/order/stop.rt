@@ -9,14 +9,14 @@ use pm_base::NoMemory;
 use pm_cmd_ends::AT_LIMIT;
 use pm_io::{Sink, write_whole};
 
-/// No order shows what is asked for.
+/// No schedule shows what is asked for.
 const ABSENT: u8 = 1;
 
 /// Why no run was written.
 #[derive(Drop)]
 pub enum Stop {
     Fault(Fault),
-    /// No order shows what is asked for; the message says so.
+    /// No schedule shows what is asked for; the message says so.
     Absent(Vec<u8>),
     /// It wasn't seen before a limit came; the message says so.
     Unseen(Vec<u8>),

@@ -1,4 +1,4 @@
-//! What the orders of a plan show, island by island.
+//! What the schedules of a plan show, island by island.
 
 ghost use Rattle.std.specs.Prelude.{◌≡◌, ◌≤◌, ◌+◌, [], IfOk, OnOk};
 ghost use Rattle.pm_islands.specs.Numbers.{AreIslands, island_in};
@@ -16,15 +16,15 @@ use pm_outcomes::list::Outcome;
 use pm_outcomes::text::{Reach, reach_of};
 use std::alloc::Global;
 
-/// What the orders of a plan's islands show.
+/// What the schedules of a plan's islands show.
 #[derive(Drop)]
 pub struct Apart {
     /// The outcomes of each island that are at home there, in the order of the islands and then of their text.
-    pub marks: Vec<Outcome>,
+    pub observations: Vec<Outcome>,
     /// How far they are exact.
     pub reach: Reach,
-    /// How many spots were found.
-    pub spots: usize,
+    /// How many snapshots were found.
+    pub snapshots: usize,
 }
 
 /// The lesser of two rounds; no round is less than any.
@@ -51,7 +51,7 @@ fn both(one: Reach, other: Reach) -> Reach
     }
 }
 
-/// Adds what the orders of one more island show.
+/// Adds what the schedules of one more island show.
 fn add_island(
     alloc: Global,
     plan: &Plan,
@@ -66,19 +66,19 @@ fn add_island(
 {
     let part = part_at(alloc, plan, numbers, island)?;
     let outcomes = outcomes_of(alloc, &part, bounds)?;
-    let marks = outcomes.marks.as_slice();
-    push_own(&mut all.marks, marks, numbers, island)?;
+    let observations = outcomes.observations.as_slice();
+    push_own(&mut all.observations, observations, numbers, island)?;
     let reach = reach_of(outcomes.found.ended, outcomes.found.rounds.len());
     all.reach = both(all.reach, reach);
-    all.spots = more_spots(all.spots, outcomes.found.tree.nodes.len())?;
+    all.snapshots = more_snapshots(all.snapshots, outcomes.found.tree.nodes.len())?;
     Ok(())
 }
 
-/// So many spots more. That they aren't to be counted counts as want of memory.
-fn more_spots(spots: usize, more: usize) -> Result<usize, NoMemory>
-    ensures { IfOk result (λ sum. sum ≡ spots + more) }
+/// So many snapshots more. That they aren't to be counted counts as want of memory.
+fn more_snapshots(snapshots: usize, more: usize) -> Result<usize, NoMemory>
+    ensures { IfOk result (λ sum. sum ≡ snapshots + more) }
 {
-    match spots.checked_add(more) {
+    match snapshots.checked_add(more) {
         Some(sum) => Ok(sum),
         None => Err(NoMemory),
     }
@@ -86,18 +86,18 @@ fn more_spots(spots: usize, more: usize) -> Result<usize, NoMemory>
 
 /// No island yet.
 fn no_island(alloc: Global) -> Apart
-    ensures marks { result.marks.items ≡ [] }
+    ensures observations { result.observations.items ≡ [] }
     ensures exact { result.reach ≡ Reach.All }
-    ensures spots { result.spots ≡ 0 }
+    ensures snapshots { result.snapshots ≡ 0 }
 {
     Apart {
-        marks: Vec::new(alloc),
+        observations: Vec::new(alloc),
         reach: Reach::All,
-        spots: 0,
+        snapshots: 0,
     }
 }
 
-/// Adds what the orders of each island show.
+/// Adds what the schedules of each island show.
 fn add_islands(
     alloc: Global,
     plan: &Plan,
@@ -134,7 +134,7 @@ fn add_rest(
     Ok(())
 }
 
-/// What the orders of a plan's islands show within bounds, of each island within them all; `NoMemory` also where a search
+/// What the schedules of a plan's islands show within bounds, of each island within them all; `NoMemory` also where a search
 /// wanted memory.
 pub fn apart_of(alloc: Global, plan: &Plan, bounds: Bounds) -> Result<Apart, NoMemory>
     ensures { IfOk result (IsApart bounds plan.now) }

@@ -1,4 +1,4 @@
-//! `orders PLAN --expect FILE`: what the orders of a plan make of what its author expects.
+//! `orders PLAN --expect FILE`: what the schedules of a plan make of what its author expects.
 
 ghost use Rattle.std.specs.Prelude.{◌≡◌, ◌++◌, IfOk, length};
 ghost use Rattle.pm_cmd_ends.specs.Ending.{taking};
@@ -15,7 +15,7 @@ ghost use Rattle.pm_outcomes.specs.text.Texts.{told};
 
 use crate::ends::{Fault, Outcome, finish, load, write_text};
 use crate::find::{Read, expectations, tell_unread};
-use crate::orders::orders::{outcome_of_orders, outcomes_of};
+use crate::orders::orders::{outcome_of_schedules, outcomes_of};
 use pm_base::NoMemory;
 use pm_expect_report::broken::firsts_decide;
 use pm_expect_report::orders::{Judged, has_broken, judge, push_judged};
@@ -27,7 +27,7 @@ use pm_outcomes::text::{orders_text, push, reach_of};
 use std::alloc::Global;
 
 /// Runs `orders PLAN --expect FILE`: reads the plan and the file of expectations, and writes to `out` for each expectation
-/// whether an order breaks it, and then what the plan's orders show. A file of expectations that is refused is told so on
+/// whether a schedule breaks it, and then what the plan's schedules show. A file of expectations that is refused is told so on
 /// `out`. A message goes to `err`, and the answer is the status that the program ends with.
 pub fn expect_top<F: Files, O: Sink, E: Sink>(
     alloc: Global,
@@ -56,7 +56,7 @@ pub fn expect_top<F: Files, O: Sink, E: Sink>(
     }
 }
 
-/// Reads the file of expectations, and writes what the orders make of it.
+/// Reads the file of expectations, and writes what the schedules make of it.
 fn run_expect<F: Files, O: Sink>(
     alloc: Global,
     plan: &Plan,
@@ -76,7 +76,7 @@ fn run_expect<F: Files, O: Sink>(
     }
 }
 
-/// What the orders make of expectations, a line for each, and behind that what they show.
+/// What the schedules make of expectations, a line for each, and behind that what they show.
 fn expect_text(
     alloc: Global,
     plan: &Plan,
@@ -86,7 +86,7 @@ fn expect_text(
     differ: bool,
 ) -> Result<Vec<u8>, NoMemory>
     ensures { IfOk result (λ text. text.items ≡ judged_lines plan.now expect.now (reach_of all.now.found.ended (length all.now.found.rounds.items)) (length all.now.found.rounds.items) judged.now
-        ++ told plan.now differ (reach_of all.now.found.ended (length all.now.found.rounds.items)) (length all.now.found.tree.nodes.keys) all.now.marks.items) }
+        ++ told plan.now differ (reach_of all.now.found.ended (length all.now.found.rounds.items)) (length all.now.found.tree.nodes.keys) all.now.observations.items) }
 {
     let rounds = all.found.rounds.len();
     let reach = reach_of(all.found.ended, rounds);
@@ -97,7 +97,7 @@ fn expect_text(
     Ok(text)
 }
 
-/// Writes what the orders make of expectations, and what they show. Everything that takes memory comes before the first
+/// Writes what the schedules make of expectations, and what they show. Everything that takes memory comes before the first
 /// write.
 fn write_judged<O: Sink>(
     alloc: Global,
@@ -128,6 +128,6 @@ fn write_judged<O: Sink>(
         differ,
     )?;
     let reach = reach_of(all.found.ended, all.found.rounds.len());
-    let told = outcome_of_orders(reach, has_broken(judged.as_slice()));
+    let told = outcome_of_schedules(reach, has_broken(judged.as_slice()));
     write_text(text.as_slice(), told, out)
 }

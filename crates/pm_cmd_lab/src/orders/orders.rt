@@ -1,11 +1,11 @@
-//! `orders PLAN`: what each call may return and how each device may end, over the orders of a plan.
+//! `orders PLAN`: what each call may return and how each device may end, over the schedules of a plan.
 
 ghost use Rattle.std.specs.Prelude.{◌≡◌, IfOk, false};
 ghost use Rattle.pm_cmd_ends.specs.Ending.{taking};
 ghost use Rattle.pm_io.specs.Faults.{Rose};
 ghost use Rattle.pm_cmd_lab.specs.orders.Found.{IsFound, IsLedThrough};
 ghost use Rattle.pm_cmd_lab.specs.orders.Orders.{OrdersEnds, pace_of};
-ghost use Rattle.pm_cmd_lab.specs.orders.OrdersOutcome.{outcome_of_orders};
+ghost use Rattle.pm_cmd_lab.specs.orders.OrdersOutcome.{outcome_of_schedules};
 ghost use Rattle.pm_cmd_lab.specs.ends.Coming.{Came};
 ghost use Rattle.pm_cmd_lab.specs.ends.Ending.{Answered, OfThis};
 ghost use Rattle.pm_cmd_lab.specs.ends.Reading.{OfPlan};
@@ -24,8 +24,8 @@ use pm_outcomes::find::{Outcomes, all_outcomes};
 use pm_outcomes::text::{Reach, differs, told_text};
 use std::alloc::Global;
 
-/// Runs `orders PLAN`: reads the plan and writes to `out` what the orders of its islands show, at a pace and within bounds
-/// on disturbances and spots: all of it, or only of the commands and devices that differ. A message goes to `err`, and the
+/// Runs `orders PLAN`: reads the plan and writes to `out` what the schedules of its islands show, at a pace and within bounds
+/// on preemptions and snapshots: all of it, or only of the commands and devices that differ. A message goes to `err`, and the
 /// answer is the status that the program ends with.
 pub fn orders_top<F: Files, O: Sink, E: Sink>(
     alloc: Global,
@@ -47,7 +47,7 @@ pub fn orders_top<F: Files, O: Sink, E: Sink>(
     )
 }
 
-/// Reads the plan and writes what its orders show.
+/// Reads the plan and writes what its schedules show.
 fn run_orders<F: Files, O: Sink>(
     alloc: Global,
     plan: &str,
@@ -64,15 +64,11 @@ fn run_orders<F: Files, O: Sink>(
     write_orders(alloc, &plan, bounds, differ, out)
 }
 
-/// The pace of the orders.
+/// The pace of the schedules.
 pub fn pace_of(bounds: Bounds) -> Pace
     ensures { result ≡ pace_of bounds }
 {
-    if bounds.late {
-        Pace::Late
-    } else {
-        Pace::Prompt
-    }
+    if bounds.late { Pace::Late } else { Pace::Eager }
 }
 
 /// Whether the search wanted memory.
@@ -82,7 +78,7 @@ fn wants_memory(ended: Ended) -> bool
     matches!(ended, Ended::Stopped(Stop::NoMemory))
 }
 
-/// What the orders of a plan, which may be an island's part, show within bounds; `NoMemory` also where the search wanted memory.
+/// What the schedules of a plan, which may be an island's part, show within bounds; `NoMemory` also where the search wanted memory.
 pub fn outcomes_of(alloc: Global, plan: &Plan, bounds: Bounds) -> Result<Outcomes, NoMemory>
     ensures found { IfOk result (IsFound bounds plan.now) }
     ensures led { IfOk result (IsLedThrough bounds plan.now) }
@@ -92,7 +88,7 @@ pub fn outcomes_of(alloc: Global, plan: &Plan, bounds: Bounds) -> Result<Outcome
         plan,
         pace_of(bounds),
         bounds.most as usize,
-        bounds.spots as usize,
+        bounds.states as usize,
     )?;
     if wants_memory(all.found.ended) {
         return Err(NoMemory);
@@ -100,7 +96,7 @@ pub fn outcomes_of(alloc: Global, plan: &Plan, bounds: Bounds) -> Result<Outcome
     Ok(all)
 }
 
-/// Writes what a plan's orders show. Everything that takes memory comes before the first write.
+/// Writes what a plan's schedules show. Everything that takes memory comes before the first write.
 fn write_orders<O: Sink>(
     alloc: Global,
     plan: &Plan,
@@ -111,15 +107,15 @@ fn write_orders<O: Sink>(
     ensures { Came (OrdersEnds bounds differ plan.now) result ⊥ (taking O.taken O.faults out.old out.new) }
 {
     let all = apart_of(alloc, plan, bounds)?;
-    let marks = all.marks.as_slice();
-    let text = told_text(alloc, plan, marks, all.reach, all.spots, differ)?;
-    let told = outcome_of_orders(all.reach, differs(marks));
+    let observations = all.observations.as_slice();
+    let text = told_text(alloc, plan, observations, all.reach, all.snapshots, differ)?;
+    let told = outcome_of_schedules(all.reach, differs(observations));
     write_text(text.as_slice(), told, out)
 }
 
-/// What the command told, by how far the list is exact, and whether a command or a device has more than one mark.
-pub(crate) fn outcome_of_orders(reach: Reach, differs: bool) -> Outcome
-    ensures { result ≡ outcome_of_orders reach differs }
+/// What the command told, by how far the list is exact, and whether a command or a device has more than one observation.
+pub(crate) fn outcome_of_schedules(reach: Reach, differs: bool) -> Outcome
+    ensures { result ≡ outcome_of_schedules reach differs }
 {
     match reach {
         Reach::Limit(_) => Outcome::AtLimit,

@@ -1,4 +1,4 @@
-//! `orders PLAN --seen LOG`: what the orders of a plan show, and where the outcome of a kernel's run stands among it.
+//! `orders PLAN --seen LOG`: what the schedules of a plan show, and where the outcome of a kernel's run stands among it.
 
 ghost use Rattle.std.specs.Prelude.{ℕ, ◌≡◌, Bool, IfErr, IfNone, IfOk, IfSome, List, Option, Some, is_some, option_map, reverse, ◌||◌};
 ghost use Rattle.pm_cmd_ends.specs.Ending.{taking};
@@ -16,7 +16,7 @@ ghost use Rattle.pm_outcomes.specs.declared.kernel_log.tells.Tell.{Tell as ATell
 
 use crate::ends::{Fault, Outcome, finish, load, write_text};
 use crate::orders::apart::apart_of;
-use crate::orders::orders::outcome_of_orders;
+use crate::orders::orders::outcome_of_schedules;
 use pm_base::{NoMemory, TRACE_BYTES};
 use pm_io::{FileFault, Files, Sink, read_all};
 use pm_lab_words::Bounds;
@@ -27,7 +27,7 @@ use pm_outcomes::text::{differs, push_seen, told_text};
 use std::alloc::Global;
 
 /// Runs `orders PLAN --seen LOG`: reads the plan and the log of a kernel's run of it, and writes to `out` what the
-/// plan's orders show, and of what the log tells the first that none of them shows, if there is one. A message goes to
+/// plan's schedules show, and of what the log tells the first that none of them shows, if there is one. A message goes to
 /// `err`, and the answer is the status that the program ends with.
 pub fn seen_top<F: Files, O: Sink, E: Sink>(
     alloc: Global,
@@ -56,7 +56,7 @@ pub fn seen_top<F: Files, O: Sink, E: Sink>(
     }
 }
 
-/// Reads the log, and writes what the orders show and where its outcome stands.
+/// Reads the log, and writes what the schedules show and where its outcome stands.
 fn run_seen<F: Files, O: Sink>(
     alloc: Global,
     plan: &Plan,
@@ -108,14 +108,14 @@ fn whole_outcome(alloc: Global, plan: &Plan, log: &[u8]) -> Result<Option<Vec<Te
     let Some(tells) = outcome_of(alloc, plan, log)? else {
         return Ok(None);
     };
-    if is_whole(plan, tells.as_slice()) {
+    if is_whole(alloc, plan, tells.as_slice())? {
         Ok(Some(tells))
     } else {
         Ok(None)
     }
 }
 
-/// Writes what the orders show and where the outcome of a log stands.
+/// Writes what the schedules show and where the outcome of a log stands.
 fn write_placed<O: Sink>(
     alloc: Global,
     plan: &Plan,
@@ -136,24 +136,24 @@ fn write_placed<O: Sink>(
     }
 }
 
-/// Of what was told the first that no mark shows, if there is one.
-fn placed<'a>(marks: &[AnOutcome], tells: &'a [Tell]) -> Option<&'a Tell>
-    ensures { IsPlaced marks.now tells.now (option_map (λ t. t.now) result) }
+/// Of what was told the first that no observation shows, if there is one.
+fn placed<'a>(observations: &[AnOutcome], tells: &'a [Tell]) -> Option<&'a Tell>
+    ensures { IsPlaced observations.now tells.now (option_map (λ t. t.now) result) }
 {
-    match first_unlisted(marks, tells) {
+    match first_unlisted(observations, tells) {
         Some(place) => Some(&tells[place]),
         None => None,
     }
 }
 
-/// Whether a command or a device has more than one mark, or something was told that no mark shows.
-fn stands_out(marks: &[AnOutcome], unlisted: Option<&Tell>) -> bool
-    ensures { result ≡ (differs marks.now || is_some (option_map (λ t. t.now) unlisted.entry)) }
+/// Whether a command or a device has more than one observation, or something was told that no observation shows.
+fn stands_out(observations: &[AnOutcome], unlisted: Option<&Tell>) -> bool
+    ensures { result ≡ (differs observations.now || is_some (option_map (λ t. t.now) unlisted.entry)) }
 {
-    differs(marks) || unlisted.is_some()
+    differs(observations) || unlisted.is_some()
 }
 
-/// Writes what the orders show, and of what was told the first that none of them shows. Everything that takes memory comes
+/// Writes what the schedules show, and of what was told the first that none of them shows. Everything that takes memory comes
 /// before the first write.
 fn write_seen<O: Sink>(
     alloc: Global,
@@ -166,10 +166,10 @@ fn write_seen<O: Sink>(
     ensures { Came (SeenEnds bounds differ tells.now plan.now) result ⊥ (taking O.taken O.faults out.old out.new) }
 {
     let all = apart_of(alloc, plan, bounds)?;
-    let marks = all.marks.as_slice();
-    let mut text = told_text(alloc, plan, marks, all.reach, all.spots, differ)?;
-    let unlisted = placed(marks, tells);
+    let observations = all.observations.as_slice();
+    let mut text = told_text(alloc, plan, observations, all.reach, all.snapshots, differ)?;
+    let unlisted = placed(observations, tells);
     push_seen(&mut text, plan, all.reach, unlisted)?;
-    let told = outcome_of_orders(all.reach, stands_out(marks, unlisted));
+    let told = outcome_of_schedules(all.reach, stands_out(observations, unlisted));
     write_text(text.as_slice(), told, out)
 }

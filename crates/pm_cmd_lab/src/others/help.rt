@@ -12,7 +12,7 @@ use pm_lab_words::Command;
 
 /// The answer of `help`.
 pub const HELP: &[u8] =
-    b"usage: pm_lab say PLAN | find PLAN TRACE [--expect FILE] [--ktap] [--notes] | picture PLAN TRACE [--json] | orders PLAN [--late] [--most K] [--spots N] [--differ] [--expect FILE|--seen LOG] | order PLAN [--late] [--most K] [--spots N] CALLER N CODE|end DEVICE STATUS USAGE ERROR|--expect FILE fails INDEX | kernel PLAN
+    b"usage: pm_lab say PLAN | find PLAN TRACE [--expect FILE] [--ktap] [--notes] | picture PLAN TRACE [--json] | orders PLAN [--late] [--most K] [--states N] [--differ] [--expect FILE|--seen LOG] | order PLAN [--late] [--most K] [--states N] CALLER N CODE|end DEVICE STATUS USAGE ERROR|--expect FILE fails INDEX | kernel PLAN
 
 say PLAN            what is wrong with a plan, and where
 find PLAN TRACE     what stands out in a run, and whether what is expected holds
@@ -52,8 +52,12 @@ form, and then how much the plan has:
 All this goes to the output; a file that can't be read is named on standard
 error.
 
-Status 0: it is a plan, and nothing in it looks wrong. 1: warnings are told.
-2: wrong words. 3: the plan is refused, or the file is longer than 1,048,576
+A driver file (docs/DRIVER-FORMAT.md) is told of so too, its first refusal alone:
+
+    hi846.toml: devices 1 flags 0 callers 4 steps 22 places 18 ways 24 guards 4
+
+Status 0: it is a plan or a driver, and nothing in it looks wrong. 1: warnings
+are told. 2: wrong words. 3: it is refused, or the file is longer than 1,048,576
 bytes. 4: it couldn't be read. 5: writing failed. 7: no memory.
 ";
 
@@ -62,34 +66,35 @@ pub const FIND_PAGE: &[u8] = b"pm_lab find PLAN TRACE [--expect FILE] [--ktap] [
 
 Tells what stands out in a run, in the order of its lines, and how much that is:
 
-    cam.trace:12: error: leak: sensor never gives back the count of imx that get_sync took here
-    cam.trace:22: error: answer: sensor: get_sync imx answers -5 (EIO) and keeps its count
-    2 findings in 130 lines
+    cam.trace:12: error: leak: sensor never gives back the count of imx that get_sync took here (cam.toml:40:4)
+    1 finding in 130 lines
 
-FILE:LINE comes first, so that an editor or a CI job jumps there. At most 200
-findings are told; the last line counts them all. The trace is read in either
-format.
+FILE:LINE comes first, so that an editor or a CI job jumps there; behind it
+stands the command in the plan. At most 200 findings are told; the last line
+counts them all. The trace is read in either format.
 
     error    leak          a get whose count is never put, in a finished run
+             answer        a call that answers an error; of a failing callback
+                           only where the count that it keeps isn't put next
+             refused put   a put that has no count to give back
+    warning  left on       at the end of a finished run a device is active and
+                           no caller holds it, and it is enabled, or disabling
+                           it dropped a suspend that was still to come; or a
+                           domain is on though no device of it is active
              stolen        a put that takes away another caller's count
-             answer        a call that answers an error
-             poisoned      a call that answers -22 since the device has an error
-             off domain    a device is active and a domain of it is off
-    warning  left on       a device that is active at the end of a finished
-                           run, or when it is disabled; a domain that is on
-                           at the end though no device of it is active
+             refused status  a set_active or set_suspended that answers -11
+                           or -16
              unmarked      a put_autosuspend or put_sync_autosuspend whose
-                           device was marked as busy before, and not then
+                           device was used since it was marked as busy
              never on      a count under which its device was never active
-             off parent    a device is active and its parent isn't, and why
-                           that may be
-             off supplier  the same of the supplier of a link
-    note     refused       a call that answers -11, -16 or -115
-             no count      a get_if_active or get_if_in_use that answers 0
-             failed        a callback that answers an error
+             off domain    a device is active and a domain of it is off
+             off parent, off supplier  the same of its parent, or of the
+                           supplier of a link, and why that may be
+    note     refused, no count, failed, poisoned   what a right driver meets
 
-Notes are told, and counted, with --notes alone. Of a trace that isn't the text
-of a lawful run the first bad line is told, and why:
+Notes, also of what only follows from another finding, are told, and counted,
+with --notes alone. Of a trace that isn't the text of a lawful run the first bad
+line is told, and why:
 
     cam.trace:26: not lawful: step
 
@@ -140,49 +145,49 @@ refused, or a file is too long. 4: one couldn't be read. 5: writing failed.
 ";
 
 /// The answer of `help orders`.
-pub const ORDERS_PAGE: &[u8] = b"pm_lab orders PLAN [--late] [--most K] [--spots N] [--differ]
+pub const ORDERS_PAGE: &[u8] = b"pm_lab orders PLAN [--late] [--most K] [--states N] [--differ]
                    [--expect FILE|--seen LOG]
 
-Goes through the orders in which the lines of a run of the plan may come, and
-tells what each call returns and how each device ends over all of them:
+Goes through the schedules of the plan, the orders in which the lines of its runs
+may come, and tells what each call returns and how each device ends:
 
     probe 5 get_sync cam: 0 / 1 after 1
     user 1 get_sync cam: -13 / 1 / 0 after 1
     end cam: active usage 1 error 0
-    within 2, 1844 spots
+    within 2, 1844 states
 
 A line of a call has its caller, its number in the script and its codes, a line
 of a device its status, usage and error at the end of a finished run. `never`
-says that no order has one.
+says that no schedule has one.
 
-The orders are those at a prompt pace: a line comes as soon as some actor may
-write. With --late an actor's line may also come later than another's. `after
-K` is the least number of disturbances with which it shows: of lines at which
-another writes, or time moves, though the writer of the last line, or anybody,
-may write. Orders of at most K are gone through, 0 to 99, two where --most
-isn't given; and at most N spots, 1 to 10,000,000, a million where --spots
-isn't given. A spot is what decides how an order goes on.
+The schedules are eager: a line comes as soon as some actor may write. With --late
+an actor's line may also come later than another's. `after K` is the least number
+of preemptions with which it shows: of lines at which another writes, or time
+moves, though the writer of the last line, or anybody, may write. Schedules of at
+most K are gone through, 0 to 99, two where --most isn't given; and at most N
+states, 1 to 10,000,000, a million where --states isn't given. A state is what
+decides how a schedule goes on.
 
 Callers and devices that no script, parent, link or domain connects run apart,
-and are gone through apart. So an order has the lines of one island alone, as
+and are gone through apart. So a schedule has the lines of one island alone, as
 they may stand in a run of the whole plan; K, N and the moments at which a line
-may come late are the island's own, and the spots are counted together.
+may come late are the island's own, and the states are counted together.
 
-The last line says how far this is exact: `all`, of all orders of that pace;
-`within K`, of those with at most K disturbances; `limit`, where the spots or
+The last line says how far this is exact: `all`, of all schedules of that pace;
+`within K`, of those with at most K preemptions; `limit`, where the states or
 the lines of the plan came first, of as many as it names. It is the least that
 holds of each island.
 
 With --expect FILE a line for each expectation of the file comes first, of its
 answers, its ends and its uses, each in the file's order:
 
-    race.expect.toml:2: holds in every order of at most 2 disturbances
+    race.expect.toml:2: holds in every schedule of at most 2 preemptions
     race.expect.toml:7: fails after 1: end cam suspended: cam is active at the end, usage 1
 
-`help find` says what is expected. It fails where some order breaks it, and
+`help find` says what is expected. It fails where some schedule breaks it, and
 `order` writes the trace of one. Where a limit came first it may be broken in a
 round that isn't complete: `after more than K`. A use may need a device of
-another island, so with --expect the orders have the lines of the whole plan.
+another island, so with --expect the schedules have the lines of the whole plan.
 
 With --differ only commands and devices are told that have more than one. With
 --seen LOG a line says behind the last one whether each code and end that the
@@ -197,9 +202,9 @@ came first. 7: no memory.
 ";
 
 /// The answer of `help order`.
-pub const ORDER_PAGE: &[u8] = b"pm_lab order PLAN [--late] [--most K] [--spots N] CALLER N CODE
-pm_lab order PLAN [--late] [--most K] [--spots N] end DEVICE STATUS USAGE ERROR
-pm_lab order PLAN [--late] [--most K] [--spots N] --expect FILE fails INDEX
+pub const ORDER_PAGE: &[u8] = b"pm_lab order PLAN [--late] [--most K] [--states N] CALLER N CODE
+pm_lab order PLAN [--late] [--most K] [--states N] end DEVICE STATUS USAGE ERROR
+pm_lab order PLAN [--late] [--most K] [--states N] --expect FILE fails INDEX
 
 Writes the trace of a run in which the N-th command of CALLER, counted from 1,
 returns CODE; or that leaves DEVICE so, with that error; or that breaks an
@@ -210,15 +215,15 @@ expectation of FILE, counted from 1 as `orders --expect` tells them:
     pm_lab order race.toml --expect race.expect.toml fails 2 >race.trace
 
 What `orders` lists or says to fail has a run here, with the same options: one of
-the orders, of as few disturbances as `orders` says; from there on the whole plan
-goes by one thread to its end. For a return or an end the order is of the island
+the schedules, of as few preemptions as `orders` says; from there on the whole plan
+goes by one thread to its end. For a return or an end the schedule is of the island
 of the caller or the device alone. It is the text of a lawful run, in the plan's
 format.
 
-Status 0: written. 1: no order has it, of those that were gone through; a
+Status 0: written. 1: no schedule has it, of those that were gone through; a
 message says how far that is. 2: wrong words. 3: the plan or the expectations are
 refused, or there is no such caller, command, device or expectation. 4: one
-couldn't be read. 5: writing failed. 6: a limit of spots or of lines came first,
+couldn't be read. 5: writing failed. 6: a limit of states or of lines came first,
 or the run has as many lines as the plan allows and isn't finished. 7: no memory.
 ";
 

@@ -9,7 +9,8 @@ ghost use Rattle.pm_cmd_lab.specs.ends.Ending.{Answered, OfThis};
 
 use crate::ends::{Fault, Outcome, finish, plan_bytes, write_text};
 use pm_io::{Files, Sink};
-use pm_say::{Kind, say};
+use pm_say::Kind;
+use pm_say_driver::say_file;
 use std::alloc::Global;
 
 /// Runs `say PLAN`: reads the plan's file and writes what is told of it to `out`. A message goes to `err`, and
@@ -55,7 +56,7 @@ fn write_said<O: Sink>(
 ) -> Result<Outcome, Fault>
     ensures { Came (SayEndsOf plan.now bytes.now) result ⊥ (taking O.taken O.faults out.old out.new) }
 {
-    let said = say(alloc, plan.as_bytes(), bytes)?;
+    let said = say_file(alloc, plan.as_bytes(), bytes)?;
     write_text(said.text.as_slice(), outcome_of(said.kind), out)
 }
 

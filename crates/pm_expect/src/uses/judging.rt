@@ -14,8 +14,8 @@ use crate::uses::watching::{Watch, follow, fresh};
 use crate::verdicts::{Judged, Lack, Return, Verdict, once, returns_of};
 use crate::{Use, times_by};
 use pm_base::NoMemory;
+use pm_book::Replay;
 use pm_model::{Line, Plan};
-use pm_safety::dependencies::Replay;
 use std::alloc::Global;
 
 /// What is known of each use after these lines.

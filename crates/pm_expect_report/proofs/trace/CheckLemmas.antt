@@ -10,7 +10,7 @@ use Rattle.pm_expect.specs.declared.verdicts.verdict.Leaves.{Leaves}
 use Rattle.pm_expect.specs.text.Items.{end_item, has_failed}
 use Rattle.pm_expect.specs.declared.text.items.Item.{Item}
 use Rattle.pm_find.specs.trace.Telling.{IsFound}
-use Rattle.pm_find.specs.trace.Texts.{has_fault, run_found, run_text}
+use Rattle.pm_find.specs.trace.Texts.{Files, has_fault, run_found}
 use Rattle.pm_find.specs.declared.trace.telling.Found.{Found}
 use Rattle.pm_model.specs.FirstBad.{StandsFor}
 use Rattle.pm_model.specs.History.{History}
@@ -43,39 +43,41 @@ ends_told (Ok v) plan of h lines finished views ends asked js told same these ov
     ∙ ap (map (judged (end_verdict plan h))) named)
 
 -- a run in plain words
-pub plain_told : {E : Type 0} (r : Result Found E) (plan : Plan) (h : History) (file text : List ℕ) (all : Expectations) (trace : List ℕ) (notes : Bool) (found : Found) (given shown : List Item) (failed written : List ℕ)
-    → IsFound plan h trace notes found → given ≡ items_in plan h all → shown ≡ items_in plan h all → written ≡ failed → IsPlain file text trace given failed
+pub plain_told : {E : Type 0} (r : Result Found E) (plan : Plan) (h : History) (file text : List ℕ) (all : Expectations) (files : Files) (notes : Bool) (found : Found) (given shown : List Item) (failed written : List ℕ)
+    → IsFound plan h files notes found → given ≡ items_in plan h all → shown ≡ items_in plan h all → written ≡ failed → IsPlain file text files.trace given failed
     → IfOk r (λ (t : Found). t.text.items ≡ found.text.items ++ written) → IfOk r (λ (t : Found). t.stands_out ≡ (found.stands_out || has_failed shown))
-    → IfOk r (IsPlainRun plan h file text all trace notes)
-plain_told (Err e) plan h file text all trace notes found given shown failed written is_found given_is shown_is written_is plain text_is stands_is = tt
-plain_told (Ok t) plan h file text all trace notes found given shown failed written is_found given_is shown_is written_is plain text_is stands_is = record {
+    → IfOk r (IsPlainRun plan h file text all files notes)
+plain_told (Err e) plan h file text all files notes found given shown failed written is_found given_is shown_is written_is plain text_is stands_is = tt
+plain_told (Ok t) plan h file text all files notes found given shown failed written is_found given_is shown_is written_is plain text_is stands_is = record {
+  run = found.text.items;
+  tells = is_found.tells;
   failed = failed;
-  is_plain = subst (λ (l : List Item). IsPlain file text trace l failed) given_is plain;
-  text_is = text_is ∙ ap (λ (x : List ℕ). x ++ written) is_found.text_is ∙ ap (λ (x : List ℕ). run_text plan h trace notes ++ x) written_is;
+  is_plain = subst (λ (l : List Item). IsPlain file text files.trace l failed) given_is plain;
+  text_is = text_is ∙ ap (λ (x : List ℕ). found.text.items ++ x) written_is;
   stands_out_is =
       stands_is ∙ ap (λ (b : Bool). b || has_failed shown) is_found.stands_out_is ∙ ap (λ (l : List Item). has_fault (run_found plan h) || has_failed l) shown_is;
 }
 
 -- in the one way or the other
-pub told_ktap : {E : Type 0} (r : Result Found E) (plan : Plan) (h : History) (file text : List ℕ) (all : Expectations) (trace : List ℕ) (ktap notes : Bool) → ktap ≡ true
-    → IfOk r (λ found. IsKtapRun plan h all trace found) → IfOk r (λ found. IsRunTold plan h file text all trace ktap notes found)
-told_ktap r plan h file text all trace true notes so is = is
-told_ktap r plan h file text all trace false notes so is = cc
+pub told_ktap : {E : Type 0} (r : Result Found E) (plan : Plan) (h : History) (file text : List ℕ) (all : Expectations) (files : Files) (ktap notes : Bool) → ktap ≡ true
+    → IfOk r (λ found. IsKtapRun plan h all files.trace found) → IfOk r (λ found. IsRunTold plan h file text all files ktap notes found)
+told_ktap r plan h file text all files true notes so is = is
+told_ktap r plan h file text all files false notes so is = cc
 
-pub told_plain : {E : Type 0} (r : Result Found E) (plan : Plan) (h : History) (file text : List ℕ) (all : Expectations) (trace : List ℕ) (ktap notes : Bool) → ktap ≡ false
-    → IfOk r (λ found. IsPlainRun plan h file text all trace notes found) → IfOk r (λ found. IsRunTold plan h file text all trace ktap notes found)
-told_plain r plan h file text all trace false notes so is = is
-told_plain r plan h file text all trace true notes so is = cc
+pub told_plain : {E : Type 0} (r : Result Found E) (plan : Plan) (h : History) (file text : List ℕ) (all : Expectations) (files : Files) (ktap notes : Bool) → ktap ≡ false
+    → IfOk r (λ found. IsPlainRun plan h file text all files notes found) → IfOk r (λ found. IsRunTold plan h file text all files ktap notes found)
+told_plain r plan h file text all files false notes so is = is
+told_plain r plan h file text all files true notes so is = cc
 
 -- the bytes of a trace stand for a lawful list
-pub told_lawful : {E : Type 0} (r : Result Found E) (plan of : Plan) (h : History) (file text : List ℕ) (all : Expectations) (trace bytes : List ℕ) (ktap notes : Bool) → of ≡ plan → IsLawful plan h → StandsFor plan bytes h
-    → IfOk r (λ found. IsRunTold of h file text all trace ktap notes found) → IfOk r (λ found. IsToldOf plan file text all trace bytes ktap notes found)
-told_lawful (Ok found) plan of h file text all trace bytes ktap notes same lawful stands_for is =
-    stands h lawful stands_for (subst (λ (p : Plan). IsRunTold p h file text all trace ktap notes found) same is)
-told_lawful (Err e) plan of h file text all trace bytes ktap notes same lawful stands_for is = tt
+pub told_lawful : {E : Type 0} (r : Result Found E) (plan of : Plan) (h : History) (file text : List ℕ) (all : Expectations) (files : Files) (bytes : List ℕ) (ktap notes : Bool) → of ≡ plan → IsLawful plan h → StandsFor plan bytes h
+    → IfOk r (λ found. IsRunTold of h file text all files ktap notes found) → IfOk r (λ found. IsToldOf plan file text all files bytes ktap notes found)
+told_lawful (Ok found) plan of h file text all files bytes ktap notes same lawful stands_for is =
+    stands h lawful stands_for (subst (λ (p : Plan). IsRunTold p h file text all files ktap notes found) same is)
+told_lawful (Err e) plan of h file text all files bytes ktap notes same lawful stands_for is = tt
 
 -- or they have a first bad line
-pub told_bad : {E : Type 0} (r : Result Found E) (plan : Plan) (file text : List ℕ) (all : Expectations) (trace bytes : List ℕ) (ktap notes : Bool) (n : ℕ) (why : NoWhy) → IsVerdict plan bytes (No n why)
-    → IfOk r (λ found. IsBadTold trace ktap n why found) → IfOk r (λ found. IsToldOf plan file text all trace bytes ktap notes found)
-told_bad (Ok found) plan file text all trace bytes ktap notes n why verdict is = bad n why verdict is
-told_bad (Err e) plan file text all trace bytes ktap notes n why verdict is = tt
+pub told_bad : {E : Type 0} (r : Result Found E) (plan : Plan) (file text : List ℕ) (all : Expectations) (files : Files) (bytes : List ℕ) (ktap notes : Bool) (n : ℕ) (why : NoWhy) → IsVerdict plan bytes (No n why)
+    → IfOk r (λ found. IsBadTold files.trace ktap n why found) → IfOk r (λ found. IsToldOf plan file text all files bytes ktap notes found)
+told_bad (Ok found) plan file text all files bytes ktap notes n why verdict is = bad n why verdict is
+told_bad (Err e) plan file text all files bytes ktap notes n why verdict is = tt

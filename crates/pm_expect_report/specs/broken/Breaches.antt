@@ -1,4 +1,4 @@
--- What of an expectation is broken where an order of a plan stands (this project's own).
+-- What of an expectation is broken where a schedule of a plan stands (this project's own).
 use Rattle.std.specs.Prelude.{ℕ, ℤ, ◌-◌, Bool, true, false, not, ◌&&◌, ◌||◌, List, [], Option, Some, None, nat_eq, option_map, slice_get, take, if◌then◌else◌}
 use Rattle.std.specs.Option.{option_and_then, option_map_or}
 use Rattle.std.specs.Ordering.{int_eq}
@@ -16,7 +16,7 @@ use Rattle.pm_expect.specs.declared.expectation.Which.TheVariants as which
 use Rattle.pm_expect.specs.verdicts.Verdicts.{is_as_left}
 use Rattle.pm_expect.specs.declared.verdicts.verdict.Lack.{Lack}
 use Rattle.pm_expect.specs.declared.verdicts.verdict.Leaves.{Leaves}
-use Rattle.pm_outcomes.specs.declared.list.marks.Returned.{Returned}
+use Rattle.pm_outcomes.specs.declared.list.observations.Returned.{Returned}
 use Rattle.pm_outcomes.specs.observe.Shows.{return_at}
 use Rattle.pm_model.specs.declared.event.Command.{Command}
 use Rattle.pm_model.specs.declared.plan.Plan.{Plan}
@@ -25,7 +25,7 @@ use Rattle.pm_model.specs.Counted.{only_if}
 use Rattle.pm_model.specs.Lawful.{is_empty_place, is_finished}
 use Rattle.pm_model.specs.Views.{device}
 use Rattle.pm_model.specs.World.{called_by, place}
-use Rattle.pm_explore.specs.schedule.Spots.{Spot}
+use Rattle.pm_explore.specs.schedule.Snapshots.{Snapshot}
 use Rattle.pm_expect.specs.uses.Lacks.{lack_now}
 
 abbrev pub script_of : Plan → ℕ → List Command
@@ -47,34 +47,34 @@ abbrev pub is_meant : Plan → Answer → Returned → Bool
 is_meant plan a r = nat_eq r.caller a.caller && is_meant_in (script_of plan a.caller) a r.command
 
 -- the last line is the return of a call that the answer means, with another code
-abbrev pub other_code : Plan → Answer → Spot → Option ℤ
+abbrev pub other_code : Plan → Answer → Snapshot → Option ℤ
 other_code plan a s = option_and_then (λ r. only_if (is_meant plan a r && not (int_eq r.code a.code)) r.code) (return_at s)
 
 -- the run is finished, and leaves the device otherwise
 abbrev pub left_otherwise : End → Device → Option Leaves
 left_otherwise e x = if is_as_left e x then None else Some (record { status = x.status; usage = x.usage })
 
-abbrev pub other_end : Plan → End → Spot → Option Leaves
+abbrev pub other_end : Plan → End → Snapshot → Option Leaves
 other_end plan e s = if is_finished plan s.world then left_otherwise e (device s.world.views e.dev) else None
 
 -- the last line is a return of this caller's
-abbrev pub is_return_of : Spot → ℕ → Bool
+abbrev pub is_return_of : Snapshot → ℕ → Bool
 is_return_of s caller = option_map_or (λ r. nat_eq r.caller caller) (return_at s) false
 
 -- the last line is the call's, the return's or one between them, of a call by this caller
-abbrev pub is_in_call_of : Spot → ℕ → Bool
+abbrev pub is_in_call_of : Snapshot → ℕ → Bool
 is_in_call_of s caller = not (is_empty_place (place s.world (Caller caller))) || is_return_of s caller
 
 -- of a call of the command of a use
-abbrev pub is_in_use : Plan → Use → Spot → Bool
+abbrev pub is_in_use : Plan → Use → Snapshot → Bool
 is_in_use plan u s = is_in_call_of s u.caller && is_command_at u.command (script_of plan u.caller) (called_by s.world u.caller)
 
 -- and the device lacks something to be used
-abbrev pub lack_in_use : Plan → Use → Spot → Option Lack
+abbrev pub lack_in_use : Plan → Use → Snapshot → Option Lack
 lack_in_use plan u s = if is_in_use plan u s then lack_now plan s.world.views u.dev else None
 
--- how an expectation is broken where an order stands, if it is
-unfoldable pub breach_at : Plan → Expectation → Spot → Option Breach
+-- how an expectation is broken where a schedule stands, if it is
+unfoldable pub breach_at : Plan → Expectation → Snapshot → Option Breach
 breach_at plan (expectation.Answer a) s = option_map (λ code. Answered code) (other_code plan a s)
 breach_at plan (expectation.End e) s = option_map (λ leaves. Leaving leaves) (other_end plan e s)
 breach_at plan (expectation.Use u) s = option_map (λ lack. Lacking lack) (lack_in_use plan u s)

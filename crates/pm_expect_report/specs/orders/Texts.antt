@@ -1,4 +1,4 @@
--- The text of what the orders of a plan make of the expectations of a file (this project's own).
+-- The text of what the schedules of a plan make of the expectations of a file (this project's own).
 use Rattle.std.specs.Prelude.{ℕ, Bool, List, [], ◌++◌, Option, Some, None, codes, decimal, is_some, nat_lt, if◌then◌else◌}
 use Rattle.std.specs.List.{flat_map, list_any}
 use Rattle.pm_expect_report.specs.declared.broken.expectation.Breach.{Breach}
@@ -30,23 +30,23 @@ breach_told names (End e) (Leaving leaves) = end_told names e leaves
 breach_told names (Use u) (Lacking lack) = use_told names u lack
 breach_told names _ _ = []
 
--- by how many disturbances: the least number, where it isn't 0; or, of a spot of no complete round, that they are more than the last one's
+-- by how many preemptions: the least number, where it isn't 0; or, of a snapshot of no complete round, that they are more than the last one's
 abbrev pub beyond_text : Option ℕ → List ℕ
 beyond_text (Some k) = codes " after more than " ++ decimal k
-beyond_text None = codes " in some order"
+beyond_text None = codes " in some schedule"
 
 abbrev pub fewest_text : ℕ → ℕ → List ℕ
 fewest_text rounds round = if nat_lt round rounds then after_text round else beyond_text (last_round rounds)
 
--- of which orders it is said that it holds in them
+-- of which schedules it is said that it holds in them
 unfoldable pub within_text : ℕ → List ℕ
-within_text k = codes " of at most " ++ decimal k ++ codes " disturbances"
+within_text k = codes " of at most " ++ decimal k ++ codes " preemptions"
 
 abbrev pub holds_within : ℕ → List ℕ
-holds_within k = codes "holds in every order" ++ within_text k
+holds_within k = codes "holds in every schedule" ++ within_text k
 
 abbrev pub holds_text : Reach → List ℕ
-holds_text All = codes "holds in every order"
+holds_text All = codes "holds in every schedule"
 holds_text (Within k) = holds_within k
 holds_text (Limit (Some k)) = holds_within k
 holds_text (Limit None) = codes "no round is complete"
@@ -55,7 +55,7 @@ abbrev pub verdict_text : Names → Reach → ℕ → Expectation → Option Bro
 verdict_text names reach rounds e (Some b) = codes "fails" ++ fewest_text rounds b.round ++ codes ": " ++ name_of names e ++ codes ": " ++ breach_told names e b.breach
 verdict_text names reach rounds e None = holds_text reach
 
--- `FILE:LINE: holds in every order`, `FILE:LINE: fails after 1: end hid suspended: hid is active at the end, usage 1`
+-- `FILE:LINE: holds in every schedule`, `FILE:LINE: fails after 1: end hid suspended: hid is active at the end, usage 1`
 abbrev pub judged_line : Names → List ℕ → Reach → ℕ → Judged → List ℕ
 judged_line names file reach rounds j = file ++ codes ":" ++ decimal j.line ++ codes ": " ++ verdict_text names reach rounds j.expectation j.broken ++ newline
 
@@ -66,7 +66,7 @@ judged_lines plan file reach rounds all = flat_map (judged_line (names_of plan) 
 abbrev pub has_broken : List Judged → Bool
 has_broken all = list_any (λ j. is_some j.broken) all
 
--- that no order breaks it, of those that were gone through
+-- that no schedule breaks it, of those that were gone through
 abbrev pub unbroken_line : Plan → Reach → Expectation → List ℕ
 unbroken_line plan reach e = codes "order: " ++ name_of (names_of plan) e ++ codes ": " ++ holds_text reach ++ limit_words reach ++ newline
 

@@ -3,7 +3,7 @@ use Rattle.std.specs.Prelude.{◌≡◌, ℕ, Bool, true, false, ◌||◌, List,
 use Rattle.pm_expect.specs.declared.expectation.Expectations.{Expectations}
 use Rattle.pm_expect.specs.text.Items.{has_failed}
 use Rattle.pm_expect.specs.text.Texts.{ktap_text}
-use Rattle.pm_find.specs.trace.Texts.{has_fault, run_found, run_text, unlawful_text}
+use Rattle.pm_find.specs.trace.Texts.{Files, TellsRun, has_fault, run_found, unlawful_text}
 use Rattle.pm_find.specs.declared.trace.telling.Found.{Found}
 use Rattle.pm_model.specs.FirstBad.{StandsFor}
 use Rattle.pm_model.specs.History.{History}
@@ -17,10 +17,12 @@ use Rattle.pm_expect_report.specs.trace.Plain.{IsPlain}
 -- In plain words, over a run and what the text of a file of this name expects of it: what stands out in the run, with notes or without
 -- them, then the expectations that fail, and how many there are. Something stands out where an error or a warning does, or an
 -- expectation fails.
-pub record IsPlainRun (plan : Plan) (h : History) (file text : List ℕ) (all : Expectations) (trace : List ℕ) (notes : Bool) (found : Found) : Type 0 where
+pub record IsPlainRun (plan : Plan) (h : History) (file text : List ℕ) (all : Expectations) (files : Files) (notes : Bool) (found : Found) : Type 0 where
+  pub run : List ℕ
+  pub tells : TellsRun plan h files notes run
   pub failed : List ℕ
-  pub is_plain : IsPlain file text trace (items_in plan h all) failed
-  pub text_is : found.text.items ≡ run_text plan h trace notes ++ failed
+  pub is_plain : IsPlain file text files.trace (items_in plan h all) failed
+  pub text_is : found.text.items ≡ run ++ failed
   pub stands_out_is : found.stands_out ≡ (has_fault (run_found plan h) || has_failed (items_in plan h all))
 
 -- as KTAP: the expectations alone
@@ -33,9 +35,9 @@ abbrev pub bail_text : List ℕ → ℕ → NoWhy → List ℕ
 bail_text trace n why = codes "KTAP version 1\nBail out! " ++ unlawful_text trace n why
 
 -- what is told of a run
-abbrev pub IsRunTold : Plan → History → List ℕ → List ℕ → Expectations → List ℕ → Bool → Bool → Found → Type 0
-IsRunTold plan h file text all trace true notes found = IsKtapRun plan h all trace found
-IsRunTold plan h file text all trace false notes found = IsPlainRun plan h file text all trace notes found
+abbrev pub IsRunTold : Plan → History → List ℕ → List ℕ → Expectations → Files → Bool → Bool → Found → Type 0
+IsRunTold plan h file text all files true notes found = IsKtapRun plan h all files.trace found
+IsRunTold plan h file text all files false notes found = IsPlainRun plan h file text all files notes found
 
 -- what is told of a first bad line
 pub record IsBadTold (trace : List ℕ) (ktap : Bool) (n : ℕ) (why : NoWhy) (found : Found) : Type 0 where
@@ -43,6 +45,6 @@ pub record IsBadTold (trace : List ℕ) (ktap : Bool) (n : ℕ) (why : NoWhy) (f
   pub stands_out_is : found.stands_out ≡ true
 
 -- what is told of the bytes of a trace: they have a first bad line, or they stand for a lawful list
-pub data IsToldOf (plan : Plan) (file text : List ℕ) (all : Expectations) (trace bytes : List ℕ) (ktap notes : Bool) (found : Found) : Type 0 where
-  bad : (n : ℕ) (why : NoWhy) → IsVerdict plan bytes (No n why) → IsBadTold trace ktap n why found → IsToldOf plan file text all trace bytes ktap notes found
-  stands : (h : History) → IsLawful plan h → StandsFor plan bytes h → IsRunTold plan h file text all trace ktap notes found → IsToldOf plan file text all trace bytes ktap notes found
+pub data IsToldOf (plan : Plan) (file text : List ℕ) (all : Expectations) (files : Files) (bytes : List ℕ) (ktap notes : Bool) (found : Found) : Type 0 where
+  bad : (n : ℕ) (why : NoWhy) → IsVerdict plan bytes (No n why) → IsBadTold files.trace ktap n why found → IsToldOf plan file text all files bytes ktap notes found
+  stands : (h : History) → IsLawful plan h → StandsFor plan bytes h → IsRunTold plan h file text all files ktap notes found → IsToldOf plan file text all files bytes ktap notes found

@@ -1,12 +1,12 @@
-//! Whether a spot breaks an answer.
+//! Whether a snapshot breaks an answer.
 
 ghost use Rattle.std.specs.Prelude.{◌≡◌, ◌≤◌, length, take};
 ghost use Rattle.pm_expect_report.specs.broken.Breaches.{is_command_at, is_meant, is_meant_in, is_nth, other_code, script_of};
 ghost use Rattle.pm_expect.specs.Same.{times_of};
-ghost use Rattle.pm_explore.specs.state.SpotOf.{spot_of};
+ghost use Rattle.pm_explore.specs.state.SnapshotOf.{snapshot_of};
 
 use pm_expect::{Answer, Which, is_same_command};
-use pm_explore::state::Spot;
+use pm_explore::state::Snapshot;
 use pm_model::{Command, Plan};
 use pm_outcomes::list::Returned;
 use pm_outcomes::observe::shown_return;
@@ -81,11 +81,11 @@ fn is_meant(plan: &Plan, answer: &Answer, returned: &Returned) -> bool
         && is_meant_in(script_of(plan, answer.caller), answer, returned.command)
 }
 
-/// The code of the call that returned at a spot, where the answer means it and expects another.
-pub fn other_code(plan: &Plan, answer: &Answer, spot: &Spot) -> Option<i32>
-    ensures { result ≡ other_code plan.now answer.now (spot_of spot.now) }
+/// The code of the call that returned at a snapshot, where the answer means it and expects another.
+pub fn other_code(plan: &Plan, answer: &Answer, snapshot: &Snapshot) -> Option<i32>
+    ensures { result ≡ other_code plan.now answer.now (snapshot_of snapshot.now) }
 {
-    let returned = shown_return(spot)?;
+    let returned = shown_return(snapshot)?;
     if is_meant(plan, answer, &returned) && returned.code != answer.code {
         Some(returned.code)
     } else {

@@ -1,14 +1,14 @@
-//! Whether a spot breaks an end.
+//! Whether a snapshot breaks an end.
 
 ghost use Rattle.std.specs.Prelude.{◌≡◌};
 ghost use Rattle.pm_expect_report.specs.broken.Breaches.{left_otherwise, other_end};
 ghost use Rattle.pm_expect.specs.verdicts.Verdicts.{is_as_left, is_left};
-ghost use Rattle.pm_explore.specs.state.SpotOf.{spot_of};
+ghost use Rattle.pm_explore.specs.state.SnapshotOf.{snapshot_of};
 
 use pm_base::Status;
 use pm_expect::verdicts::Leaves;
 use pm_expect::{End, Left};
-use pm_explore::state::Spot;
+use pm_explore::state::Snapshot;
 use pm_model::{Device, Plan};
 use pm_outcomes::observe::{device_at, is_finished};
 
@@ -46,12 +46,12 @@ fn left_otherwise(end: &End, device: &Device) -> Option<Leaves>
     })
 }
 
-/// How a finished run that stands at a spot leaves a device, where that is otherwise than expected.
-pub fn other_end(plan: &Plan, end: &End, spot: &Spot) -> Option<Leaves>
-    ensures { result ≡ other_end plan.now end.now (spot_of spot.now) }
+/// How a finished run that stands at a snapshot leaves a device, where that is otherwise than expected.
+pub fn other_end(plan: &Plan, end: &End, snapshot: &Snapshot) -> Option<Leaves>
+    ensures { result ≡ other_end plan.now end.now (snapshot_of snapshot.now) }
 {
-    if is_finished(plan, spot) {
-        left_otherwise(end, &device_at(spot, end.dev))
+    if is_finished(plan, snapshot) {
+        left_otherwise(end, &device_at(snapshot, end.dev))
     } else {
         None
     }

@@ -1,10 +1,10 @@
-//! Expectations of all kinds, and what of them is broken where an order stands.
+//! Expectations of all kinds, and what of them is broken where a schedule stands.
 
 ghost use Rattle.std.specs.Prelude.{◌≡◌, ◌++◌, IfOk, OnOk, map};
 ghost use Rattle.pm_expect_report.specs.broken.Breaches.{breach_at};
 ghost use Rattle.pm_expect_report.specs.broken.Found.{all_of};
 ghost use Rattle.pm_expect_report.specs.declared.broken.expectation.Expectation.TheVariants as expectation;
-ghost use Rattle.pm_explore.specs.state.SpotOf.{spot_of};
+ghost use Rattle.pm_explore.specs.state.SnapshotOf.{snapshot_of};
 
 use crate::broken::answering::other_code;
 use crate::broken::ending::other_end;
@@ -12,7 +12,7 @@ use crate::broken::using::lack_in_use;
 use pm_base::NoMemory;
 use pm_expect::verdicts::{Lack, Leaves};
 use pm_expect::{Answer, End, Expectations, Use};
-use pm_explore::state::Spot;
+use pm_explore::state::Snapshot;
 use pm_model::Plan;
 use std::alloc::Global;
 
@@ -79,21 +79,21 @@ pub fn all_of(alloc: Global, expected: &Expectations) -> Result<Vec<Expectation>
     Ok(all)
 }
 
-/// How an expectation is broken at a spot, if it is.
+/// How an expectation is broken at a snapshot, if it is.
 #[tactic(auto, unfolding(crate::specs::broken::Breaches::breach_at))]
-pub fn breach_at(plan: &Plan, expectation: &Expectation, spot: &Spot) -> Option<Breach>
-    ensures { result ≡ breach_at plan.now expectation.now (spot_of spot.now) }
+pub fn breach_at(plan: &Plan, expectation: &Expectation, snapshot: &Snapshot) -> Option<Breach>
+    ensures { result ≡ breach_at plan.now expectation.now (snapshot_of snapshot.now) }
 {
     match expectation {
-        Expectation::Answer(answer) => match other_code(plan, answer, spot) {
+        Expectation::Answer(answer) => match other_code(plan, answer, snapshot) {
             Some(code) => Some(Breach::Answered(code)),
             None => None,
         },
-        Expectation::End(end) => match other_end(plan, end, spot) {
+        Expectation::End(end) => match other_end(plan, end, snapshot) {
             Some(leaves) => Some(Breach::Leaving(leaves)),
             None => None,
         },
-        Expectation::Use(each) => match lack_in_use(plan, each, spot) {
+        Expectation::Use(each) => match lack_in_use(plan, each, snapshot) {
             Some(lack) => Some(Breach::Lacking(lack)),
             None => None,
         },

@@ -1,16 +1,16 @@
-//! What the first spots say of all orders.
+//! What the first snapshots say of all schedules.
 
 ghost use Rattle.pm_expect_report.specs.broken.Found.{FirstsAreBroken, FirstsDecideAll, FirstsDecideRounds};
 
-use pm_explore::schedule::orders_are_ways;
+use pm_explore::schedule::schedules_are_paths;
 
-/// What a search tells of the first spot that breaks an expectation is exact of all orders of a plan: for each number of
-/// disturbances whose orders it saw, and at all, where it saw all. And as it is told so an order with the fewest disturbances
+/// What a search tells of the first snapshot that breaks an expectation is exact of all schedules of a plan: for each number of
+/// preemptions whose schedules it saw, and at all, where it saw all. And as it is told so a schedule with the fewest preemptions
 /// breaks it.
 pub fn firsts_decide()
     ensures rounds { FirstsDecideRounds }
     ensures all { FirstsDecideAll }
     ensures sound { FirstsAreBroken }
 {
-    orders_are_ways();
+    schedules_are_paths();
 }

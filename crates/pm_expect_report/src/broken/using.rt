@@ -1,4 +1,4 @@
-//! Whether a spot breaks a use.
+//! Whether a snapshot breaks a use.
 
 ghost use Rattle.std.specs.Prelude.{◌≡◌, not};
 ghost use Rattle.std.specs.List.{list_all};
@@ -10,14 +10,14 @@ ghost use Rattle.pm_model.specs.Lawful.{is_empty_place};
 ghost use Rattle.pm_model.specs.PlanRows.{chain, domain, domain_parent, domains_of};
 ghost use Rattle.pm_model.specs.Views.{is_on};
 ghost use Rattle.pm_model.specs.World.{called_by, place};
-ghost use Rattle.pm_explore.specs.state.SpotOf.{spot_of, views_of, world_of};
+ghost use Rattle.pm_explore.specs.state.SnapshotOf.{snapshot_of, views_of, world_of};
 ghost use Rattle.pm_expect.specs.uses.Lacks.{lack_now};
 
 use crate::broken::answering::{is_command_at, script_of};
 use pm_base::{DevId, DomId, Status};
 use pm_expect::Use;
 use pm_expect::verdicts::Lack;
-use pm_explore::state::Spot;
+use pm_explore::state::Snapshot;
 use pm_model::Plan;
 use pm_outcomes::observe::{device_at, shown_return};
 
@@ -42,10 +42,11 @@ fn domain_above(plan: &Plan, domain: DomId) -> Option<DomId>
 }
 
 // Whether a domain is on.
-fn is_on(spot: &Spot, domain: DomId) -> bool
-    ensures { result ≡ is_on (views_of spot.now) domain.0 }
+fn is_on(snapshot: &Snapshot, domain: DomId) -> bool
+    ensures { result ≡ is_on (views_of snapshot.now) domain.0 }
 {
-    spot.on
+    snapshot
+        .on
         .as_slice()
         .get(domain.0 as usize)
         .copied()
@@ -53,8 +54,8 @@ fn is_on(spot: &Spot, domain: DomId) -> bool
 }
 
 // Whether a domain and those above it, so many at most, are on.
-fn are_on(plan: &Plan, spot: &Spot, most: usize, domain: Option<DomId>) -> bool
-    ensures { result ≡ list_all (is_on (views_of spot.now)) (chain plan.now.domains most domain) }
+fn are_on(plan: &Plan, snapshot: &Snapshot, most: usize, domain: Option<DomId>) -> bool
+    ensures { result ≡ list_all (is_on (views_of snapshot.now)) (chain plan.now.domains most domain) }
 {
     if most == 0 {
         return true;
@@ -62,81 +63,84 @@ fn are_on(plan: &Plan, spot: &Spot, most: usize, domain: Option<DomId>) -> bool
     let Some(domain) = domain else {
         return true;
     };
-    is_on(spot, domain) && are_on(plan, spot, most - 1, domain_above(plan, domain))
+    is_on(snapshot, domain) && are_on(plan, snapshot, most - 1, domain_above(plan, domain))
 }
 
 // Whether the domains of a device are on.
 #[tactic(auto, unfolding(pm_model::specs::PlanRows::domains_of))]
-fn is_powered(plan: &Plan, spot: &Spot, dev: DevId) -> bool
-    ensures { result ≡ list_all (is_on (views_of spot.now)) (domains_of plan.now dev) }
+fn is_powered(plan: &Plan, snapshot: &Snapshot, dev: DevId) -> bool
+    ensures { result ≡ list_all (is_on (views_of snapshot.now)) (domains_of plan.now dev) }
 {
-    are_on(plan, spot, plan.domains.len(), domain_of(plan, dev))
+    are_on(plan, snapshot, plan.domains.len(), domain_of(plan, dev))
 }
 
 // Whether a device is active.
-fn is_active(spot: &Spot, dev: DevId) -> bool
-    ensures { result ≡ is_active (views_of spot.now) dev }
+fn is_active(snapshot: &Snapshot, dev: DevId) -> bool
+    ensures { result ≡ is_active (views_of snapshot.now) dev }
 {
-    matches!(device_at(spot, dev).status, Status::Active)
+    matches!(device_at(snapshot, dev).status, Status::Active)
 }
 
 // The domain of an active device, where it or one above it is off.
-fn off_domain(plan: &Plan, spot: &Spot, dev: DevId) -> Option<DomId>
-    ensures { result ≡ off_domain plan.now (views_of spot.now) dev }
+fn off_domain(plan: &Plan, snapshot: &Snapshot, dev: DevId) -> Option<DomId>
+    ensures { result ≡ off_domain plan.now (views_of snapshot.now) dev }
 {
     match domain_of(plan, dev) {
-        Some(domain) if is_active(spot, dev) && !is_powered(plan, spot, dev) => Some(domain),
+        Some(domain) if is_active(snapshot, dev) && !is_powered(plan, snapshot, dev) => Some(
+            domain,
+        ),
         _ => None,
     }
 }
 
 // What a device lacks to be used.
-fn lack_now(plan: &Plan, spot: &Spot, dev: DevId) -> Option<Lack>
-    ensures { result ≡ lack_now plan.now (views_of spot.now) dev }
+fn lack_now(plan: &Plan, snapshot: &Snapshot, dev: DevId) -> Option<Lack>
+    ensures { result ≡ lack_now plan.now (views_of snapshot.now) dev }
 {
-    if !is_active(spot, dev) {
+    if !is_active(snapshot, dev) {
         return Some(Lack::Inactive {
-            status: device_at(spot, dev).status,
+            status: device_at(snapshot, dev).status,
         });
     }
-    match off_domain(plan, spot, dev) {
+    match off_domain(plan, snapshot, dev) {
         Some(domain) => Some(Lack::Domain { domain }),
         None => None,
     }
 }
 
 // Whether a caller has open stages.
-fn is_busy(spot: &Spot, caller: u32) -> bool
-    ensures { result ≡ not (is_empty_place (place (world_of spot.now) (Caller caller))) }
+fn is_busy(snapshot: &Snapshot, caller: u32) -> bool
+    ensures { result ≡ not (is_empty_place (place (world_of snapshot.now) (Caller caller))) }
 {
-    match spot.caller_places.as_slice().get(caller as usize) {
+    match snapshot.caller_places.as_slice().get(caller as usize) {
         Some(stages) => !stages.is_empty(),
         None => false,
     }
 }
 
 // Whether the last line is a return of a caller's.
-fn is_return_of(spot: &Spot, caller: u32) -> bool
-    ensures { result ≡ is_return_of (spot_of spot.now) caller }
+fn is_return_of(snapshot: &Snapshot, caller: u32) -> bool
+    ensures { result ≡ is_return_of (snapshot_of snapshot.now) caller }
 {
-    match shown_return(spot) {
+    match shown_return(snapshot) {
         Some(returned) => returned.caller == caller,
         None => false,
     }
 }
 
 // Whether the last line is of a call by a caller.
-fn is_in_call_of(spot: &Spot, caller: u32) -> bool
-    ensures { result ≡ is_in_call_of (spot_of spot.now) caller }
+fn is_in_call_of(snapshot: &Snapshot, caller: u32) -> bool
+    ensures { result ≡ is_in_call_of (snapshot_of snapshot.now) caller }
 {
-    is_busy(spot, caller) || is_return_of(spot, caller)
+    is_busy(snapshot, caller) || is_return_of(snapshot, caller)
 }
 
 // How many commands a caller has called.
-fn called_by(spot: &Spot, caller: u32) -> u32
-    ensures { result ≡ called_by (world_of spot.now) caller }
+fn called_by(snapshot: &Snapshot, caller: u32) -> u32
+    ensures { result ≡ called_by (world_of snapshot.now) caller }
 {
-    spot.called
+    snapshot
+        .called
         .as_slice()
         .get(caller as usize)
         .copied()
@@ -144,23 +148,23 @@ fn called_by(spot: &Spot, caller: u32) -> u32
 }
 
 // Whether the last line is of a call of the command of a use.
-fn is_in_use(plan: &Plan, each: &Use, spot: &Spot) -> bool
-    ensures { result ≡ is_in_use plan.now each.now (spot_of spot.now) }
+fn is_in_use(plan: &Plan, each: &Use, snapshot: &Snapshot) -> bool
+    ensures { result ≡ is_in_use plan.now each.now (snapshot_of snapshot.now) }
 {
-    is_in_call_of(spot, each.caller)
+    is_in_call_of(snapshot, each.caller)
         && is_command_at(
             &each.command,
             script_of(plan, each.caller),
-            called_by(spot, each.caller),
+            called_by(snapshot, each.caller),
         )
 }
 
-/// What the device of a use lacks at a spot, in a call of its command.
-pub fn lack_in_use(plan: &Plan, each: &Use, spot: &Spot) -> Option<Lack>
-    ensures { result ≡ lack_in_use plan.now each.now (spot_of spot.now) }
+/// What the device of a use lacks at a snapshot, in a call of its command.
+pub fn lack_in_use(plan: &Plan, each: &Use, snapshot: &Snapshot) -> Option<Lack>
+    ensures { result ≡ lack_in_use plan.now each.now (snapshot_of snapshot.now) }
 {
-    if is_in_use(plan, each, spot) {
-        lack_now(plan, spot, each.dev)
+    if is_in_use(plan, each, snapshot) {
+        lack_now(plan, snapshot, each.dev)
     } else {
         None
     }

@@ -108,18 +108,18 @@ pub fn push_breach(
     push(text, told.as_slice())
 }
 
-// Appends that there are more disturbances than the last complete round has, if one is complete.
+// Appends that there are more preemptions than the last complete round has, if one is complete.
 fn push_beyond(text: &mut Vec<u8>, rounds: usize) -> Result<(), NoMemory>
     ensures { OnOk result (text.new.items ≡ text.old.items ++ beyond_text (last_round rounds)) }
 {
     if rounds == 0 {
-        return push(text, b" in some order");
+        return push(text, b" in some schedule");
     }
     push(text, b" after more than ")?;
     push_number(text, rounds - 1)
 }
 
-/// Appends by how many disturbances an expectation is broken, of so many rounds.
+/// Appends by how many preemptions an expectation is broken, of so many rounds.
 pub fn push_fewest(text: &mut Vec<u8>, rounds: usize, round: usize) -> Result<(), NoMemory>
     ensures { OnOk result (text.new.items ≡ text.old.items ++ fewest_text rounds round) }
 {
@@ -130,30 +130,30 @@ pub fn push_fewest(text: &mut Vec<u8>, rounds: usize, round: usize) -> Result<()
     }
 }
 
-// Appends that orders of at most so many disturbances are meant.
+// Appends that schedules of at most so many preemptions are meant.
 #[tactic(auto, unfolding(crate::specs::orders::Texts::within_text))]
 fn push_within(text: &mut Vec<u8>, round: usize) -> Result<(), NoMemory>
     ensures { OnOk result (text.new.items ≡ text.old.items ++ within_text round) }
 {
     push(text, b" of at most ")?;
     push_number(text, round)?;
-    push(text, b" disturbances")
+    push(text, b" preemptions")
 }
 
-// Appends that it holds in every order of at most so many disturbances.
+// Appends that it holds in every schedule of at most so many preemptions.
 fn push_holds_within(text: &mut Vec<u8>, round: usize) -> Result<(), NoMemory>
     ensures { OnOk result (text.new.items ≡ text.old.items ++ holds_within round) }
 {
-    push(text, b"holds in every order")?;
+    push(text, b"holds in every schedule")?;
     push_within(text, round)
 }
 
-/// Appends in which orders it holds.
+/// Appends in which schedules it holds.
 pub fn push_holds(text: &mut Vec<u8>, reach: Reach) -> Result<(), NoMemory>
     ensures { OnOk result (text.new.items ≡ text.old.items ++ holds_text reach) }
 {
     match reach {
-        Reach::All => push(text, b"holds in every order"),
+        Reach::All => push(text, b"holds in every schedule"),
         Reach::Within(round) => push_holds_within(text, round),
         Reach::Limit(Some(round)) => push_holds_within(text, round),
         Reach::Limit(None) => push(text, b"no round is complete"),

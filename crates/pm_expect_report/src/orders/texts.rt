@@ -12,7 +12,7 @@ use pm_model::Plan;
 use pm_outcomes::text::{Reach, push, push_limit, push_number};
 use std::alloc::Global;
 
-// Appends what orders make of an expectation.
+// Appends what schedules make of an expectation.
 fn push_verdict(
     text: &mut Vec<u8>,
     alloc: Global,
@@ -63,7 +63,7 @@ fn push_line(
     push(text, b"\n")
 }
 
-/// Appends a line for each expectation of a file that is called so, by orders that were gone through so far, in so many
+/// Appends a line for each expectation of a file that is called so, by schedules that were gone through so far, in so many
 /// rounds. Fails where memory runs out.
 pub fn push_judged(
     text: &mut Vec<u8>,
@@ -82,7 +82,7 @@ pub fn push_judged(
     Ok(())
 }
 
-/// The line that says that no order breaks an expectation, so far as they were gone through. Fails where memory runs out.
+/// The line that says that no schedule breaks an expectation, so far as they were gone through. Fails where memory runs out.
 pub fn unbroken_text(
     alloc: Global,
     plan: &Plan,

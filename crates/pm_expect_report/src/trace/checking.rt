@@ -5,6 +5,7 @@ ghost use Rattle.pm_audit.specs.Auditing.{reason_of};
 ghost use Rattle.pm_expect_report.specs.trace.Checks.{IsBadTold, IsKtapRun, IsPlainRun, IsRunTold, IsToldOf};
 ghost use Rattle.pm_expect.specs.Over.{AreOver};
 ghost use Rattle.pm_expect.specs.text.Items.{has_failed};
+ghost use Rattle.pm_find.specs.trace.Texts.{files_of};
 
 use crate::trace::items::items_in;
 use crate::trace::plain::plain_text;
@@ -13,7 +14,7 @@ use pm_base::NoMemory;
 use pm_book::Book;
 use pm_expect::Expectations;
 use pm_expect::text::{Item, has_failed, push_ktap};
-use pm_find::trace::{Found, tell, tell_unlawful};
+use pm_find::trace::{Found, PlanFile, tell, tell_unlawful};
 use pm_model::Plan;
 use pm_spans::source::push;
 use std::alloc::Global;
@@ -47,12 +48,13 @@ fn plain_run(
     text: &[u8],
     expected: &Expectations,
     trace: &[u8],
+    plan_file: PlanFile<'_>,
     notes: bool,
 ) -> Result<Found, NoMemory>
     requires { AreOver book.now.plan expected.now }
-    ensures { IfOk result (λ found. IsPlainRun book.now.plan book.now.lines file.now text.now expected.now trace.now notes found) }
+    ensures { IfOk result (λ found. IsPlainRun book.now.plan book.now.lines file.now text.now expected.now (files_of trace.now plan_file.entry) notes found) }
 {
-    let found = tell(alloc, book, trace, notes)?;
+    let found = tell(alloc, book, trace, plan_file, notes)?;
     let items = items_in(alloc, book, expected)?;
     let failed = plain_text(alloc, file, text, trace, expected, &items)?;
     with_failed(found, &failed, &items)
@@ -85,16 +87,17 @@ fn run_told(
     text: &[u8],
     expected: &Expectations,
     trace: &[u8],
+    plan_file: PlanFile<'_>,
     ktap: bool,
     notes: bool,
 ) -> Result<Found, NoMemory>
     requires { AreOver book.now.plan expected.now }
-    ensures { IfOk result (λ found. IsRunTold book.now.plan book.now.lines file.now text.now expected.now trace.now ktap notes found) }
+    ensures { IfOk result (λ found. IsRunTold book.now.plan book.now.lines file.now text.now expected.now (files_of trace.now plan_file.entry) ktap notes found) }
 {
     if ktap {
         ktap_run(alloc, book, expected, trace)
     } else {
-        plain_run(alloc, book, file, text, expected, trace, notes)
+        plain_run(alloc, book, file, text, expected, trace, plan_file, notes)
     }
 }
 
@@ -122,8 +125,8 @@ fn bad_told(
 
 /// Tells of the bytes of a trace, in either format, and of what the text of a file expects of it. In plain words it tells what
 /// stands out in the run, a line for each expectation that fails, and how many there are; as KTAP the expectations alone. Of a
-/// trace that isn't lawful it tells the first bad line. `file` and `trace` are how the files are called. Fails where memory
-/// runs out.
+/// trace that isn't lawful it tells the first bad line. `file` and `trace` are how the files are called, and the findings have
+/// their places in the plan's file. Fails where memory runs out.
 pub fn check(
     alloc: Global,
     plan: Plan,
@@ -131,15 +134,18 @@ pub fn check(
     text: &[u8],
     expected: &Expectations,
     trace: &[u8],
+    plan_file: PlanFile<'_>,
     bytes: &[u8],
     ktap: bool,
     notes: bool,
 ) -> Result<Found, NoMemory>
     requires { AreOver plan expected.now }
-    ensures { IfOk result (λ found. IsToldOf plan file.now text.now expected.now trace.now bytes.now ktap notes found) }
+    ensures { IfOk result (λ found. IsToldOf plan file.now text.now expected.now (files_of trace.now plan_file.entry) bytes.now ktap notes found) }
 {
     match load_trace(alloc, plan, bytes) {
-        Ok(book) => run_told(alloc, &book, file, text, expected, trace, ktap, notes),
+        Ok(book) => run_told(
+            alloc, &book, file, text, expected, trace, plan_file, ktap, notes,
+        ),
         Err(LoadFault::No { line, why }) => bad_told(alloc, trace, ktap, line, why),
         Err(LoadFault::NoMemory) => Err(NoMemory),
     }

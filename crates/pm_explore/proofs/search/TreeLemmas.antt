@@ -8,8 +8,8 @@ use Rattle.indexmap.specs.IndexSet.{insert_key}
 use Rattle.pm_explore.specs.search.Exact.{IsAmong}
 use Rattle.pm_explore.specs.search.Growing.{Adds, CanFollow, Grows, IsKept, IsStored}
 use Rattle.pm_explore.specs.search.Growing.Adds.{is_there, is_new}
-use Rattle.pm_explore.specs.search.Trees.{AreCounted, HasWay, IsStep, IsTree, IsWay}
-use Rattle.pm_explore.specs.search.Trees.IsWay.{begins, leads_on}
+use Rattle.pm_explore.specs.search.Trees.{AreCounted, HasPath, IsStep, IsTree, IsPath}
+use Rattle.pm_explore.specs.search.Trees.IsPath.{begins, leads_on}
 use Rattle.pm_explore.proofs.search.Lists.{Grows-push, Grows-refl, slice_get-left, slice_get-mid, slice_get-push, some_within}
 
 some_is : {A : Type 0} (x y : A) → Some x ≡ Some y → x ≡ y
@@ -143,13 +143,13 @@ pub parents_adds : {P : Type 0} (first : List ℕ) (points : List P) (parents : 
 parents_adds first points parents x at points' parents' g (is_there a) = g
 parents_adds first points parents x at points' parents' g (is_new fresh) = Grows-push (λ y. y ≡ at) first parents at g refl
 
--- the way back has as many steps as are counted, no more than places before it
-counted_way : (parents steps : List ℕ) → AreCounted parents steps → (k at n : ℕ) → at < k → slice_get steps at ≡ Some n → HasWay parents at n × (n ≤ at)
-counted_way parents steps c zero at n lt there = absurd (omega (arith, lt))
-counted_way parents steps c (suc k) zero n lt there =
+-- the path back has as many steps as are counted, no more than places before it
+counted_path : (parents steps : List ℕ) → AreCounted parents steps → (k at n : ℕ) → at < k → slice_get steps at ≡ Some n → HasPath parents at n × (n ≤ at)
+counted_path parents steps c zero at n lt there = absurd (omega (arith, lt))
+counted_path parents steps c (suc k) zero n lt there =
     let none = c.first n there in
-    (subst (HasWay parents 0) (sym none) (record { way = 0 ∷ []; leads = begins; many = refl }), omega (arith, none))
-counted_way parents steps c (suc k) (suc i) n lt there =
+    (subst (HasPath parents 0) (sym none) (record { path = 0 ∷ []; leads = begins; many = refl }), omega (arith, none))
+counted_path parents steps c (suc k) (suc i) n lt there =
     let within = slice_get_within steps (suc i) n there in
     let each = c.each in
     let later : 0 < suc i = omega arith in
@@ -157,18 +157,18 @@ counted_way parents steps c (suc k) (suc i) n lt there =
     let down = c.down (suc i) p.0 later p.1 in
     let m = some_within steps p.0 (omega (arith, within, down)) in
     let is = c.next (suc i) p.0 m.0 n later p.1 m.1 there in
-    let before = counted_way parents steps c k p.0 m.0 (omega (arith, lt, down)) m.1 in
+    let before = counted_path parents steps c k p.0 m.0 (omega (arith, lt, down)) m.1 in
     let many = before.0.many in
     let few = before.1 in (
-      record { way = suc i ∷ before.0.way; leads = leads_on (suc i) later p.1 before.0.leads; many = omega (arith, many, is) },
+      record { path = suc i ∷ before.0.path; leads = leads_on (suc i) later p.1 before.0.leads; many = omega (arith, many, is) },
       omega (arith, few, is, down),
     )
 
-pub has_way : (parents steps : List ℕ) (at n : ℕ) → AreCounted parents steps → slice_get steps at ≡ Some n → HasWay parents at n
-has_way parents steps at n c there = (counted_way parents steps c (suc at) at n (omega arith) there).0
+pub has_path : (parents steps : List ℕ) (at n : ℕ) → AreCounted parents steps → slice_get steps at ≡ Some n → HasPath parents at n
+has_path parents steps at n c there = (counted_path parents steps c (suc at) at n (omega arith) there).0
 
 pub few_steps : (parents steps : List ℕ) (at n : ℕ) → AreCounted parents steps → slice_get steps at ≡ Some n → n ≤ at
-few_steps parents steps at n c there = (counted_way parents steps c (suc at) at n (omega arith) there).1
+few_steps parents steps at n c there = (counted_path parents steps c (suc at) at n (omega arith) there).1
 
 nowhere : {A : Type 0} (i : ℕ) (x : A) → slice_get [] i ≡ Some x → ⊥
 nowhere i x there = cc there
@@ -236,16 +236,16 @@ room_kept limit old new x false full room is = let lt : length old < limit = bel
     below : (a n : ℕ) → (nat_le a n && true) ≡ false → n < a
     below a n e = grind arith
 
--- the places so far lead from one back to this one, and this one's way completes them
+-- the places so far lead from one back to this one, and this one's path completes them
 abbrev pub LeadsTo : List ℕ → ℕ → ℕ → List ℕ → Type 0
-LeadsTo parents at here way = (rest : List ℕ) → IsWay parents here (here ∷ rest) → IsWay parents at (way ++ rest)
+LeadsTo parents at here path = (rest : List ℕ) → IsPath parents here (here ∷ rest) → IsPath parents at (path ++ rest)
 
-pub leads_next : (parents : List ℕ) (at here p : ℕ) (way way' : List ℕ) → LeadsTo parents at here way → 0 < here → slice_get parents here ≡ Some p → way' ≡ way ++ p ∷ [] → LeadsTo parents at p way'
-leads_next parents at here p way way' l pos is e rest w =
-    let longer : IsWay parents at (way ++ p ∷ rest) = l (p ∷ rest) (leads_on here pos is w) in
-    subst (λ x. IsWay parents at (x ++ rest)) (sym e) (subst (IsWay parents at) (sym (append_assoc way (p ∷ []) rest)) longer)
+pub leads_next : (parents : List ℕ) (at here p : ℕ) (path path' : List ℕ) → LeadsTo parents at here path → 0 < here → slice_get parents here ≡ Some p → path' ≡ path ++ p ∷ [] → LeadsTo parents at p path'
+leads_next parents at here p path path' l pos is e rest w =
+    let longer : IsPath parents at (path ++ p ∷ rest) = l (p ∷ rest) (leads_on here pos is w) in
+    subst (λ x. IsPath parents at (x ++ rest)) (sym e) (subst (IsPath parents at) (sym (append_assoc path (p ∷ []) rest)) longer)
 
-pub leads_last : (parents : List ℕ) (at here : ℕ) (way : List ℕ) → LeadsTo parents at here way → here ≡ 0 → IsWay parents at way
-leads_last parents at here way l e =
-    let at_first : LeadsTo parents at 0 way = subst (λ n. LeadsTo parents at n way) e l in
-    subst (IsWay parents at) (append-nil way) (at_first [] begins)
+pub leads_last : (parents : List ℕ) (at here : ℕ) (path : List ℕ) → LeadsTo parents at here path → here ≡ 0 → IsPath parents at path
+leads_last parents at here path l e =
+    let at_first : LeadsTo parents at 0 path = subst (λ n. LeadsTo parents at n path) e l in
+    subst (IsPath parents at) (append-nil path) (at_first [] begins)

@@ -1,4 +1,4 @@
--- Which devices a line marks as busy.
+-- Which devices a line observations as busy.
 use Rattle.std.proofs.Common.{ℕ, ◌≡◌, ◌≢◌, ◌<◌, ◌≤◌, ◌+◌, ◌-◌, ◌⊎◌, inl, inr, Bool, true, false, not, ◌&&◌, ◌||◌, List, [], ◌∷◌, Option, Some, None, ℤ, pos, length, map, nat_eq, nat_lt, slice_index_or, slice_set, if◌then◌else◌, refl, sym, ap, ◌∙◌, arith}
 use Rattle.std.proofs.Math.Seq.{map-set_same}
 use Rattle.std.proofs.Math.ListN.{get_or-map}
@@ -33,7 +33,7 @@ use Rattle.pm_model.specs.Changes.{callback_marks, disables, disarm, enables, ha
 use Rattle.pm_model.specs.Events.{by_end, by_event, by_timer, by_word, by_work, frees_links, gave, got, held_from, is_try_again, set_error, set_status}
 use Rattle.pm_model.specs.PlanRows.{marks_busy}
 use Rattle.pm_model.specs.Views.{Views, device, fresh_device, with_device}
-use Rattle.pm_explore.specs.successors.Lines.{is_new_mark, marked_by_callback, marked_by_change, marked_by_event, marks}
+use Rattle.pm_explore.specs.successors.Lines.{is_new_observation, marked_by_callback, marked_by_change, marked_by_event, observations}
 
 abbrev busy_of : Device → ℕ
 busy_of d = d.last_busy
@@ -42,7 +42,7 @@ busy_of d = d.last_busy
 abbrev pub busy : Views → List ℕ
 busy v = map (λ d. d.last_busy) v.devices
 
--- with the mark of a device
+-- with the observation of a device
 abbrev sets : ℕ → Option DevId → List ℕ → List ℕ
 sets t None l = l
 sets t (Some d) l = slice_set l d.0 t
@@ -72,7 +72,7 @@ gave_busy plan d why.Forbid v = kept v d _ refl
 gave_busy plan d (why.Link c) v = refl
 gave_busy plan d _ v = refl
 
--- the counts that suppliers have back mark none
+-- the counts that suppliers have back observation none
 freed : (f : ℕ → Device → ℕ) (n : ℕ) (l : List Device) → map busy_of (map (λ p. record p.1 { usage = f p.0 p.1 }) (enumerate_from n l)) ≡ map busy_of l
 freed f n [] = refl
 freed f n (x ∷ l) = ap (λ rest. x.last_busy ∷ rest) (freed f (n + 1) l)
@@ -164,22 +164,22 @@ length_sets : (t : ℕ) (o : Option DevId) (l : List ℕ) → length (sets t o l
 length_sets t None l = refl
 length_sets t (Some d) l = length-set l d.0 t
 
-mark_is : (v : Views) (d : DevId) → slice_index_or (busy v) d.0 0 ≡ (device v d).last_busy
-mark_is v d = get_or-map busy_of v.devices d.0 fresh_device
+observation_is : (v : Views) (d : DevId) → slice_index_or (busy v) d.0 0 ≡ (device v d).last_busy
+observation_is v d = get_or-map busy_of v.devices d.0 fresh_device
 
--- no new mark leaves the marks as they were
-same : (t : ℕ) (o : Option DevId) (v : Views) → option_map_or (is_new_mark v t) o false ≡ false → sets t o (busy v) ≡ busy v
+-- no new observation leaves the observations as they were
+same : (t : ℕ) (o : Option DevId) (v : Views) → option_map_or (is_new_observation v t) o false ≡ false → sets t o (busy v) ≡ busy v
 same t None v is = refl
 same t (Some d) v is = go (nat_lt d.0 (length v.devices)) (nat_eq (device v d).last_busy t) refl refl is
   where
     go : (b e : Bool) → nat_lt d.0 (length v.devices) ≡ b → nat_eq (device v d).last_busy t ≡ e → (b && not e) ≡ false → slice_set (busy v) d.0 t ≡ busy v
     go false e out is_e is_not = let behind : length (busy v) ≤ d.0 = grind (arith, nat_tests, length-map v.devices busy_of) in set_past (busy v) d.0 t behind
     go true true inside is_e is_not =
-        let now : slice_index_or (busy v) d.0 0 ≡ t = mark_is v d ∙ grind (arith, nat_tests) in
+        let now : slice_index_or (busy v) d.0 0 ≡ t = observation_is v d ∙ grind (arith, nat_tests) in
         ap (slice_set (busy v) d.0) (sym now) ∙ set-get_or (busy v) d.0 0
     go true false inside is_e is_not = cc is_not
 
--- what a mark at t leaves at a place that has it
+-- what an observation at t leaves at a place that has it
 stays : (t : ℕ) (o : Option DevId) (l : List ℕ) (i : ℕ) → i < length l → slice_index_or l i 0 ≡ t → slice_index_or (sets t o l) i 0 ≡ t
 stays t None l i lt is = is
 stays t (Some d) l i lt is = elim (eqb_tells d.0 i) [
@@ -187,12 +187,12 @@ stays t (Some d) l i lt is = elim (eqb_tells d.0 i) [
   | inr q ↦ get_or-set_other l d.0 i t 0 (λ e. q.1 (sym e)) ∙ is
 ]
 
--- a new mark is another
+-- a new observation is another
 record IsNew (v : Views) (t : ℕ) (d : DevId) : Type 0 where
   pub within : d.0 < length (busy v)
   pub differs : slice_index_or (busy v) d.0 0 ≢ t
 
-is_new : (v : Views) (t : ℕ) (d : DevId) → is_new_mark v t d ≡ true → IsNew v t d
+is_new : (v : Views) (t : ℕ) (d : DevId) → is_new_observation v t d ≡ true → IsNew v t d
 is_new v t d is = go (nat_lt d.0 (length v.devices)) (nat_eq (device v d).last_busy t) refl refl is
   where
     go : (b e : Bool) → nat_lt d.0 (length v.devices) ≡ b → nat_eq (device v d).last_busy t ≡ e → (b && not e) ≡ true → IsNew v t d
@@ -200,11 +200,11 @@ is_new v t d is = go (nat_lt d.0 (length v.devices)) (nat_eq (device v d).last_b
     go true true inside is_e now = cc now
     go true false inside is_e now = record {
       within = grind (arith, nat_tests, length-map v.devices busy_of);
-      differs = λ at. let there : (device v d).last_busy ≡ t = sym (mark_is v d) ∙ at in grind (arith, nat_tests);
+      differs = λ at. let there : (device v d).last_busy ≡ t = sym (observation_is v d) ∙ at in grind (arith, nat_tests);
     }
 
-pub marks_same : (plan : Plan) (t : ℕ) (e : Event) (c : Change) (v : Views) → marks plan v t e c ≡ false → busy (by_event plan t e (change_views plan t c v)) ≡ busy v
-marks_same plan t e c v none =
+pub observations_same : (plan : Plan) (t : ℕ) (e : Event) (c : Change) (v : Views) → observations plan v t e c ≡ false → busy (by_event plan t e (change_views plan t c v)) ≡ busy v
+observations_same plan t e c v none =
     busy_after plan t e c v ∙ ap (sets t (marked_by_event e)) (same t (marked_by_change plan c) v (left _ _ none)) ∙ same t (marked_by_event e) v (right _ _ none)
   where
     left : (a b : Bool) → (a || b) ≡ false → a ≡ false
@@ -215,8 +215,8 @@ marks_same plan t e c v none =
     right true b is = cc is
     right false b is = is
 
-pub marks_differ : (plan : Plan) (t : ℕ) (e : Event) (c : Change) (v : Views) → marks plan v t e c ≡ true → busy (by_event plan t e (change_views plan t c v)) ≢ busy v
-marks_differ plan t e c v some equal = go (marked_by_change plan c) (marked_by_event e) some (sym (busy_after plan t e c v) ∙ equal)
+pub observations_differ : (plan : Plan) (t : ℕ) (e : Event) (c : Change) (v : Views) → observations plan v t e c ≡ true → busy (by_event plan t e (change_views plan t c v)) ≢ busy v
+observations_differ plan t e c v some equal = go (marked_by_change plan c) (marked_by_event e) some (sym (busy_after plan t e c v) ∙ equal)
   where
     at : (d : DevId) (l : List ℕ) → IsNew v t d → slice_index_or l d.0 0 ≡ t → l ≡ busy v → ⊥
     at d l new is all = new.differs (sym (ap (λ r. slice_index_or r d.0 0) all) ∙ is)
@@ -235,16 +235,16 @@ marks_differ plan t e c v some equal = go (marked_by_change plan c) (marked_by_e
     or true b is = inl refl
     or false b is = inr is
 
-    first : (o p : Option DevId) → option_map_or (is_new_mark v t) o false ≡ true → sets t p (sets t o (busy v)) ≡ busy v → ⊥
+    first : (o p : Option DevId) → option_map_or (is_new_observation v t) o false ≡ true → sets t p (sets t o (busy v)) ≡ busy v → ⊥
     first None p is all = cc is
     first (Some d) p is all = by_change d p (is_new v t d is) all
 
-    second : (o p : Option DevId) → option_map_or (is_new_mark v t) p false ≡ true → sets t p (sets t o (busy v)) ≡ busy v → ⊥
+    second : (o p : Option DevId) → option_map_or (is_new_observation v t) p false ≡ true → sets t p (sets t o (busy v)) ≡ busy v → ⊥
     second o None is all = cc is
     second o (Some d) is all = by_own o d (is_new v t d is) all
 
-    go : (o p : Option DevId) → (option_map_or (is_new_mark v t) o false || option_map_or (is_new_mark v t) p false) ≡ true → sets t p (sets t o (busy v)) ≡ busy v → ⊥
-    go o p is all = elim (or (option_map_or (is_new_mark v t) o false) _ is) [ inl a ↦ first o p a all | inr b ↦ second o p b all ]
+    go : (o p : Option DevId) → (option_map_or (is_new_observation v t) o false || option_map_or (is_new_observation v t) p false) ≡ true → sets t p (sets t o (busy v)) ≡ busy v → ⊥
+    go o p is all = elim (or (option_map_or (is_new_observation v t) o false) _ is) [ inl a ↦ first o p a all | inr b ↦ second o p b all ]
 
 -- past the plan's devices none is marked
 pub unmarked : (plan : Plan) (d : DevId) → length plan.devices ≤ d.0 → marked_by_callback plan d ≡ None

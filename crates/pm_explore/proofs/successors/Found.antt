@@ -17,7 +17,7 @@ use Rattle.pm_model.specs.Events.{by_event}
 use Rattle.pm_model.specs.Row.{Row, timed, waits, writes}
 use Rattle.pm_model.specs.World.{World, after_line, due, move, row, stage_at, with_place}
 use Rattle.pm_explore.specs.declared.schedule.Pace.{Pace}
-use Rattle.pm_explore.specs.schedule.Spots.{MayFollow, Spot, after, busy_marks, disturbs}
+use Rattle.pm_explore.specs.schedule.Snapshots.{MayFollow, Snapshot, after, busy_marks, preempts}
 use Rattle.pm_explore.specs.successors.Lines.{comes, is_kept, is_kind, line_for, line_of}
 use Rattle.pm_explore.proofs.successors.Busy.{busy}
 
@@ -33,13 +33,13 @@ second true y h = h
 second false y h = cc h
 
 -- a line that an actor may write at t, and what is known of it
-pub record IsFound (pace : Pace) (plan : Plan) (s : Spot) (spends : Bool) (t : ℕ) (line : Line) : Type 0 where
+pub record IsFound (pace : Pace) (plan : Plan) (s : Snapshot) (spends : Bool) (t : ℕ) (line : Line) : Type 0 where
   pub may : MayFollow plan s line
   pub at : line.time ≡ t
-  pub kind : is_kind spends (disturbs plan s line) ≡ true
+  pub kind : is_kind spends (preempts plan s line) ≡ true
   pub comes : comes pace plan s line may.change ≡ true
 
-of_move : (pace : Pace) (plan : Plan) (s : Spot) (spends : Bool) (actor : ActorId) (t : ℕ) (stage : Stage) (m : Option Move) (line : Line) → stage_at plan s.world actor ≡ Some stage → move plan s.world.views stage t ≡ m
+of_move : (pace : Pace) (plan : Plan) (s : Snapshot) (spends : Bool) (actor : ActorId) (t : ℕ) (stage : Stage) (m : Option Move) (line : Line) → stage_at plan s.world actor ≡ Some stage → move plan s.world.views stage t ≡ m
     → option_and_then (line_of pace plan s spends t actor) m ≡ Some line → IsFound pace plan s spends t line
 of_move pace plan s spends actor t stage None line stands gives is = cc is
 of_move pace plan s spends actor t stage (Some (Late due)) line stands gives is = cc is
@@ -56,7 +56,7 @@ of_move pace plan s spends actor t stage (Some (Write e c next)) line stands giv
     go true false keeps may same = cc same
     go false m keeps may same = cc same
 
-pub found : (pace : Pace) (plan : Plan) (s : Spot) (spends : Bool) (actor : ActorId) (t : ℕ) (line : Line) → line_for pace plan s spends t actor ≡ Some line → IsFound pace plan s spends t line
+pub found : (pace : Pace) (plan : Plan) (s : Snapshot) (spends : Bool) (actor : ActorId) (t : ℕ) (line : Line) → line_for pace plan s spends t actor ≡ Some line → IsFound pace plan s spends t line
 found pace plan s spends actor t line is = go (stage_at plan s.world actor) refl is
   where
     go : (o : Option Stage) → stage_at plan s.world actor ≡ o → option_and_then (line_of pace plan s spends t actor) (option_and_then (λ x. move plan s.world.views x t) o) ≡ Some line → IsFound pace plan s spends t line
@@ -64,7 +64,7 @@ found pace plan s spends actor t line is = go (stage_at plan s.world actor) refl
     go (Some stage) stands there = of_move pace plan s spends actor t stage (move plan s.world.views stage t) line stands refl there
 
 -- such a line is found
-pub finds : (pace : Pace) (plan : Plan) (s : Spot) (spends : Bool) (line : Line) → (m : MayFollow plan s line) → is_kind spends (disturbs plan s line) ≡ true → comes pace plan s line m.change ≡ true → line_for pace plan s spends line.time line.actor ≡ Some line
+pub finds : (pace : Pace) (plan : Plan) (s : Snapshot) (spends : Bool) (line : Line) → (m : MayFollow plan s line) → is_kind spends (preempts plan s line) ≡ true → comes pace plan s line m.change ≡ true → line_for pace plan s spends line.time line.actor ≡ Some line
 finds pace plan s spends line m kind comes_so =
     ap (λ o. option_and_then (line_of pace plan s spends line.time line.actor) (option_and_then (λ x. move plan s.world.views x line.time) o)) m.stands
     ∙ ap (option_and_then (line_of pace plan s spends line.time line.actor)) m.gives
@@ -97,7 +97,7 @@ placed w (Work d) stages = refl
 placed w (Timer d) stages = refl
 
 -- when the devices were last marked as busy after a line
-pub marks_after : (plan : Plan) (s : Spot) (line : Line) → (m : MayFollow plan s line) → busy_marks (after plan s line).world ≡ busy (by_event plan line.time line.event (change_views plan line.time m.change s.world.views))
-marks_after plan s line m =
+pub observations_after : (plan : Plan) (s : Snapshot) (line : Line) → (m : MayFollow plan s line) → busy_marks (after plan s line).world ≡ busy (by_event plan line.time line.event (change_views plan line.time m.change s.world.views))
+observations_after plan s line m =
     ap (λ o. busy_marks (after_line plan s.world line (option_and_then (λ x. row plan s.world.views x line.time) o))) m.stands
     ∙ ap (λ r. busy_marks (after_line plan s.world line r)) (row_is (due plan s.world.views m.stage) line.time (row plan s.world.views m.stage line.time) line.event m.change m.next m.gives) ∙ placed _ line.actor _

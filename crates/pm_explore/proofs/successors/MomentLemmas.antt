@@ -5,7 +5,7 @@ use Rattle.std.proofs.lemmas.Option.{get_or_from_slice_get, slice_get-get_or, sl
 use Rattle.std.specs.List.{Contains, enumerate_from}
 use Rattle.pm_model.specs.declared.plan.Plan.{Plan}
 use Rattle.pm_explore.specs.declared.schedule.Pace.TheVariants.{Late}
-use Rattle.pm_explore.specs.schedule.Spots.{Spot, moments}
+use Rattle.pm_explore.specs.schedule.Snapshots.{Snapshot, moments}
 use Rattle.pm_explore.specs.search.Exact.{HasExactly, IsAmong}
 use Rattle.pm_explore.specs.successors.Lines.{IsMoment}
 use Rattle.pm_explore.specs.successors.Moments.{AreWith}
@@ -38,7 +38,7 @@ has_at : (xs : List ℕ) (i t : ℕ) → slice_get xs i ≡ Some t → Contains 
 has_at xs i t there = (i, slice_get_within xs i t there, get_or_from_slice_get xs i t t there)
 
 -- all moments of a late pace
-pub late_exact : (plan : Plan) (s : Spot) (old new : List ℕ) → old ≡ s.time ∷ [] → AreWith s.time old (moments plan s) new → HasExactly (IsMoment Late plan s) new
+pub late_exact : (plan : Plan) (s : Snapshot) (old new : List ℕ) → old ≡ s.time ∷ [] → AreWith s.time old (moments plan s) new → HasExactly (IsMoment Late plan s) new
 late_exact plan s old new first are = record {
   sound = λ i t there. elim (are.sound t (has_at new i t there)) [
     | inl now ↦ inl (sym (only t s.time (subst (λ l. Contains l t) first now)))

@@ -23,8 +23,8 @@ use Rattle.pm_model.specs.Views.{Views, device}
 use Rattle.pm_model.specs.World.{World, due, move, row, stage_at, world}
 use Rattle.pm_explore.specs.declared.schedule.Pace.{Pace}
 use Rattle.pm_explore.specs.declared.schedule.Pace.TheVariants as pace
-use Rattle.pm_explore.specs.schedule.Orders.{spot}
-use Rattle.pm_explore.specs.schedule.Spots.{IsTimely, all_actors, anyone_may, due_moment, due_moments, expiry_at, moments, prompt_time}
+use Rattle.pm_explore.specs.schedule.Schedules.{snapshot}
+use Rattle.pm_explore.specs.schedule.Snapshots.{IsTimely, all_actors, anyone_may, due_moment, due_moments, expiry_at, moments, prompt_time}
 use Rattle.pm_explore.specs.successors.Lines.{IsMoment}
 use Rattle.pm_explore.proofs.successors.Found.{some_is}
 use Rattle.pm_explore.proofs.successors.Successors.{filtered}
@@ -84,22 +84,22 @@ least_passes P {A} f each (x ∷ xs) n is = go (f x) refl (λ m e. least_passes 
     go (Some m) e rest i = two m (least (filter_map f xs)) (each x m e) rest i
 
 module _ (plan : Plan) (h : History) (soon : AreSoon plan (world plan h) (last_time h)) where
-  due_soon : (a : ActorId) (n : ℕ) → due_moment plan (spot plan h) a ≡ Some n → n ≤ last_time h + 1000000
+  due_soon : (a : ActorId) (n : ℕ) → due_moment plan (snapshot plan h) a ≡ Some n → n ≤ last_time h + 1000000
   due_soon a n is = moment_by plan (world plan h) (last_time h + 1000000) (last_time h) a (stage_at plan (world plan h) a) n soon.due refl is
 
   expires_soon : (d : DevId) (n : ℕ) → expiry (world plan h).views d ≡ Some n → n ≤ last_time h + 1000000
   expires_soon d n is = expires_by (world plan h).views d (last_time h) n soon.delays (soon.busy d) is
 
-  prompt_soon : (t : ℕ) → prompt_time plan (spot plan h) ≡ Some t → t ≤ last_time h + 1000000
-  prompt_soon t is = go (anyone_may plan (spot plan h)) is
+  prompt_soon : (t : ℕ) → prompt_time plan (snapshot plan h) ≡ Some t → t ≤ last_time h + 1000000
+  prompt_soon t is = go (anyone_may plan (snapshot plan h)) is
     where
-      go : (b : Bool) → (if b then Some (last_time h) else least (due_moments plan (spot plan h))) ≡ Some t → t ≤ last_time h + 1000000
+      go : (b : Bool) → (if b then Some (last_time h) else least (due_moments plan (snapshot plan h))) ≡ Some t → t ≤ last_time h + 1000000
       go true e = let same = some_is (last_time h) t e in omega (arith, same)
-      go false e = least_passes (λ n. n ≤ last_time h + 1000000) (due_moment plan (spot plan h)) due_soon (all_actors plan) t e
+      go false e = least_passes (λ n. n ≤ last_time h + 1000000) (due_moment plan (snapshot plan h)) due_soon (all_actors plan) t e
 
-  moments_soon : (t : ℕ) → Contains (moments plan (spot plan h)) t → t ≤ last_time h + 1000000
-  moments_soon t there = elim (Contains-append_cases (due_moments plan (spot plan h)) (filter_map (λ p. expiry (world plan h).views (record { 0 = p.0 })) (enumerate_from 0 plan.devices)) t there) [
-    | inl due ↦ let from = filtered (due_moment plan (spot plan h)) (all_actors plan) t due in due_soon from.0 t from.1
+  moments_soon : (t : ℕ) → Contains (moments plan (snapshot plan h)) t → t ≤ last_time h + 1000000
+  moments_soon t there = elim (Contains-append_cases (due_moments plan (snapshot plan h)) (filter_map (λ p. expiry (world plan h).views (record { 0 = p.0 })) (enumerate_from 0 plan.devices)) t there) [
+    | inl due ↦ let from = filtered (due_moment plan (snapshot plan h)) (all_actors plan) t due in due_soon from.0 t from.1
     | inr free ↦ let from = filtered (λ p. expiry (world plan h).views (record { 0 = p.0 })) (enumerate_from 0 plan.devices) t free in expires_soon (record { 0 = from.0.0 }) t from.1
   ]
 
@@ -109,13 +109,13 @@ module _ (plan : Plan) (h : History) (soon : AreSoon plan (world plan h) (last_t
   tests_soon t (Some (stage.Suspend (suspend.Waiting d f))) is = expires_soon d t is
   tests_soon t (Some _) is = cc is
 
-  pub moment_near : (p : Pace) (t : ℕ) → IsMoment p plan (spot plan h) t → t ≤ last_time h + 1000000
-  moment_near pace.Prompt t is = prompt_soon t is
+  pub moment_near : (p : Pace) (t : ℕ) → IsMoment p plan (snapshot plan h) t → t ≤ last_time h + 1000000
+  moment_near pace.Eager t is = prompt_soon t is
   moment_near pace.Late t (inl now) = omega (arith, now)
   moment_near pace.Late t (inr there) = moments_soon t there.1
 
-  pub line_near : (p : Pace) (line : Line) → IsTimely p plan (spot plan h) line → line.time ≤ last_time h + 1000000
-  line_near pace.Prompt line is = prompt_soon line.time is
+  pub line_near : (p : Pace) (line : Line) → IsTimely p plan (snapshot plan h) line → line.time ≤ last_time h + 1000000
+  line_near pace.Eager line is = prompt_soon line.time is
   line_near pace.Late line is = elim is [
     | inl now ↦ omega (arith, now)
     | inr rest ↦ elim rest [

@@ -14,7 +14,7 @@ use Rattle.pm_model.specs.declared.stage.Stage.TheVariants as stage
 use Rattle.pm_model.specs.Serial.{timer_actors}
 use Rattle.pm_model.specs.Views.{fresh_pending}
 use Rattle.pm_model.specs.World.{World, called_by, place, ready, stage_at, top}
-use Rattle.pm_explore.specs.schedule.Spots.{all_actors}
+use Rattle.pm_explore.specs.schedule.Snapshots.{all_actors}
 
 -- it is in the list
 abbrev pub IsIn : {A : Type 0} → List A → A → Type 0

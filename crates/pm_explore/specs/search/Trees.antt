@@ -6,15 +6,15 @@ abbrev pub LeadDown : List ℕ → Type 0
 LeadDown parents = (i parent : ℕ) → 0 < i → slice_get parents i ≡ Some parent → parent < i
 
 -- the places from one back to the first, each followed by its parent
-pub data IsWay (parents : List ℕ) : ℕ → List ℕ → Type 0 where
-  begins : IsWay parents 0 (0 ∷ [])
-  leads_on : {parent : ℕ} {way : List ℕ} (i : ℕ) → 0 < i → slice_get parents i ≡ Some parent → IsWay parents parent way → IsWay parents i (i ∷ way)
+pub data IsPath (parents : List ℕ) : ℕ → List ℕ → Type 0 where
+  begins : IsPath parents 0 (0 ∷ [])
+  leads_on : {parent : ℕ} {path : List ℕ} (i : ℕ) → 0 < i → slice_get parents i ≡ Some parent → IsPath parents parent path → IsPath parents i (i ∷ path)
 
--- the way back from a place has so many steps
-pub record HasWay (parents : List ℕ) (at steps : ℕ) : Type 0 where
-  pub way : List ℕ
-  pub leads : IsWay parents at way
-  pub many : length way ≡ steps + 1
+-- the path back from a place has so many steps
+pub record HasPath (parents : List ℕ) (at steps : ℕ) : Type 0 where
+  pub path : List ℕ
+  pub leads : IsPath parents at path
+  pub many : length path ≡ steps + 1
 
 -- the first place has no step, and each other one more than its parent, which is before it
 pub record AreCounted (parents steps : List ℕ) : Type 0 where

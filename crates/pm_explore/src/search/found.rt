@@ -98,7 +98,7 @@ pub fn search<N: Eq + Hash + Drop, G: Graph<N>>(
     ensures rounds { AreExact (G.Follows graph.now) (G.start graph.now) (map (G.point graph.now) result.tree.nodes.keys) result.rounds.items }
     ensures led { AreLed (G.Follows graph.now) (map (G.point graph.now) result.tree.nodes.keys) result.tree.parents.items result.rounds.items }
 
-    // There is no round of more steps that spend than were asked for. On the way to whichever node no more spend, nor
+    // There is no round of more steps that spend than were asked for. On the path to whichever node no more spend, nor
     // more than rounds are complete.
     ensures few { length result.rounds.items ≤ most + 1 }
     ensures near { IsLed (G.Follows graph.now) (min most (length result.rounds.items)) (map (G.point graph.now) result.tree.nodes.keys) result.tree.parents.items }

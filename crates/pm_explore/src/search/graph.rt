@@ -14,7 +14,7 @@ use std::hash::Hash;
 pub enum Stop {
     /// There are as many nodes as were allowed.
     Full,
-    /// A node is as far from the first as the graph lets a way go.
+    /// A node is as far from the first as the graph lets a path go.
     TooFar,
     /// Memory is wanting.
     NoMemory,
@@ -51,7 +51,7 @@ pub trait Graph<N: Eq + Hash + Drop> {
     /// Whether the second point follows the first by a step that spends, or by one that doesn't.
     ghost Follows: { Self → Bool → Point → Point → Type 0 };
 
-    /// Whether the way to a place of a tree is as long as the graph lets one be.
+    /// Whether the path to a place of a tree is as long as the graph lets one be.
     ghost IsTooFar: { Self → List Point → List ℕ → ℕ → Type 0 };
 
     /// Whether successors can be found with it.

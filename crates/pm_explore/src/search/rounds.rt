@@ -11,7 +11,7 @@ use crate::search::tree::Tree;
 use std::alloc::Global;
 use std::hash::Hash;
 
-// Spreads by free steps all nodes from one on, those too that are found on the way.
+// Spreads by free steps all nodes from one on, those too that are found on the path.
 pub fn settle<N: Eq + Hash + Drop, G: Graph<N>>(
     alloc: Global,
     graph: &G,

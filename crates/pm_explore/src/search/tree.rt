@@ -4,7 +4,7 @@ ghost use Rattle.std.specs.Prelude.{ℕ, ◌≡◌, ◌<◌, ◌+◌, ◌++◌, 
 ghost use Rattle.std.specs.List.{list_any};
 ghost use Rattle.indexmap.specs.IndexSet.{insert_key};
 ghost use Rattle.pm_explore.specs.search.Growing.{Adds, CanFollow, IsStored};
-ghost use Rattle.pm_explore.specs.search.Trees.{AreCounted, HasWay, IsWay, LeadDown};
+ghost use Rattle.pm_explore.specs.search.Trees.{AreCounted, HasPath, IsPath, LeadDown};
 
 use crate::search::graph::Graph;
 use indexmap::IndexSet;
@@ -18,7 +18,7 @@ pub struct Tree<N: Eq + Hash + Drop> {
     pub nodes: IndexSet<N>,
     /// For each node the place of one that it follows; 0 for the first.
     pub parents: Vec<usize>,
-    /// For each node how many steps the way back from it has.
+    /// For each node how many steps the path back from it has.
     pub steps: Vec<usize>,
     ghost counted: { AreCounted parents.items steps.items },
 }
@@ -35,10 +35,10 @@ pub fn new_tree<N: Eq + Hash + Drop>(alloc: Global) -> Tree<N>
     }
 }
 
-/// How many steps the way back from a node has.
+/// How many steps the path back from a node has.
 pub fn steps_to<N: Eq + Hash + Drop>(tree: &Tree<N>, at: usize) -> usize
     requires within { at < length tree.now.parents.items }
-    ensures { HasWay tree.now.parents.items at result }
+    ensures { HasPath tree.now.parents.items at result }
 {
     let steps = tree.steps[at];
     steps
@@ -100,18 +100,18 @@ pub fn lacks_room<N: Eq + Hash + Drop>(tree: &Tree<N>, node: &N, limit: usize) -
     tree.nodes.len() >= limit && !tree.nodes.contains(node)
 }
 
-/// The places on the way back from one to the first, by the place that each has as its parent.
-pub fn way_back(alloc: Global, parents: &[usize], at: usize) -> Result<Vec<usize>, AllocError>
+/// The places on the path back from one to the first, by the place that each has as its parent.
+pub fn path_back(alloc: Global, parents: &[usize], at: usize) -> Result<Vec<usize>, AllocError>
     requires within { at < length parents.now }
     requires lead_down { LeadDown parents.now }
-    ensures { IfOk result (λ way. IsWay parents.now at way.items) }
+    ensures { IfOk result (λ path. IsPath parents.now at path.items) }
 {
-    let mut way = Vec::new(alloc);
+    let mut path = Vec::new(alloc);
     let mut here = at;
-    way.push(here)?;
+    path.push(here)?;
     while here > 0 {
         here = parents[here];
-        way.push(here)?;
+        path.push(here)?;
     }
-    Ok(way)
+    Ok(path)
 }

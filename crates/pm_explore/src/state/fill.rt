@@ -1,14 +1,14 @@
-//! A state is set to stand at a spot.
+//! A state is set to stand at a snapshot.
 
 ghost use Rattle.std.specs.Prelude.{◌≡◌};
 ghost use Rattle.pm_state.specs.Standing.{CanStand, IsOf};
-ghost use Rattle.pm_explore.specs.state.SpotOf.{world_of};
+ghost use Rattle.pm_explore.specs.state.SnapshotOf.{world_of};
 
-use crate::state::spot::Spot;
+use crate::state::snapshot::Snapshot;
 use pm_model::Plan;
 use pm_state::State;
 
-impl Spot {
+impl Snapshot {
     /// The state of a run of the plan stands there. It takes no memory.
     pub fn fill(&self, plan: &Plan, state: &mut State)
         requires is_of { IsOf plan.now state.old }

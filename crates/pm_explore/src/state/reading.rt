@@ -1,11 +1,11 @@
-//! Where an order stands, read out of the state of its run.
+//! Where a schedule stands, read out of the state of its run.
 
 ghost use Rattle.std.specs.Prelude.{◌≡◌, IfOk, map};
 ghost use Rattle.pm_laws.specs.counts.Sizes.{HasEntries};
 ghost use Rattle.pm_state.specs.Standing.{IsOf};
-ghost use Rattle.pm_explore.specs.state.SpotOf.{spot_of};
+ghost use Rattle.pm_explore.specs.state.SnapshotOf.{snapshot_of};
 
-use crate::state::spot::Spot;
+use crate::state::snapshot::Snapshot;
 use pm_base::{ActorId, Armed, DevId, Pending};
 use pm_model::{Device, Plan, Stage};
 use pm_state::State;
@@ -123,8 +123,8 @@ fn called_of(alloc: Global, state: &State) -> Result<Vec<u32>, AllocError>
     state.called().iter().copied().collect(alloc)
 }
 
-impl Spot {
-    /// Where an order stands whose last line was written at this time, by this actor, and returned this code.
+impl Snapshot {
+    /// Where a schedule stands whose last line was written at this time, by this actor, and returned this code.
     pub fn of(
         alloc: Global,
         plan: &Plan,
@@ -132,12 +132,12 @@ impl Spot {
         time: u64,
         last: Option<ActorId>,
         code: Option<i32>,
-    ) -> Result<Spot, AllocError>
+    ) -> Result<Snapshot, AllocError>
         requires is_of { IsOf plan.now state.now }
         requires entries { HasEntries plan.now state.now.world.views }
-        ensures { IfOk result (λ s. spot_of s ≡ record { world = state.now.world; time = time; last = last; code = code }) }
+        ensures { IfOk result (λ s. snapshot_of s ≡ record { world = state.now.world; time = time; last = last; code = code }) }
     {
-        Ok(Spot {
+        Ok(Snapshot {
             devices: devices_of(alloc, plan, state)?,
             pending: pending_of(alloc, plan, state)?,
             timers: timers_of(alloc, plan, state)?,

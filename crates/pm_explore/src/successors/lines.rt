@@ -4,11 +4,11 @@ ghost use Rattle.std.specs.Prelude.{ℕ, ◌≡◌, ◌<◌, ◌++◌, ◌^◌, 
 ghost use Rattle.std.specs.List.{All, filter_map, flat_map};
 ghost use Rattle.pm_laws.specs.counts.Sizes.{HasEntries, HasPlaces};
 ghost use Rattle.pm_model.specs.World.{stage_at};
-ghost use Rattle.pm_explore.specs.schedule.Spots.{all_actors, anyone_may, last_may};
+ghost use Rattle.pm_explore.specs.schedule.Snapshots.{all_actors, anyone_may, last_may};
 ghost use Rattle.pm_explore.specs.search.Exact.{HasExactly};
 ghost use Rattle.pm_state.specs.Standing.{AllStandWell, IsActor, IsOf};
-ghost use Rattle.pm_explore.specs.successors.Lines.{IsMoment, IsNext, comes, is_at, is_kept, is_new_mark, line_for, lines_at, marked_by_callback, marked_by_change, marked_by_event, marks};
-ghost use Rattle.pm_explore.specs.successors.Standing.{spot_at};
+ghost use Rattle.pm_explore.specs.successors.Lines.{IsMoment, IsNext, comes, is_at, is_kept, is_new_observation, line_for, lines_at, marked_by_callback, marked_by_change, marked_by_event, observations};
+ghost use Rattle.pm_explore.specs.successors.Standing.{snapshot_at};
 
 use crate::schedule::Pace;
 use crate::successors::laws::lines_are_all;
@@ -20,7 +20,7 @@ use pm_model::{Change, Event, Line, Move, Plan, Stage, Word};
 use pm_state::State;
 use std::alloc::{AllocError, Global};
 
-// Whether a line is no earlier than the last one, and disturbs or doesn't.
+// Whether a line is no earlier than the last one, and preempts or doesn't.
 fn keeps(
     _plan: &Plan,
     _state: &State,
@@ -30,16 +30,16 @@ fn keeps(
     own: bool,
     line: &Line,
 ) -> bool
-    requires anyone { anyone ≡ anyone_may _plan.now (spot_at _state.now.world last) }
-    requires own { own ≡ last_may _plan.now (spot_at _state.now.world last) }
-    ensures { result ≡ is_kept _plan.now (spot_at _state.now.world last) spends line.now }
+    requires anyone { anyone ≡ anyone_may _plan.now (snapshot_at _state.now.world last) }
+    requires own { own ≡ last_may _plan.now (snapshot_at _state.now.world last) }
+    ensures { result ≡ is_kept _plan.now (snapshot_at _state.now.world last) spends line.now }
 {
     let later = last.time < line.time;
-    let disturbs = (own && (!wrote(last.actor, line.actor) || later)) || (later && anyone);
-    last.time <= line.time && (if spends { disturbs } else { !disturbs })
+    let preempts = (own && (!wrote(last.actor, line.actor) || later)) || (later && anyone);
+    last.time <= line.time && (if spends { preempts } else { !preempts })
 }
 
-// The device, if its callbacks mark it as busy.
+// The device, if its callbacks observation it as busy.
 fn marked_by_callback(plan: &Plan, dev: DevId) -> Option<DevId>
     ensures { result ≡ marked_by_callback plan.now dev }
 {
@@ -53,7 +53,7 @@ fn marked_by_callback(plan: &Plan, dev: DevId) -> Option<DevId>
     }
 }
 
-// The device that a row's change marks as busy.
+// The device that a row's change observations as busy.
 fn marked_by_change(plan: &Plan, change: &Change) -> Option<DevId>
     ensures { result ≡ marked_by_change plan.now change.now }
 {
@@ -65,7 +65,7 @@ fn marked_by_change(plan: &Plan, change: &Change) -> Option<DevId>
     }
 }
 
-// The device that an event marks as busy.
+// The device that an event observations as busy.
 fn marked_by_event(event: &Event) -> Option<DevId>
     ensures { result ≡ marked_by_event event.now }
 {
@@ -78,27 +78,27 @@ fn marked_by_event(event: &Event) -> Option<DevId>
     }
 }
 
-// Whether a mark at a time is one that a device hasn't.
-fn is_new_mark(plan: &Plan, state: &State, time: u64, dev: DevId) -> bool
+// Whether an observation at a time is one that a device hasn't.
+fn is_new_observation(plan: &Plan, state: &State, time: u64, dev: DevId) -> bool
     requires is_of { IsOf plan.now state.now }
     requires entries { HasEntries plan.now state.now.world.views }
-    ensures { result ≡ is_new_mark state.now.world.views time dev }
+    ensures { result ≡ is_new_observation state.now.world.views time dev }
 {
     (dev.0 as usize) < plan.devices.len() && state.parts().device(dev).last_busy != time
 }
 
-// Whether a line with this event and this change leaves a device with another mark.
-fn marks(plan: &Plan, state: &State, time: u64, event: &Event, change: &Change) -> bool
+// Whether a line with this event and this change leaves a device with another observation.
+fn observations(plan: &Plan, state: &State, time: u64, event: &Event, change: &Change) -> bool
     requires is_of { IsOf plan.now state.now }
     requires entries { HasEntries plan.now state.now.world.views }
-    ensures { result ≡ marks plan.now state.now.world.views time event.now change.now }
+    ensures { result ≡ observations plan.now state.now.world.views time event.now change.now }
 {
     let by_change = match marked_by_change(plan, change) {
-        Some(dev) => is_new_mark(plan, state, time, dev),
+        Some(dev) => is_new_observation(plan, state, time, dev),
         None => false,
     };
     let by_event = match marked_by_event(event) {
-        Some(dev) => is_new_mark(plan, state, time, dev),
+        Some(dev) => is_new_observation(plan, state, time, dev),
         None => false,
     };
     by_change || by_event
@@ -121,15 +121,15 @@ fn comes(plan: &Plan, state: &State, pace: Pace, last: Last, line: &Line, change
     requires entries { HasEntries plan.now state.now.world.views }
     requires in_range { IsActor plan.now line.now.actor }
     requires in_time { last.time < 2 ^ 63 }
-    ensures { result ≡ comes pace plan.now (spot_at state.now.world last) line.now change.now }
+    ensures { result ≡ comes pace plan.now (snapshot_at state.now.world last) line.now change.now }
 {
     match pace {
-        Pace::Prompt => true,
+        Pace::Eager => true,
         Pace::Late => {
             !(last.time < line.time)
                 || is_at(line.time, awaits(plan, state, line.actor, last.time))
                 || is_at(line.time, tested(plan, state, line.actor))
-                || marks(plan, state, line.time, &line.event, change)
+                || observations(plan, state, line.time, &line.event, change)
         }
     }
 }
@@ -153,10 +153,10 @@ fn line_for(
     requires in_range { IsActor plan.now actor }
     requires last_in_time { last.time < 2 ^ 63 }
     requires in_time { time < 2 ^ 63 }
-    requires anyone { anyone ≡ anyone_may plan.now (spot_at state.now.world last) }
-    requires own { own ≡ last_may plan.now (spot_at state.now.world last) }
+    requires anyone { anyone ≡ anyone_may plan.now (snapshot_at state.now.world last) }
+    requires own { own ≡ last_may plan.now (snapshot_at state.now.world last) }
     requires stands { stage_at plan.now state.now.world actor ≡ Some stage.now }
-    ensures { result ≡ line_for pace plan.now (spot_at state.now.world last) spends time actor }
+    ensures { result ≡ line_for pace plan.now (snapshot_at state.now.world last) spends time actor }
 {
     let Move::Write(event, change, _) = state.next(plan, stage, time) else {
         return None;
@@ -191,10 +191,10 @@ fn push_at_stage(
     requires in_range { IsActor plan.now actor }
     requires last_in_time { last.time < 2 ^ 63 }
     requires in_time { All (λ t. t < 2 ^ 63) times.now }
-    requires anyone { anyone ≡ anyone_may plan.now (spot_at state.now.world last) }
-    requires own { own ≡ last_may plan.now (spot_at state.now.world last) }
+    requires anyone { anyone ≡ anyone_may plan.now (snapshot_at state.now.world last) }
+    requires own { own ≡ last_may plan.now (snapshot_at state.now.world last) }
     requires stands { stage_at plan.now state.now.world actor ≡ Some stage.now }
-    ensures { OnOk result (out.new.items ≡ out.old.items ++ filter_map (λ t. line_for pace plan.now (spot_at state.now.world last) spends t actor) times.now) }
+    ensures { OnOk result (out.new.items ≡ out.old.items ++ filter_map (λ t. line_for pace plan.now (snapshot_at state.now.world last) spends t actor) times.now) }
 {
     for time in times {
         if let Some(line) = line_for(
@@ -225,9 +225,9 @@ fn push_of_actor(
     requires in_range { IsActor plan.now actor }
     requires last_in_time { last.time < 2 ^ 63 }
     requires in_time { All (λ t. t < 2 ^ 63) times.now }
-    requires anyone { anyone ≡ anyone_may plan.now (spot_at state.now.world last) }
-    requires own { own ≡ last_may plan.now (spot_at state.now.world last) }
-    ensures { OnOk result (out.new.items ≡ out.old.items ++ filter_map (λ t. line_for pace plan.now (spot_at state.now.world last) spends t actor) times.now) }
+    requires anyone { anyone ≡ anyone_may plan.now (snapshot_at state.now.world last) }
+    requires own { own ≡ last_may plan.now (snapshot_at state.now.world last) }
+    ensures { OnOk result (out.new.items ≡ out.old.items ++ filter_map (λ t. line_for pace plan.now (snapshot_at state.now.world last) spends t actor) times.now) }
 {
     let Some(stage) = state.stage_at(plan, actor) else {
         return Ok(());
@@ -256,9 +256,9 @@ fn push_lines(
     requires in_range { All (IsActor plan.now) actors.now }
     requires last_in_time { last.time < 2 ^ 63 }
     requires in_time { All (λ t. t < 2 ^ 63) times.now }
-    requires anyone { anyone ≡ anyone_may plan.now (spot_at state.now.world last) }
-    requires own { own ≡ last_may plan.now (spot_at state.now.world last) }
-    ensures { OnOk result (out.new.items ≡ out.old.items ++ flat_map (λ actor. filter_map (λ t. line_for pace plan.now (spot_at state.now.world last) spends t actor) times.now) actors.now) }
+    requires anyone { anyone ≡ anyone_may plan.now (snapshot_at state.now.world last) }
+    requires own { own ≡ last_may plan.now (snapshot_at state.now.world last) }
+    ensures { OnOk result (out.new.items ≡ out.old.items ++ flat_map (λ actor. filter_map (λ t. line_for pace plan.now (snapshot_at state.now.world last) spends t actor) times.now) actors.now) }
 {
     for actor in actors {
         push_of_actor(
@@ -269,7 +269,7 @@ fn push_lines(
 }
 
 /// All lines that may come next at a pace where a run stands so, its last line was this one, and each actor stands
-/// well, and that disturb, or don't.
+/// well, and that preempt, or don't.
 pub fn next_lines(
     alloc: Global,
     plan: &Plan,
@@ -287,8 +287,8 @@ pub fn next_lines(
     requires in_range { All (IsActor plan.now) actors.now }
     requires last_in_range { IfSome last.actor (IsActor plan.now) }
     requires last_in_time { last.time < 2 ^ 63 }
-    requires in_time { (t : ℕ) → IsMoment pace plan.now (spot_at state.now.world last) t → t < 2 ^ 63 }
-    ensures { IfOk result (λ out. HasExactly (IsNext pace plan.now (spot_at state.now.world last) spends) out.items) }
+    requires in_time { (t : ℕ) → IsMoment pace plan.now (snapshot_at state.now.world last) t → t < 2 ^ 63 }
+    ensures { IfOk result (λ out. HasExactly (IsNext pace plan.now (snapshot_at state.now.world last) spends) out.items) }
 {
     lines_are_all();
     let mut out = Vec::new(alloc);

@@ -3,7 +3,7 @@
 ghost use Rattle.std.specs.Prelude.{◌≡◌, ◌++◌, IfOk, OnOk, map};
 ghost use Rattle.std.specs.List.{enumerate_from};
 ghost use Rattle.pm_base.specs.declared.ActorId.TheVariants.{Caller, Timer, Work};
-ghost use Rattle.pm_explore.specs.schedule.Spots.{all_actors};
+ghost use Rattle.pm_explore.specs.schedule.Snapshots.{all_actors};
 
 use pm_base::ActorId;
 use pm_model::Plan;

@@ -5,13 +5,13 @@ ghost use Rattle.std.specs.List.{All, cons_option, enumerate_from, filter_map};
 ghost use Rattle.std.specs.Option.{option_and_then};
 ghost use Rattle.pm_model.specs.Derived.{expiry};
 ghost use Rattle.pm_model.specs.Serial.{late_moment, least, move_at};
-ghost use Rattle.pm_explore.specs.declared.schedule.Pace.TheVariants.{Late, Prompt};
-ghost use Rattle.pm_explore.specs.schedule.Spots.{all_actors, anyone_may, due_moment, prompt_time};
+ghost use Rattle.pm_explore.specs.declared.schedule.Pace.TheVariants.{Late, Eager};
+ghost use Rattle.pm_explore.specs.schedule.Snapshots.{all_actors, anyone_may, due_moment, prompt_time};
 ghost use Rattle.pm_explore.specs.search.Exact.{HasExactly};
 ghost use Rattle.pm_state.specs.Standing.{AllStandWell, IsActor, IsOf};
 ghost use Rattle.pm_explore.specs.successors.Lines.{IsMoment};
 ghost use Rattle.pm_explore.specs.successors.Moments.{AreWith};
-ghost use Rattle.pm_explore.specs.successors.Standing.{spot_at};
+ghost use Rattle.pm_explore.specs.successors.Standing.{snapshot_at};
 
 use crate::schedule::Pace;
 use crate::successors::moves::{Last, awaits};
@@ -51,7 +51,7 @@ fn least_due(plan: &Plan, state: &State, time: u64, actors: &[ActorId]) -> Optio
     least
 }
 
-// When the next line is written at a prompt pace.
+// When the next line is written at an eager pace.
 fn prompt_time(
     plan: &Plan,
     state: &State,
@@ -64,8 +64,8 @@ fn prompt_time(
     requires actors { actors.now ≡ all_actors plan.now }
     requires in_range { All (IsActor plan.now) actors.now }
     requires in_time { last.time < 2 ^ 63 }
-    requires anyone { anyone ≡ anyone_may plan.now (spot_at state.now.world last) }
-    ensures { result ≡ prompt_time plan.now (spot_at state.now.world last) }
+    requires anyone { anyone ≡ anyone_may plan.now (snapshot_at state.now.world last) }
+    ensures { result ≡ prompt_time plan.now (snapshot_at state.now.world last) }
 {
     if anyone {
         Some(last.time)
@@ -74,7 +74,7 @@ fn prompt_time(
     }
 }
 
-// The moment at which lines may come at a prompt pace, if there is one.
+// The moment at which lines may come at an eager pace, if there is one.
 fn prompt_moments(
     alloc: Global,
     plan: &Plan,
@@ -88,8 +88,8 @@ fn prompt_moments(
     requires actors { actors.now ≡ all_actors plan.now }
     requires in_range { All (IsActor plan.now) actors.now }
     requires in_time { last.time < 2 ^ 63 }
-    requires anyone { anyone ≡ anyone_may plan.now (spot_at state.now.world last) }
-    ensures { IfOk result (λ out. HasExactly (IsMoment Prompt plan.now (spot_at state.now.world last)) out.items) }
+    requires anyone { anyone ≡ anyone_may plan.now (snapshot_at state.now.world last) }
+    ensures { IfOk result (λ out. HasExactly (IsMoment Eager plan.now (snapshot_at state.now.world last)) out.items) }
 {
     let mut out = Vec::new(alloc);
     if let Some(time) = prompt_time(plan, state, last, anyone, actors) {
@@ -123,7 +123,7 @@ fn push_due(
     requires stand { AllStandWell plan.now state.now.world }
     requires in_range { All (IsActor plan.now) actors.now }
     requires in_time { last.time < 2 ^ 63 }
-    ensures { OnOk result (AreWith last.time out.old.items (filter_map (due_moment plan.now (spot_at state.now.world last)) actors.now) out.new.items) }
+    ensures { OnOk result (AreWith last.time out.old.items (filter_map (due_moment plan.now (snapshot_at state.now.world last)) actors.now) out.new.items) }
 {
     for actor in actors {
         push_moment(out, last.time, awaits(plan, state, *actor, last.time))?;
@@ -160,7 +160,7 @@ fn late_moments(
     requires actors { actors.now ≡ all_actors plan.now }
     requires in_range { All (IsActor plan.now) actors.now }
     requires in_time { last.time < 2 ^ 63 }
-    ensures { IfOk result (λ out. HasExactly (IsMoment Late plan.now (spot_at state.now.world last)) out.items) }
+    ensures { IfOk result (λ out. HasExactly (IsMoment Late plan.now (snapshot_at state.now.world last)) out.items) }
 {
     let mut out = Vec::new(alloc);
     out.push(last.time)?;
@@ -184,11 +184,11 @@ pub fn moments_at(
     requires actors { actors.now ≡ all_actors plan.now }
     requires in_range { All (IsActor plan.now) actors.now }
     requires in_time { last.time < 2 ^ 63 }
-    requires anyone { anyone ≡ anyone_may plan.now (spot_at state.now.world last) }
-    ensures { IfOk result (λ out. HasExactly (IsMoment pace plan.now (spot_at state.now.world last)) out.items) }
+    requires anyone { anyone ≡ anyone_may plan.now (snapshot_at state.now.world last) }
+    ensures { IfOk result (λ out. HasExactly (IsMoment pace plan.now (snapshot_at state.now.world last)) out.items) }
 {
     match pace {
-        Pace::Prompt => prompt_moments(alloc, plan, state, last, anyone, actors),
+        Pace::Eager => prompt_moments(alloc, plan, state, last, anyone, actors),
         Pace::Late => late_moments(alloc, plan, state, last, actors),
     }
 }

@@ -5,10 +5,10 @@ ghost use Rattle.std.specs.List.{All, list_any};
 ghost use Rattle.std.specs.Option.{option_and_then, option_map_or};
 ghost use Rattle.pm_model.specs.Promises.{is_actor};
 ghost use Rattle.pm_model.specs.Serial.{late_moment, may_write, move_at};
-ghost use Rattle.pm_explore.specs.schedule.Spots.{all_actors, anyone_may, expiry_at, last_may};
+ghost use Rattle.pm_explore.specs.schedule.Snapshots.{all_actors, anyone_may, expiry_at, last_may};
 ghost use Rattle.pm_model.specs.World.{stage_at};
 ghost use Rattle.pm_state.specs.Standing.{AllStandWell, IsActor, IsOf};
-ghost use Rattle.pm_explore.specs.successors.Standing.{spot_at};
+ghost use Rattle.pm_explore.specs.successors.Standing.{snapshot_at};
 
 use pm_base::ActorId;
 use pm_model::{Move, Plan, Stage, SuspendStage};
@@ -113,7 +113,7 @@ pub fn last_may(plan: &Plan, state: &State, last: Last) -> bool
     requires stand { AllStandWell plan.now state.now.world }
     requires in_range { IfSome last.actor (IsActor plan.now) }
     requires in_time { last.time < 2 ^ 63 }
-    ensures { result ≡ last_may plan.now (spot_at state.now.world last) }
+    ensures { result ≡ last_may plan.now (snapshot_at state.now.world last) }
 {
     match last.actor {
         Some(actor) => may(plan, state, actor, last.time),
@@ -128,7 +128,7 @@ pub fn anyone_may(plan: &Plan, state: &State, last: Last, actors: &[ActorId]) ->
     requires actors { actors.now ≡ all_actors plan.now }
     requires in_range { All (IsActor plan.now) actors.now }
     requires in_time { last.time < 2 ^ 63 }
-    ensures { result ≡ anyone_may plan.now (spot_at state.now.world last) }
+    ensures { result ≡ anyone_may plan.now (snapshot_at state.now.world last) }
 {
     any_may(plan, state, last.time, actors)
 }

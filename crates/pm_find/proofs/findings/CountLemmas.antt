@@ -10,6 +10,10 @@ reverse_map f (x ∷ xs) =
     reverse-append (f x ∷ []) (map f xs) ∙ ap (λ ys. ys ++ f x ∷ []) (reverse_map f xs)
     ∙ sym (ap (map f) (reverse-append (x ∷ []) xs) ∙ map-append f (reverse xs) (x ∷ []))
 
+-- one more is the newest
+pub reverse_more : {X : Type 0} (f : X → X) (xs : List X) (x : X) → reverse (map f xs ++ x ∷ []) ≡ x ∷ map f (reverse xs)
+reverse_more f xs x = reverse-append (map f xs) (x ∷ []) ∙ ap (λ ys. x ∷ ys) (reverse_map f xs)
+
 -- without the element in the middle
 middle : {X : Type 0} (front back : List X) (x : X) (n : ℕ) → length front ≡ n → remove (front ++ x ∷ back) n ≡ front ++ back
 middle front back x n is =

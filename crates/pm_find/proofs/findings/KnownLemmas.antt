@@ -14,9 +14,9 @@ use Rattle.pm_model.specs.Derived.{is_active_status}
 use Rattle.pm_model.specs.Events.{is_try_again}
 use Rattle.pm_model.specs.History.{History}
 use Rattle.pm_find.specs.declared.findings.watched.Count.{Count}
-use Rattle.pm_find.specs.findings.Kept.{Known, error_after, error_in, known, known_after, left_after, status_after, status_in}
+use Rattle.pm_find.specs.findings.Kept.{Known, ends_failed, error_after, error_in, failed_after, known, known_after, left_after, status_after, status_in}
 use Rattle.pm_find.specs.findings.OpenCounts.{counts_after, device_of, open_counts}
-use Rattle.pm_find.specs.findings.Said.{error_line, left_line}
+use Rattle.pm_find.specs.findings.Said.{call_by, error_line, failed_line, fails, left_line}
 
 none_either : {X : Type 0} (b : Bool) → (let none : Option X = None in none) ≡ (if b then None else None)
 none_either true = refl
@@ -56,6 +56,19 @@ error_said d (event.End e cb.Suspend c) = swapped_twice (int_eq c (pos 0)) (is_t
 error_said d (event.State e w) = swapped_in (is_forced w) (is_same d e) (pos 0)
 error_said d e = none_either (is_same d (device_of e))
 
+and_if : (b x : Bool) → (b && x) ≡ (if b then x else false)
+and_if true x = refl
+and_if false x = refl
+
+no_either : (b : Bool) → false ≡ (if b then false else false)
+no_either true = refl
+no_either false = refl
+
+-- and that a callback failed
+failed_said : (d : DevId) (e : Event) → fails d e ≡ (if is_same d (device_of e) then ends_failed e else false)
+failed_said d (event.End e cb c) = and_if (is_same d e) (not (int_eq c (pos 0)))
+failed_said d e = no_either (is_same d (device_of e))
+
 -- what a line says, or else what was said before
 pub said : {X : Type 0} (o : Option X) (before : X) → (elim o as (λ _. X) [ Some x ↦ x | None ↦ before ]) ≡ unwrap_or o before
 said (Some x) before = refl
@@ -76,20 +89,24 @@ both : (b : Bool) → b && not b ≡ false
 both true = refl
 both false = refl
 
-of_four : List Count → Status → ℕ → ℕ → Known
-of_four counts s e l = record { counts = counts; status = s; error = e; left = l }
+of_five : List Count → Status → ℕ → ℕ → ℕ → Known
+of_five counts s e f l = record { counts = counts; status = s; error = e; failed = f; left = l }
 
-same_known : (x y : Known) → x.counts ≡ y.counts → x.status ≡ y.status → x.error ≡ y.error → x.left ≡ y.left → x ≡ y
-unfolding of_four
-same_known x y a b c d =
-    ap (λ v. of_four v x.status x.error x.left) a ∙ ap (λ v. of_four y.counts v x.error x.left) b
-    ∙ ap (λ v. of_four y.counts y.status v x.left) c ∙ ap (λ v. of_four y.counts y.status y.error v) d
+same_known : (x y : Known) → x.counts ≡ y.counts → x.status ≡ y.status → x.error ≡ y.error → x.failed ≡ y.failed → x.left ≡ y.left → x ≡ y
+unfolding of_five
+same_known x y a b c f d =
+    ap (λ v. of_five v x.status x.error x.failed x.left) a ∙ ap (λ v. of_five y.counts v x.error x.failed x.left) b
+    ∙ ap (λ v. of_five y.counts y.status v x.failed x.left) c ∙ ap (λ v. of_five y.counts y.status y.error v x.left) f
+    ∙ ap (λ v. of_five y.counts y.status y.error y.failed v) d
 
 error_now : (line : Line) (h : History) (d : DevId)
     → error_line (line ∷ h) d ≡ option_map_or (λ code. if int_eq code (pos 0) then 0 else length h + 1) (says_error d line.event) (error_line h d)
 error_now line h d =
     said (option_map (λ code. if int_eq code (pos 0) then 0 else length h + 1) (says_error d line.event)) (error_line h d)
     ∙ mapped (λ code. if int_eq code (pos 0) then 0 else length h + 1) (says_error d line.event) (error_line h d)
+
+failed_now : (line : Line) (h : History) (d : DevId) → failed_line (line ∷ h) d ≡ (if fails d line.event then length h + 1 else failed_line h d)
+failed_now line h d = said (only_if (fails d line.event) (length h + 1)) (failed_line h d) ∙ chosen (fails d line.event) (length h + 1) (failed_line h d)
 
 pub left_now : (line : Line) (h : History) (d : DevId)
     → left_line (line ∷ h) d ≡ (if is_active_status (status_of h d) && not (is_active_status (status_of (line ∷ h) d)) then length h + 1 else left_line h d)
@@ -99,11 +116,16 @@ left_now line h d =
 
 -- a line of the device
 pub known_own : (line : Line) (h : History) (d : DevId) → is_same d (device_of line.event) ≡ true
-    → known (line ∷ h) d ≡ known_after line.actor (length h + 1) line.event (known h d)
-known_own line h d own = same_known _ _ counts status error left
+    → known (line ∷ h) d ≡ known_after line.actor (length h + 1) (call_by h line.actor) line.event (known h d)
+known_own line h d own = same_known _ _ counts status error failed left
   where
-    counts : open_counts (line ∷ h) d ≡ counts_after line.actor (length h + 1) line.event (open_counts h d)
-    counts = ap (λ b. if b then counts_after line.actor (length h + 1) line.event (open_counts h d) else open_counts h d) own
+    counts : open_counts (line ∷ h) d ≡ counts_after line.actor (length h + 1) (call_by h line.actor) line.event (open_counts h d)
+    counts = ap (λ b. if b then counts_after line.actor (length h + 1) (call_by h line.actor) line.event (open_counts h d) else open_counts h d) own
+
+    failed : failed_line (line ∷ h) d ≡ failed_after (length h + 1) line.event (failed_line h d)
+    failed =
+        failed_now line h d
+        ∙ ap (λ b. if b then length h + 1 else failed_line h d) (failed_said d line.event ∙ ap (λ b. if b then ends_failed line.event else false) own)
 
     status : status_of (line ∷ h) d ≡ status_after line.event (status_of h d)
     status =
@@ -120,10 +142,15 @@ known_own line h d own = same_known _ _ counts status error left
 
 -- a line of another device
 pub known_other : (line : Line) (h : History) (d : DevId) → is_same d (device_of line.event) ≡ false → known (line ∷ h) d ≡ known h d
-known_other line h d other = same_known _ _ counts status error left
+known_other line h d other = same_known _ _ counts status error failed left
   where
     counts : open_counts (line ∷ h) d ≡ open_counts h d
-    counts = ap (λ b. if b then counts_after line.actor (length h + 1) line.event (open_counts h d) else open_counts h d) other
+    counts = ap (λ b. if b then counts_after line.actor (length h + 1) (call_by h line.actor) line.event (open_counts h d) else open_counts h d) other
+
+    failed : failed_line (line ∷ h) d ≡ failed_line h d
+    failed =
+        failed_now line h d
+        ∙ ap (λ b. if b then length h + 1 else failed_line h d) (failed_said d line.event ∙ ap (λ b. if b then ends_failed line.event else false) other)
 
     status : status_of (line ∷ h) d ≡ status_of h d
     status =

@@ -17,13 +17,14 @@ use Rattle.pm_model.specs.World.{World, world}
 use Rattle.pm_state.specs.Standing.{counters}
 use Rattle.pm_find.specs.declared.findings.Finding.{Finding}
 use Rattle.pm_find.specs.declared.findings.watched.Called.{Called}
+use Rattle.pm_find.specs.declared.findings.watched.Count.{Count}
 use Rattle.pm_find.specs.findings.AllFound.{at_line, bonds_at, domain_at, domains_after, placed_at, unmarked_at}
-use Rattle.pm_find.specs.findings.OpenCounts.{device_of}
+use Rattle.pm_find.specs.findings.OpenCounts.{device_of, open_counts}
 use Rattle.pm_find.specs.findings.Said.{call_by}
 use Rattle.pm_find.specs.findings.StandsOut.{unmarked}
 use Rattle.pm_find.proofs.findings.StepLemmas.{front, rear}
 
-views_is : (plan : Plan) (h : History) (k : Kept) (c : Counters) → IsKept plan k h → c ≡ counters k.replay.standing → c.views ≡ (world plan h).views
+pub views_is : (plan : Plan) (h : History) (k : Kept) (c : Counters) → IsKept plan k h → c ≡ counters k.replay.standing → c.views ≡ (world plan h).views
 views_is plan h k c kept is = ap (λ (x : Counters). x.views) is ∙ ap (λ (w : World). w.views) kept.replay.world_is
 
 -- the counters were made for the plan
@@ -42,16 +43,17 @@ event_is plan h line k c kept is of_plan =
 pub put_inside : (n : ℕ) (d : DevId) → is_event_of n (event.Put d why.Caller) ≡ true → d.0 < n
 put_inside n d is = ltb-true d.0 n (front (nat_lt d.0 n) _ is)
 
-pub placed_more : (plan : Plan) (h : History) (line : Line) (k : Kept) (c : Counters) (called : Option Called) (number : ℕ) (before told after : List Finding) → IsKept plan k h → c ≡ counters k.replay.standing
-    → number ≡ length h + 1 → called ≡ call_by h line.actor
-    → told ≡ before ++ at_line number (unmarked (device c.views (device_of line.event)) called line.time line.actor line.event)
+pub placed_more : (plan : Plan) (h : History) (line : Line) (k : Kept) (c : Counters) (called : Option Called) (counts : List Count) (number : ℕ) (before told after : List Finding) → IsKept plan k h → c ≡ counters k.replay.standing
+    → number ≡ length h + 1 → called ≡ call_by h line.actor → counts ≡ open_counts h (device_of line.event)
+    → told ≡ before ++ at_line number (unmarked (device c.views (device_of line.event)) counts called line.time line.actor line.event)
     → after ≡ told ++ bonds_at plan h line → after ≡ before ++ placed_at plan h line
-placed_more plan h line k c called number before told after kept is counted last was more =
+placed_more plan h line k c called counts number before told after kept is counted last held was more =
     more
     ∙ ap (λ l. l ++ bonds_at plan h line) (was
-    ∙ ap (λ n. before ++ at_line n (unmarked (device c.views (device_of line.event)) called line.time line.actor line.event)) counted
-    ∙ ap (λ (v : Views). before ++ at_line (length h + 1) (unmarked (device v (device_of line.event)) called line.time line.actor line.event)) (views_is plan h k c kept is)
-    ∙ ap (λ x. before ++ at_line (length h + 1) (unmarked (device (world plan h).views (device_of line.event)) x line.time line.actor line.event)) last)
+    ∙ ap (λ n. before ++ at_line n (unmarked (device c.views (device_of line.event)) counts called line.time line.actor line.event)) counted
+    ∙ ap (λ (v : Views). before ++ at_line (length h + 1) (unmarked (device v (device_of line.event)) counts called line.time line.actor line.event)) (views_is plan h k c kept is)
+    ∙ ap (λ x. before ++ at_line (length h + 1) (unmarked (device (world plan h).views (device_of line.event)) x called line.time line.actor line.event)) held
+    ∙ ap (λ x. before ++ at_line (length h + 1) (unmarked (device (world plan h).views (device_of line.event)) (open_counts h (device_of line.event)) x line.time line.actor line.event)) last)
     ∙ append_assoc before (unmarked_at plan h line) (bonds_at plan h line)
 
 pub domains_more : (plan : Plan) (h : History) (k : Kept) (c : Counters) (number : ℕ) (left : List DomainOn) (before after : List Finding) → IsKept plan k h → c ≡ counters k.replay.standing

@@ -18,9 +18,11 @@ use Rattle.pm_model.specs.Counted.{gets, gives_back, is_callers, is_same, puts, 
 use Rattle.pm_model.specs.History.{History}
 use Rattle.pm_model.specs.Lawful.{IsLawful}
 use Rattle.pm_laws.proofs.counts.Said.{share_counted}
+use Rattle.pm_find.specs.declared.findings.watched.Called.{Called}
 use Rattle.pm_find.specs.declared.findings.watched.Count.{Count}
 use Rattle.pm_find.specs.findings.Codes.{is_error}
-use Rattle.pm_find.specs.findings.OpenCounts.{counts_after, device_of, is_of, open_counts, taken_place, with_error}
+use Rattle.pm_find.specs.findings.OpenCounts.{counts_after, device_of, is_of, new_count, open_counts, taken_place, with_another, with_error}
+use Rattle.pm_find.specs.findings.Said.{call_by}
 
 -- where there is a count, one is taken away
 place_below : (actor : ActorId) (counts : List Count) → 0 < length counts → taken_place actor counts < length counts
@@ -28,7 +30,7 @@ place_below actor counts some = go (position (is_of actor) counts) refl
   where
     go : (o : Option ℕ) → position (is_of actor) counts ≡ o → unwrap_or o 0 < length counts
     go None is = some
-    go (Some i) is = (position-Some (is_of actor) counts i (record { actor = Caller 0; line = 0; failed = false }) is).0
+    go (Some i) is = (position-Some (is_of actor) counts i (record { actor = Caller 0; line = 0; asks = false; failed = false; again = false }) is).0
 
 taken_away : (actor : ActorId) (counts : List Count) → 0 < length counts → length (remove counts (taken_place actor counts)) + 1 ≡ length counts
 taken_away actor counts some = length-remove counts (taken_place actor counts) (place_below actor counts some)
@@ -55,23 +57,23 @@ other_ret actor true false counts p g was = omega arith
 other_ret actor false e counts p g was = omega arith
 
 -- one event more: counts are taken and given back
-step : (d : DevId) (actor : ActorId) (n : ℕ) (e : Event) (counts : List Count) (p g : ℕ) → length counts + p ≡ g
+step : (d : DevId) (actor : ActorId) (n : ℕ) (called : Option Called) (e : Event) (counts : List Count) (p g : ℕ) → length counts + p ≡ g
     → one (gives_back is_callers d e) + p ≤ one (takes is_callers d e) + g
-    → length (if is_same d (device_of e) then counts_after actor n e counts else counts) + (one (gives_back is_callers d e) + p) ≡ one (takes is_callers d e) + g
-step d actor n (event.Get x why.Caller) counts p g was more = go (is_same d x) more
+    → length (if is_same d (device_of e) then counts_after actor n called e counts else counts) + (one (gives_back is_callers d e) + p) ≡ one (takes is_callers d e) + g
+step d actor n called (event.Get x why.Caller) counts p g was more = go (is_same d x) more
   where
-    go : (b : Bool) → 0 + p ≤ one (b && true) + g → length (if b then record { actor = actor; line = n; failed = false } ∷ counts else counts) + (0 + p) ≡ one (b && true) + g
-    go true more = omega arith
+    go : (b : Bool) → 0 + p ≤ one (b && true) + g → length (if b then new_count actor n called ∷ map (with_another actor) counts else counts) + (0 + p) ≡ one (b && true) + g
+    go true more = omega (arith, length-map counts (with_another actor))
     go false more = omega arith
-step d actor n (event.Get x w) counts p g was more = other_get (is_same d x) counts p g was
-step d actor n (event.Put x why.Caller) counts p g was more = go (is_same d x) more
+step d actor n called (event.Get x w) counts p g was more = other_get (is_same d x) counts p g was
+step d actor n called (event.Put x why.Caller) counts p g was more = go (is_same d x) more
   where
     go : (b : Bool) → one (b && true) + p ≤ 0 + g → length (if b then remove counts (taken_place actor counts) else counts) + (one (b && true) + p) ≡ 0 + g
     go true more = let some : 0 < length counts = omega arith in omega (arith, taken_away actor counts some)
     go false more = omega arith
-step d actor n (event.Put x w) counts p g was more = other_put (is_same d x) counts p g was
-step d actor n (event.Ret h x code) counts p g was more = other_ret actor (is_same d x) (is_error code) counts p g was
-step d actor n e counts p g was more = other_line (is_same d (device_of e)) counts p g was
+step d actor n called (event.Put x w) counts p g was more = other_put (is_same d x) counts p g was
+step d actor n called (event.Ret h x code) counts p g was more = other_ret actor (is_same d x) (is_error code) counts p g was
+step d actor n called e counts p g was more = other_line (is_same d (device_of e)) counts p g was
 
 balance : (plan : Plan) (h : History) (d : DevId) → IsLawful plan h → d.0 < length plan.devices → length (open_counts h d) + puts is_callers h d ≡ gets is_callers h d
 balance plan [] d lawful within = refl
@@ -81,7 +83,7 @@ balance plan (line ∷ h) d lawful within =
     let more_gets : gets is_callers (line ∷ h) d ≡ one (takes is_callers d line.event) + gets is_callers h d = sum_by-cons (λ (l : Line). cond (takes is_callers d l.event) 1 0) line h in
     let fits : one (gives_back is_callers d line.event) + puts is_callers h d ≤ one (takes is_callers d line.event) + gets is_callers h d =
     omega (arith, share_counted plan (line ∷ h) d lawful within) in
-    omega (arith, step d line.actor (length h + 1) line.event (open_counts h d) (puts is_callers h d) (gets is_callers h d) was fits)
+    omega (arith, step d line.actor (length h + 1) (call_by h line.actor) line.event (open_counts h d) (puts is_callers h d) (gets is_callers h d) was fits)
 
 pub counted : (plan : Plan) (h : History) (d : DevId) → IsLawful plan h → d.0 < length plan.devices → length (open_counts h d) ≡ share h d
 counted plan h d lawful within = omega (arith, balance plan h d lawful within)

@@ -19,11 +19,13 @@ use Rattle.pm_model.specs.LineOf.{is_actor_of, is_device_of, is_event_of, is_lin
 use Rattle.pm_model.specs.Spelling.{operand_of, takes_device}
 use Rattle.pm_find.specs.declared.findings.Finding.{Finding}
 use Rattle.pm_find.specs.declared.findings.watched.Called.{Called}
+use Rattle.pm_find.specs.declared.findings.watched.Count.{Count}
 use Rattle.pm_find.specs.findings.AllFound.{found_at, found_in, placed_at}
-use Rattle.pm_find.specs.findings.Kept.{AreCalled, known}
-use Rattle.pm_find.specs.findings.OpenCounts.{device_of}
+use Rattle.pm_find.specs.findings.Ending.{AreDropped}
+use Rattle.pm_find.specs.findings.Kept.{AreCalled, Known, known}
+use Rattle.pm_find.specs.findings.OpenCounts.{device_of, open_counts}
 use Rattle.pm_find.specs.findings.Said.{call_by}
-use Rattle.pm_find.specs.findings.WatchTable.{IsTable, Table, called_at, counts_in, table_after, told, told_at}
+use Rattle.pm_find.specs.findings.WatchTable.{IsTable, Table, called_at, counts_in, given_at, later_in, table_after, told, told_at}
 use Rattle.pm_find.proofs.findings.CountLemmas.{reverse_parts}
 use Rattle.pm_find.proofs.findings.TableLemmas.{table_step}
 
@@ -85,12 +87,23 @@ pub inside_at : (plan : Plan) (lines : List Line) (i n : ℕ) (e : Line) → i <
     → (let line : Line = get_or lines i e in let d : DevId = device_of line.event in d.0 < n)
 inside_at plan lines i n e within is all = omega (arith, line_inside plan (get_or lines i e) (line_at plan lines i e within all))
 
+pub inside_by : (plan : Plan) (lines : List Line) (i n : ℕ) (e : Line) (d : DevId) → (let line : Line = get_or lines i e in d ≡ device_of line.event) → i < length lines → n ≡ length plan.devices + 1
+    → list_all (is_line_of plan) (reverse lines) ≡ true → d.0 < n
+inside_by plan lines i n e d by within is all = subst (λ (x : DevId). x.0 < n) (sym by) (inside_at plan lines i n e within is all)
+
 -- one line more is read
 reverse_more : (lines : List Line) (i : ℕ) (e : Line) → i < length lines → reverse (take (i + 1) lines) ≡ get_or lines i e ∷ reverse (take i lines)
 reverse_more lines i e within = ap reverse (take_more lines i e within) ∙ reverse-append (take i lines) (get_or lines i e ∷ [])
 
 numbered : (lines : List Line) (i : ℕ) → i < length lines → length (reverse (take i lines)) ≡ i
 numbered lines i within = length-reverse (take i lines) ∙ length-take-le i lines (omega arith)
+
+-- the last call of an actor of the plan is kept
+called_is : (plan : Plan) (h : History) (calls : List (Option Called)) (actor : ActorId) → AreCalled (length plan.callers) h calls
+    → is_actor_of (length plan.devices) (length plan.callers) actor ≡ true → called_at calls actor ≡ call_by h actor
+called_is plan h calls (Caller c) called is = called.each c (ltb-true c (length plan.callers) is)
+called_is plan h calls (Work d) called is = refl
+called_is plan h calls (Timer d) called is = refl
 
 pub kept_more : (plan : Plan) (lines : List Line) (i number : ℕ) (e : Line) (before after : Table) → i < length lines → list_all (is_line_of plan) (reverse lines) ≡ true → number ≡ i
     → IsTable (length plan.devices + 1) (length plan.callers) (reverse (take i lines)) before
@@ -100,21 +113,16 @@ kept_more plan lines i number e before after within all same kept is =
     subst (λ h. IsTable (length plan.devices + 1) (length plan.callers) h after) (sym (reverse_more lines i e within))
     (subst (λ t. IsTable (length plan.devices + 1) (length plan.callers) (get_or lines i e ∷ reverse (take i lines)) t)
     (ap (λ m. table_after (m + 1) (get_or lines i e) before) (numbered lines i within ∙ sym same) ∙ sym is)
-    (table_step (length plan.devices + 1) (length plan.callers) (get_or lines i e) (reverse (take i lines)) before (inside_at plan lines i (length plan.devices + 1) e within refl all) kept))
-
--- the last call of an actor of the plan is kept
-called_is : (plan : Plan) (h : History) (calls : List (Option Called)) (actor : ActorId) → AreCalled (length plan.callers) h calls
-    → is_actor_of (length plan.devices) (length plan.callers) actor ≡ true → called_at calls actor ≡ call_by h actor
-called_is plan h calls (Caller c) called is = called.each c (ltb-true c (length plan.callers) is)
-called_is plan h calls (Work d) called is = refl
-called_is plan h calls (Timer d) called is = refl
+    (table_step (length plan.devices + 1) (length plan.callers) (get_or lines i e) (reverse (take i lines)) before
+    (let line : Line = get_or lines i e in called_is plan (reverse (take i lines)) before.calls line.actor kept.called (actor_of_plan plan line (line_at plan lines i e within all)))
+    (inside_at plan lines i (length plan.devices + 1) e within refl all) kept))
 
 -- what is told at a line is what stands out there
-told_is : (plan : Plan) (line : Line) (h : History) (ends t : Table) → is_line_of plan line ≡ true → (let d : DevId = device_of line.event in d.0 < length plan.devices + 1)
-    → IsTable (length plan.devices + 1) (length plan.callers) h t → told_at ends t (length h + 1) line ≡ found_at (counts_in ends) h line
-told_is plan line h ends t of_plan inside kept =
-    ap (λ x. told (counts_in ends (device_of line.event)) x (called_at t.calls line.actor) (length h + 1) line) (kept.known.each (device_of line.event) inside)
-    ∙ ap (λ called. told (counts_in ends (device_of line.event)) (known h (device_of line.event)) called (length h + 1) line)
+told_is : (plan : Plan) (line : Line) (h : History) (left ends t : Table) → is_line_of plan line ≡ true → (let d : DevId = device_of line.event in d.0 < length plan.devices + 1)
+    → IsTable (length plan.devices + 1) (length plan.callers) h t → told_at left ends t (length h + 1) line ≡ found_at (later_in left ends) h line
+told_is plan line h left ends t of_plan inside kept =
+    ap (λ x. told (counts_in left (device_of line.event)) (given_at ends.given) x (called_at t.calls line.actor) (length h + 1) line) (kept.known.each (device_of line.event) inside)
+    ∙ ap (λ called. told (counts_in left (device_of line.event)) (given_at ends.given) (known h (device_of line.event)) called (length h + 1) line)
     (called_is plan h t.calls line.actor kept.called (actor_of_plan plan line of_plan))
 
 -- the line at a place may come behind those before it
@@ -127,10 +135,19 @@ lawful_at plan lines i e within lawful =
     lawful_rest plan (reverse (drop (i + 1) lines)) (get_or lines i e ∷ reverse (take i lines)) (subst (λ h. IsLawful plan h) (reverse_parts lines i e within) lawful)
 
 -- where the lines before it stand, and what its number is
-pub stands_at : (plan : Plan) (lines : List Line) (i number : ℕ) (e : Line) (k : Kept) → i < length lines → IsLawful plan (reverse lines) → number ≡ i
-    → IsKept plan k (reverse (take i lines)) → (h : History) × IsLawful plan (get_or lines i e ∷ h) × IsKept plan k h × (number + 1 ≡ length h + 1)
-stands_at plan lines i number e k within lawful same kept =
-    (reverse (take i lines), lawful_at plan lines i e within lawful, kept, ap (λ m. m + 1) (same ∙ sym (numbered lines i within)))
+pub stands_at : (plan : Plan) (lines : List Line) (i number : ℕ) (e : Line) (k : Kept) (drops : List Bool) → i < length lines → IsLawful plan (reverse lines) → number ≡ i
+    → IsKept plan k (reverse (take i lines)) → AreDropped plan (reverse (take i lines)) drops
+    → (h : History) × IsLawful plan (get_or lines i e ∷ h) × IsKept plan k h × AreDropped plan h drops × (number + 1 ≡ length h + 1)
+stands_at plan lines i number e k drops within lawful same kept dropped =
+    (reverse (take i lines), lawful_at plan lines i e within lawful, kept, dropped, ap (λ m. m + 1) (same ∙ sym (numbered lines i within)))
+
+pub drops_more : (plan : Plan) (lines : List Line) (i number : ℕ) (e : Line) (k : Kept) (before after : List Bool) → i < length lines → IsLawful plan (reverse lines) → number ≡ i
+    → IsKept plan k (reverse (take i lines)) → AreDropped plan (reverse (take i lines)) before
+    → ((h : History) → IsLawful plan (get_or lines i e ∷ h) → IsKept plan k h → number + 1 ≡ length h + 1 → AreDropped plan h before → AreDropped plan (get_or lines i e ∷ h) after)
+    → AreDropped plan (reverse (take (i + 1) lines)) after
+drops_more plan lines i number e k before after within lawful same kept dropped more =
+    subst (λ h. AreDropped plan h after) (sym (reverse_more lines i e within))
+    (more (reverse (take i lines)) (lawful_at plan lines i e within lawful) kept (ap (λ m. m + 1) (same ∙ sym (numbered lines i within))) dropped)
 
 pub bonds_more : (plan : Plan) (lines : List Line) (i number : ℕ) (e : Line) (before after : Kept) → i < length lines → IsLawful plan (reverse lines) → number ≡ i
     → IsKept plan before (reverse (take i lines))
@@ -140,26 +157,38 @@ bonds_more plan lines i number e before after within lawful same kept more =
     subst (λ h. IsKept plan after h) (sym (reverse_more lines i e within))
     (more (reverse (take i lines)) (lawful_at plan lines i e within lawful) kept (ap (λ m. m + 1) (same ∙ sym (numbered lines i within))))
 
-pub found_more : (plan : Plan) (lines : List Line) (i number : ℕ) (e : Line) (ends t : Table) (k : Kept) (called : Option Called) (before told after : List Finding) → i < length lines
+-- what is kept of the device of the line at a place
+pub row_at_line : (plan : Plan) (lines : List Line) (i : ℕ) (e : Line) (t : Table) (counts : List Count) → i < length lines → list_all (is_line_of plan) (reverse lines) ≡ true
+    → IsTable (length plan.devices + 1) (length plan.callers) (reverse (take i lines)) t
+    → (let line : Line = get_or lines i e in counts ≡ counts_in t (device_of line.event)) → (let line : Line = get_or lines i e in counts ≡ open_counts (reverse (take i lines)) (device_of line.event))
+row_at_line plan lines i e t counts within all kept is =
+    let line = get_or lines i e in
+    is ∙ ap (λ (x : Known). x.counts) (kept.known.each (device_of line.event) (inside_at plan lines i (length plan.devices + 1) e within refl all))
+
+pub found_more : (plan : Plan) (lines : List Line) (i number : ℕ) (e : Line) (left ends t : Table) (k : Kept) (called : Option Called) (counts : List Count) (before told after : List Finding) → i < length lines
     → IsLawful plan (reverse lines) → list_all (is_line_of plan) (reverse lines) ≡ true → number ≡ i
     → IsTable (length plan.devices + 1) (length plan.callers) (reverse (take i lines)) t → IsKept plan k (reverse (take i lines))
-    → before ≡ found_in plan (counts_in ends) (reverse (take i lines))
-    → told ≡ before ++ told_at ends t (number + 1) (get_or lines i e)
+    → before ≡ found_in plan (later_in left ends) (reverse (take i lines))
+    → told ≡ before ++ told_at left ends t (number + 1) (get_or lines i e)
     → (let line : Line = get_or lines i e in called ≡ called_at t.calls line.actor)
-    → ((h : History) → IsLawful plan (get_or lines i e ∷ h) → IsKept plan k h → number + 1 ≡ length h + 1 → (let line : Line = get_or lines i e in called ≡ call_by h line.actor) → after ≡ told ++ placed_at plan h (get_or lines i e))
-    → after ≡ found_in plan (counts_in ends) (reverse (take (i + 1) lines))
-found_more plan lines i number e ends t k called before told after within lawful all same kept bonds was is was_called more =
+    → (let line : Line = get_or lines i e in counts ≡ counts_in t (device_of line.event))
+    → ((h : History) → IsLawful plan (get_or lines i e ∷ h) → IsKept plan k h → number + 1 ≡ length h + 1 → (let line : Line = get_or lines i e in called ≡ call_by h line.actor)
+    → (let line : Line = get_or lines i e in counts ≡ open_counts h (device_of line.event)) → after ≡ told ++ placed_at plan h (get_or lines i e))
+    → after ≡ found_in plan (later_in left ends) (reverse (take (i + 1) lines))
+found_more plan lines i number e left ends t k called counts before told after within lawful all same kept bonds was is was_called counted more =
     let line = get_or lines i e in
     let h = reverse (take i lines) in
     let placed = placed_at plan h line in
+    let later = later_in left ends in
     more h (lawful_at plan lines i e within lawful) bonds (ap (λ m. m + 1) (same ∙ sym (numbered lines i within)))
     (was_called ∙ called_is plan h t.calls line.actor kept.called (actor_of_plan plan line (line_at plan lines i e within all)))
-    ∙ ap (λ l. l ++ placed) (is ∙ ap (λ l. l ++ told_at ends t (number + 1) line) was
-    ∙ ap (λ m. found_in plan (counts_in ends) h ++ told_at ends t (m + 1) line) (same ∙ sym (numbered lines i within))
-    ∙ ap (λ l. found_in plan (counts_in ends) h ++ l)
-    (told_is plan line h ends t (line_at plan lines i e within all) (inside_at plan lines i (length plan.devices + 1) e within refl all) kept))
-    ∙ append_assoc (found_in plan (counts_in ends) h) (found_at (counts_in ends) h line) placed
-    ∙ ap (found_in plan (counts_in ends)) (sym (reverse_more lines i e within))
+    (row_at_line plan lines i e t counts within all kept counted)
+    ∙ ap (λ l. l ++ placed) (is ∙ ap (λ l. l ++ told_at left ends t (number + 1) line) was
+    ∙ ap (λ m. found_in plan later h ++ told_at left ends t (m + 1) line) (same ∙ sym (numbered lines i within))
+    ∙ ap (λ l. found_in plan later h ++ l)
+    (told_is plan line h left ends t (line_at plan lines i e within all) (inside_at plan lines i (length plan.devices + 1) e within refl all) kept))
+    ∙ append_assoc (found_in plan later h) (found_at later h line) placed
+    ∙ ap (found_in plan later) (sym (reverse_more lines i e within))
 
 -- one device more is looked at
 range_more : (i : ℕ) → range_with_len 0 (i + 1) ≡ range_with_len 0 i ++ i ∷ []

@@ -1,5 +1,5 @@
 -- What is kept of a device, and of the calls, while lines are read.
-use Rattle.std.specs.Prelude.{ℕ, ◌≡◌, ◌<◌, not, ◌&&◌, List, [], Option, Some, None, ℤ, pos, length, slice_index_or, unwrap_or, if◌then◌else◌}
+use Rattle.std.specs.Prelude.{ℕ, ◌≡◌, ◌<◌, Bool, false, not, ◌&&◌, List, [], Option, Some, None, ℤ, pos, length, slice_index_or, unwrap_or, if◌then◌else◌}
 use Rattle.std.specs.Option.{option_map_or}
 use Rattle.std.specs.Ordering.{int_eq}
 use Rattle.pm_base.specs.declared.ActorId.{ActorId}
@@ -16,20 +16,21 @@ use Rattle.pm_model.specs.History.{History}
 use Rattle.pm_find.specs.declared.findings.watched.Called.{Called}
 use Rattle.pm_find.specs.declared.findings.watched.Count.{Count}
 use Rattle.pm_find.specs.findings.OpenCounts.{counts_after, open_counts}
-use Rattle.pm_find.specs.findings.Said.{call_of, error_line, left_line}
+use Rattle.pm_find.specs.findings.Said.{call_of, error_line, failed_line, left_line}
 
 pub record Known : Type 0 where
   pub counts : List Count
   pub status : Status
   pub error : ℕ
+  pub failed : ℕ
   pub left : ℕ
 
 abbrev pub unknown : Known
-unknown = record { counts = []; status = status.Suspended; error = 0; left = 0 }
+unknown = record { counts = []; status = status.Suspended; error = 0; failed = 0; left = 0 }
 
 -- what these lines tell of d
 abbrev pub known : History → DevId → Known
-known h d = record { counts = open_counts h d; status = status_of h d; error = error_line h d; left = left_line h d }
+known h d = record { counts = open_counts h d; status = status_of h d; error = error_line h d; failed = failed_line h d; left = left_line h d }
 
 -- the status that an event says of its device, and the error
 abbrev pub status_in : Event → Option Status
@@ -51,16 +52,26 @@ status_after e before = unwrap_or (status_in e) before
 abbrev pub error_after : ℕ → Event → ℕ → ℕ
 error_after number e before = option_map_or (λ code. if int_eq code (pos 0) then 0 else number) (error_in e) before
 
+-- a callback that an event ends has failed
+abbrev pub ends_failed : Event → Bool
+ends_failed (event.End d cb code) = not (int_eq code (pos 0))
+ends_failed _ = false
+
+-- the last line in which a callback failed
+abbrev pub failed_after : ℕ → Event → ℕ → ℕ
+failed_after number e before = if ends_failed e then number else before
+
 -- the last line after which the device was Active no more
 abbrev pub left_after : ℕ → Event → Status → ℕ → ℕ
 left_after number e status before = if is_active_status status && not (is_active_status (status_after e status)) then number else before
 
--- what a line of a device makes of what is known of it
-abbrev pub known_after : ActorId → ℕ → Event → Known → Known
-known_after actor number e x = record {
-  counts = counts_after actor number e x.counts;
+-- what a line of a device, by this actor in this call, makes of what is known of it
+abbrev pub known_after : ActorId → ℕ → Option Called → Event → Known → Known
+known_after actor number called e x = record {
+  counts = counts_after actor number called e x.counts;
   status = status_after e x.status;
   error = error_after number e x.error;
+  failed = failed_after number e x.failed;
   left = left_after number e x.status x.left;
 }
 

@@ -1,7 +1,6 @@
 -- The text of findings (this project's own).
 use Rattle.std.specs.Prelude.{ℕ, Bool, List, [], ◌∷◌, ◌++◌, Option, Some, None, ℤ, codes, decimal, map, nat_eq, slice_index_or, if◌then◌else◌}
 use Rattle.std.specs.Fmt.{signed_decimal}
-use Rattle.std.specs.List.{flat_map}
 use Rattle.std.specs.Ordering.{int_eq}
 use Rattle.pm_base.specs.declared.ActorId.{ActorId}
 use Rattle.pm_base.specs.declared.DevId.{DevId}
@@ -16,12 +15,13 @@ use Rattle.pm_model.specs.declared.plan.Plan.{Plan}
 use Rattle.pm_model.specs.Derived.{first_of}
 use Rattle.pm_model.specs.Text.{names_of}
 use Rattle.pm_model.specs.Spelling.{Names, actor_text, cb_word, device_name, device_part, helper_word, newline}
+use Rattle.pm_find.specs.declared.findings.ending.Holder.{Holder}
+use Rattle.pm_find.specs.declared.findings.ending.Holder.TheVariants as holder
 use Rattle.pm_find.specs.declared.findings.Finding.{Finding}
 use Rattle.pm_find.specs.declared.findings.Kind.{Kind}
 use Rattle.pm_find.specs.declared.findings.Kind.TheVariants as kind
 use Rattle.pm_find.specs.declared.findings.Weight.{Weight}
 use Rattle.pm_find.specs.declared.findings.Weight.TheVariants as weight
-use Rattle.pm_find.specs.declared.findings.watched.Count.{Count}
 use Rattle.pm_find.specs.findings.StandsOut.{weight_of}
 
 abbrev pub weight_word : Weight → List ℕ
@@ -32,11 +32,12 @@ weight_word weight.Note = codes "note"
 abbrev pub kind_word : Kind → List ℕ
 kind_word (kind.Leak actor d h) = codes "leak"
 kind_word (kind.Stolen actor d owner line) = codes "stolen"
-kind_word (kind.Answer actor h d code keeps) = codes "answer"
+kind_word (kind.Answer actor h d code keeps settled) = codes "answer"
 kind_word (kind.Refused actor h d code) = codes "refused"
+kind_word (kind.RefusedStatus actor h d code) = codes "refused status"
+kind_word (kind.RefusedPut actor h d code follows) = codes "refused put"
 kind_word (kind.NoCount actor h d) = codes "no count"
-kind_word (kind.LeftOn d holder) = codes "left on"
-kind_word (kind.DisabledOn d holder) = codes "left on"
+kind_word (kind.LeftOn d by) = codes "left on"
 kind_word (kind.NeverOn actor d line) = codes "never on"
 kind_word (kind.Unmarked actor h d ms delay) = codes "unmarked"
 kind_word (kind.DomainOn left) = codes "left on"
@@ -73,10 +74,13 @@ abbrev pub taken_text : Option Helper → List ℕ
 taken_text (Some h) = codes " that " ++ helper_word h ++ codes " took here"
 taken_text None = codes " that was taken here"
 
--- who holds a device
-abbrev pub holder_text : Names → Option Count → List ℕ
-holder_text names (Some count) = codes ", held by " ++ actor_text names count.actor ++ codes " since line " ++ decimal count.line
-holder_text names None = codes ", held by no caller"
+-- what holds a device that no caller holds
+abbrev pub holder_text : Names → Holder → List ℕ
+holder_text names holder.Forbid = codes ", held by forbid"
+holder_text names holder.Delay = codes ", held by a negative autosuspend delay"
+holder_text names (holder.Consumer d) = codes ", held by its consumer " ++ device_name names d.0
+holder_text names (holder.Child d) = codes ", held by its child " ++ device_name names d.0
+holder_text names holder.Nobody = codes ", held by no caller"
 
 abbrev pub keeps_text : Bool → List ℕ
 keeps_text keeps = if keeps then codes " and keeps its count" else []
@@ -103,7 +107,7 @@ off_text names d bond x excuse =
 
 -- what is told of a bond that is off
 abbrev pub bond_text : Plan → Bond → List ℕ
-bond_text plan (bond.Domain d o) = device_name (names_of plan) d.0 ++ codes " is active and its domain " ++ domain_name plan o ++ codes " is off"
+bond_text plan (bond.Domain d o) = device_name (names_of plan) d.0 ++ codes " is active and its domain " ++ domain_name plan o ++ codes " is off: its status is forced here"
 bond_text plan (bond.Parent d p excuse) = off_text (names_of plan) d (codes "parent") p excuse
 bond_text plan (bond.Supplier d s excuse) = off_text (names_of plan) d (codes "supplier") s excuse
 
@@ -122,17 +126,18 @@ kind_text plan (kind.Leak actor d h) =
 kind_text plan (kind.Stolen actor d owner line) =
     let names = names_of plan in
     actor_text names actor ++ codes " puts a count of " ++ device_name names d.0 ++ codes " that " ++ actor_text names owner ++ codes " took in line " ++ decimal line
-kind_text plan (kind.Answer actor h d code keeps) = error_text (names_of plan) actor h d code keeps
+kind_text plan (kind.Answer actor h d code keeps settled) = error_text (names_of plan) actor h d code keeps
 kind_text plan (kind.Refused actor h d code) = answer_text (names_of plan) actor h d code
+kind_text plan (kind.RefusedStatus actor h d code) =
+    answer_text (names_of plan) actor h d code ++ codes ", and the status stays"
+kind_text plan (kind.RefusedPut actor h d code follows) =
+    answer_text (names_of plan) actor h d code ++ codes ": there is no count to give back"
 kind_text plan (kind.NoCount actor h d) =
     let names = names_of plan in
     actor_text names actor ++ codes ": " ++ call_text names h d ++ codes " answers 0 and takes no count"
-kind_text plan (kind.LeftOn d holder) =
+kind_text plan (kind.LeftOn d by) =
     let names = names_of plan in
-    device_name names d.0 ++ codes " is active at the end" ++ holder_text names holder
-kind_text plan (kind.DisabledOn d holder) =
-    let names = names_of plan in
-    device_name names d.0 ++ codes " is disabled while it is active" ++ holder_text names holder
+    device_name names d.0 ++ codes " is active at the end" ++ holder_text names by
 kind_text plan (kind.NeverOn actor d line) =
     let names = names_of plan in
     actor_text names actor ++ codes " puts the count of line " ++ decimal line ++ codes ", and " ++ device_name names d.0 ++ codes " was never active in between"
@@ -148,14 +153,10 @@ kind_text plan (kind.Poisoned actor h d line keeps) =
     error_text (names_of plan) actor h d EINVAL keeps ++ codes ": line " ++ decimal line ++ codes " stored an error"
 kind_text plan (kind.Off bond) = bond_text plan bond
 
--- the line of a finding in a trace that is called so: its place, its weight, its kind and what is told of it
-abbrev pub finding_text : Plan → List ℕ → Finding → List ℕ
-finding_text plan file found =
-    file ++ codes ":" ++ decimal found.line ++ codes ": " ++ weight_word (weight_of found.kind) ++ codes ": " ++ kind_word found.kind ++ codes ": " ++ kind_text plan found.kind ++ newline
-
--- a line for each finding
-abbrev pub findings_text : Plan → List ℕ → List Finding → List ℕ
-findings_text plan file all = flat_map (finding_text plan file) all
+-- the line of a finding in a trace that is called so: its place, its weight, its kind, what is told of it, and what is told of its place in the plan
+abbrev pub finding_text : Plan → List ℕ → Finding → List ℕ → List ℕ
+finding_text plan file found place =
+    file ++ codes ":" ++ decimal found.line ++ codes ": " ++ weight_word (weight_of found.kind) ++ codes ": " ++ kind_word found.kind ++ codes ": " ++ kind_text plan found.kind ++ (place ++ newline)
 
 -- so many of something, in words
 abbrev pub counted_text : ℕ → List ℕ → List ℕ

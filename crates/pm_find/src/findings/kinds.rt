@@ -1,15 +1,19 @@
 //! The kinds of findings, one function for each.
 
-ghost use Rattle.std.specs.Prelude.{◌≡◌, ◌&&◌, nat_eq, nat_lt, option_map, reverse};
+ghost use Rattle.std.specs.Prelude.{◌≡◌, ◌&&◌, false, nat_eq, nat_lt, option_map, position, reverse, slice_get, true};
 ghost use Rattle.std.specs.List.{list_any};
+ghost use Rattle.std.specs.Option.{option_and_then, option_map_or};
 ghost use Rattle.pm_find.specs.findings.OpenCounts.{is_of};
-ghost use Rattle.pm_find.specs.findings.StandsOut.{answer, disabled_on, earliest, failed, has_put, is_poisoned, is_refusable, is_unmarked, keeps_count, leak, never_on, no_count, poisoned, puts_for_autosuspend, refused, stolen, unmarked};
+ghost use Rattle.pm_find.specs.findings.StandsOut.{answer, failed, forces_status, has_put, is_denied_of, is_poisoned, is_put, is_refusable, is_refused_put, is_settled, is_unmarked, is_used, keeps_count, kept, leak, never_on, no_count, poisoned, puts_for_autosuspend, refused, refused_put, refused_status, stolen, unmarked};
+ghost use Rattle.pm_find.specs.findings.WatchTable.{given_at};
+ghost use Rattle.pm_model.specs.Counted.{is_same};
 ghost use Rattle.pm_model.specs.Derived.{is_active_status};
 
 use crate::findings::Kind;
 use crate::findings::codes::{asks_again, is_error};
-use crate::findings::watched::{Called, Count, Watched, is_actor};
-use pm_base::{ActorId, EINVAL, Status, Why};
+use crate::findings::watch::Watch;
+use crate::findings::watched::{Called, Count, Recent, Watched, count_at, is_actor};
+use pm_base::{ActorId, DevId, EINVAL, Status, Why};
 use pm_model::{Device, Event, Helper, Line};
 
 // Whether one of these counts was taken in this line.
@@ -19,24 +23,41 @@ fn has_line(counts: &[Count], number: u32) -> bool
     counts.iter().rev().any(|count| count.line == number)
 }
 
-// Whether a count is open that this actor took since its last call.
-fn keeps_count(row: &Watched, called: Option<Called>, actor: ActorId) -> bool
-    ensures { result ≡ keeps_count row.now.counts called actor }
+// The count that this actor took since its last call, where it is open.
+fn kept(row: &Watched, called: Option<Called>, actor: ActorId) -> Option<Count>
+    ensures { result ≡ kept row.now.counts called actor }
 {
     match called {
-        Some(call) => has_since(row.counts(), call.line, actor),
-        None => false,
+        Some(call) => latest_since(row.counts(), call.line, actor),
+        None => None,
     }
 }
 
-// Whether this actor took one of these counts after a line.
-fn has_since(counts: &[Count], line: u32, actor: ActorId) -> bool
-    ensures { result ≡ list_any (λ count. is_of actor count && nat_lt line count.line) (reverse counts.now) }
+// The latest of these counts that this actor took after a line.
+fn latest_since(counts: &[Count], line: u32, actor: ActorId) -> Option<Count>
+    ensures { result ≡ option_and_then (slice_get (reverse counts.now)) (position (λ count. is_of actor count && nat_lt line count.line) (reverse counts.now)) }
+{
+    match place_since(counts, line, actor) {
+        Some(place) => count_at(counts, place),
+        None => None,
+    }
+}
+
+// Where the latest of these counts stands, counted from the newest, that this actor took after a line.
+fn place_since(counts: &[Count], line: u32, actor: ActorId) -> Option<usize>
+    ensures { result ≡ position (λ count. is_of actor count && nat_lt line count.line) (reverse counts.now) }
 {
     counts
         .iter()
         .rev()
-        .any(|count| is_actor(actor, count.actor) && count.line > line)
+        .position(|count| is_actor(actor, count.actor) && count.line > line)
+}
+
+// Whether such a count is open.
+fn keeps_count(row: &Watched, called: Option<Called>, actor: ActorId) -> bool
+    ensures { result ≡ keeps_count row.now.counts called actor }
+{
+    kept(row, called, actor).is_some()
 }
 
 /// Whether a device of this status is on.
@@ -44,13 +65,6 @@ pub fn is_active(status: Status) -> bool
     ensures { result ≡ is_active_status status }
 {
     matches!(status, Status::Active)
-}
-
-/// The earliest of the open counts of a device.
-pub fn earliest(row: &Watched) -> Option<Count>
-    ensures { result ≡ earliest row.now.counts }
-{
-    row.counts().first().copied()
 }
 
 // Whether a count is open that was taken in this line.
@@ -174,14 +188,72 @@ pub fn poisoned(row: &Watched, called: Option<Called>, line: &Line) -> Option<Ki
     })
 }
 
+// Whether a helper puts a count of a caller.
+fn is_put(helper: Helper) -> bool
+    ensures { result ≡ is_put helper }
+{
+    matches!(
+        helper,
+        Helper::Put
+            | Helper::PutSync
+            | Helper::PutNoidle
+            | Helper::PutAutosuspend
+            | Helper::PutSyncSuspend
+            | Helper::PutSyncAutosuspend
+    )
+}
+
+// Whether a put has no count to give back.
+fn is_refused_put(called: Option<Called>, helper: Helper) -> bool
+    ensures { result ≡ is_refused_put called helper }
+{
+    is_put(helper) && !has_put(called)
+}
+
+// Whether a callback of a device failed since this call.
+fn has_failed_since(row: &Watched, called: Option<Called>) -> bool
+    ensures { result ≡ option_map_or (λ call. nat_lt call.line row.now.failed) called false }
+{
+    match called {
+        Some(call) => row.failed() > call.line,
+        None => false,
+    }
+}
+
+// Whether a call keeps no count, or one that is given back.
+fn is_given_back(row: &Watched, ends: &Watch, called: Option<Called>, actor: ActorId) -> bool
+    ensures { result ≡ option_map_or (λ count. given_at ends.now.given count.line) (kept row.now.counts called actor) true }
+{
+    match kept(row, called, actor) {
+        Some(count) => ends.given(count.line),
+        None => true,
+    }
+}
+
+// Whether a call's error is its driver's own affair.
+fn is_settled(
+    row: &Watched,
+    ends: &Watch,
+    called: Option<Called>,
+    actor: ActorId,
+    helper: Helper,
+) -> bool
+    ensures { result ≡ is_settled row.now.failed row.now.counts (given_at ends.now.given) called actor helper }
+{
+    is_put(helper) || has_failed_since(row, called) && is_given_back(row, ends, called, actor)
+}
+
 /// A call that answers another error.
-pub fn answer(row: &Watched, called: Option<Called>, line: &Line) -> Option<Kind>
-    ensures { result ≡ answer row.now.error row.now.counts called line.now.actor line.now.event }
+pub fn answer(row: &Watched, ends: &Watch, called: Option<Called>, line: &Line) -> Option<Kind>
+    ensures { result ≡ answer row.now.error row.now.failed row.now.counts (given_at ends.now.given) called line.now.actor line.now.event }
 {
     let Event::Ret { helper, dev, code } = line.event else {
         return None;
     };
-    if !is_error(code) || is_poisoned(row.error(), called, helper, code) {
+    if !is_error(code)
+        || is_poisoned(row.error(), called, helper, code)
+        || is_refused_put(called, helper)
+    {
         return None;
     }
     Some(Kind::Answer {
@@ -190,7 +262,54 @@ pub fn answer(row: &Watched, called: Option<Called>, line: &Line) -> Option<Kind
         dev,
         code,
         keeps: keeps_count(row, called, line.actor),
+        settled: is_settled(row, ends, called, line.actor, helper),
     })
+}
+
+// Whether two devices are the same.
+fn is_device(one: DevId, other: DevId) -> bool
+    ensures { result ≡ is_same one other }
+{
+    other.0 == one.0
+}
+
+// Whether the last get of a caller that takes a count only of a device that is on answered an error of this one.
+fn is_denied_of(dev: DevId, called: Option<Called>) -> bool
+    ensures { result ≡ is_denied_of dev called }
+{
+    match called {
+        Some(call) => match call.recent.denied {
+            Some(denied) => is_device(dev, denied),
+            None => false,
+        },
+        None => false,
+    }
+}
+
+/// A put that has no count to give back.
+pub fn refused_put(called: Option<Called>, line: &Line) -> Option<Kind>
+    ensures { result ≡ refused_put called line.now.actor line.now.event }
+{
+    let Event::Ret { helper, dev, code } = line.event else {
+        return None;
+    };
+    if !is_refused_put(called, helper) {
+        return None;
+    }
+    Some(Kind::RefusedPut {
+        actor: line.actor,
+        helper,
+        dev,
+        code,
+        follows: is_denied_of(dev, called),
+    })
+}
+
+// Whether a helper forces a status.
+fn forces_status(helper: Helper) -> bool
+    ensures { result ≡ forces_status helper }
+{
+    matches!(helper, Helper::SetActive | Helper::SetSuspended)
 }
 
 /// A call that is to be tried again.
@@ -198,12 +317,31 @@ pub fn refused(line: &Line) -> Option<Kind>
     ensures { result ≡ refused line.now.actor line.now.event }
 {
     match line.event {
-        Event::Ret { helper, dev, code } if asks_again(code) => Some(Kind::Refused {
-            actor: line.actor,
-            helper,
-            dev,
-            code,
-        }),
+        Event::Ret { helper, dev, code } if asks_again(code) && !forces_status(helper) => {
+            Some(Kind::Refused {
+                actor: line.actor,
+                helper,
+                dev,
+                code,
+            })
+        }
+        _ => None,
+    }
+}
+
+/// A call that forces a status and is to be tried again.
+pub fn refused_status(line: &Line) -> Option<Kind>
+    ensures { result ≡ refused_status line.now.actor line.now.event }
+{
+    match line.event {
+        Event::Ret { helper, dev, code } if asks_again(code) && forces_status(helper) => {
+            Some(Kind::RefusedStatus {
+                actor: line.actor,
+                helper,
+                dev,
+                code,
+            })
+        }
         _ => None,
     }
 }
@@ -226,23 +364,6 @@ pub fn no_count(line: &Line) -> Option<Kind>
     }
 }
 
-/// A device that is disabled while it is Active.
-pub fn disabled_on(row: &Watched, line: &Line) -> Option<Kind>
-    ensures { result ≡ disabled_on row.now.counts row.now.status line.now.event }
-{
-    match line.event {
-        Event::Ret {
-            helper: Helper::Disable,
-            dev,
-            ..
-        } if is_active(row.status()) => Some(Kind::DisabledOn {
-            dev,
-            holder: earliest(row),
-        }),
-        _ => None,
-    }
-}
-
 /// A put of a count during which its device was never Active and its caller was told no error of the device.
 pub fn never_on(row: &Watched, line: &Line) -> Option<Kind>
     ensures { result ≡ never_on row.now.counts row.now.status row.now.left line.now.actor line.now.event }
@@ -255,7 +376,7 @@ pub fn never_on(row: &Watched, line: &Line) -> Option<Kind>
         return None;
     };
     let count = row.taken(line.actor)?;
-    if is_active(row.status()) || row.left() > count.line || count.failed {
+    if !count.asks || is_active(row.status()) || row.left() > count.line || count.failed {
         return None;
     }
     Some(Kind::NeverOn {
@@ -285,9 +406,17 @@ fn is_unmarked(device: &Device, time: u64) -> bool
         && device.last_busy < time
 }
 
-/// A put that asks for an autosuspend of a device that stands so, where the delay counts from an earlier moment.
-pub fn unmarked(device: &Device, called: Option<Called>, line: &Line) -> Option<Kind>
-    ensures { result ≡ unmarked device.now called line.now.time line.now.actor line.now.event }
+// Whether a delay of the count's caller ended since the count was taken and since the device was last marked.
+fn is_used(device: &Device, recent: Recent, count: Count) -> bool
+    ensures { result ≡ is_used device.now recent count }
+{
+    recent.used > count.line && recent.until > device.last_busy
+}
+
+/// A put that asks for an autosuspend of a device that stands so, where the delay counts from an earlier moment, and the
+/// device was used since.
+pub fn unmarked(device: &Device, row: &Watched, called: Option<Called>, line: &Line) -> Option<Kind>
+    ensures { result ≡ unmarked device.now row.now.counts called line.now.time line.now.actor line.now.event }
 {
     let Event::Put {
         dev,
@@ -297,7 +426,11 @@ pub fn unmarked(device: &Device, called: Option<Called>, line: &Line) -> Option<
         return None;
     };
     let call = called?;
-    if !puts_for_autosuspend(call.helper) || !is_unmarked(device, line.time) {
+    let count = row.taken(line.actor)?;
+    if !puts_for_autosuspend(call.helper)
+        || !is_unmarked(device, line.time)
+        || !is_used(device, call.recent, count)
+    {
         return None;
     }
     Some(Kind::Unmarked {

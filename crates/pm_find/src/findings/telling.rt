@@ -1,24 +1,28 @@
 //! What is told at a line, and at the end.
 
-ghost use Rattle.std.specs.Prelude.{◌≡◌, ◌+◌, ◌<◌, ◌≤◌, ◌^◌, ◌++◌, IfOk, OnOk, [], if◌then◌else◌, length, reverse, true};
-ghost use Rattle.pm_safety.specs.dependencies.Kept.{IsKept};
+ghost use Rattle.std.specs.Prelude.{◌≡◌, ◌+◌, ◌<◌, ◌≤◌, ◌^◌, ◌++◌, IfOk, OnOk, [], false, length, reverse, slice_index_or, true};
 ghost use Rattle.std.specs.List.{flat_map, list_all, range_with_len};
+ghost use Rattle.pm_device.specs.Parts.{IsFor};
+ghost use Rattle.pm_safety.specs.dependencies.Kept.{IsKept};
 ghost use Rattle.pm_find.specs.findings.AllFound.{at_line, found_in};
-ghost use Rattle.pm_find.specs.findings.Kept.{row_at};
+ghost use Rattle.pm_find.specs.findings.Ending.{AreDropped};
 ghost use Rattle.pm_find.specs.findings.OpenCounts.{device_of};
-ghost use Rattle.pm_find.specs.findings.WatchTable.{IsTable, answers_told, counts_in, counts_told, on_in, table_after, told, told_at};
+ghost use Rattle.pm_find.specs.findings.WatchTable.{IsTable, answers_told, counts_told, given_at, later_in, on_in, told, told_at};
+ghost use Rattle.pm_laws.specs.counts.Sizes.{HasEntries};
 ghost use Rattle.pm_model.specs.Lawful.{IsLawful};
 ghost use Rattle.pm_model.specs.LineOf.{is_line_of};
 
+use crate::findings::Finding;
 use crate::findings::breaking::{push, tell_placed};
+use crate::findings::ending::left_on;
 use crate::findings::kinds::{
-    answer, disabled_on, earliest, failed, is_active, leak, never_on, no_count, poisoned, refused,
+    answer, failed, leak, never_on, no_count, poisoned, refused, refused_put, refused_status,
     stolen,
 };
 use crate::findings::watch::{Watch, device_of};
 use crate::findings::watched::{Called, Watched};
-use crate::findings::{Finding, Kind};
 use pm_base::{DevId, NoMemory};
+use pm_device::Parts;
 use pm_model::{Line, Plan};
 use pm_safety::dependencies::Bonds;
 use std::alloc::Global;
@@ -45,18 +49,20 @@ fn tell_counts(
 #[tactic(auto, using(std::proofs::lemmas::List::append_assoc))]
 fn tell_answers(
     all: &mut Vec<Finding>,
+    ends: &Watch,
     row: &Watched,
     called: Option<Called>,
     number: u32,
     line: &Line,
 ) -> Result<(), NoMemory>
-    ensures { OnOk result (all.new.items ≡ all.old.items ++ answers_told row.now called number line.now) }
+    ensures { OnOk result (all.new.items ≡ all.old.items ++ answers_told (given_at ends.now.given) row.now called number line.now) }
 {
-    push(all, number, answer(row, called, line))?;
+    push(all, number, answer(row, ends, called, line))?;
     push(all, number, refused(line))?;
+    push(all, number, refused_status(line))?;
+    push(all, number, refused_put(called, line))?;
     push(all, number, no_count(line))?;
     push(all, number, poisoned(row, called, line))?;
-    push(all, number, disabled_on(row, line))?;
     Ok(())
 }
 
@@ -64,37 +70,45 @@ fn tell_answers(
 #[tactic(auto, using(std::proofs::lemmas::List::append_assoc))]
 fn tell(
     all: &mut Vec<Finding>,
+    ends: &Watch,
     left: &Watched,
     row: &Watched,
     called: Option<Called>,
     number: u32,
     line: &Line,
 ) -> Result<(), NoMemory>
-    ensures { OnOk result (all.new.items ≡ all.old.items ++ told left.now.counts row.now called number line.now) }
+    ensures { OnOk result (all.new.items ≡ all.old.items ++ told left.now.counts (given_at ends.now.given) row.now called number line.now) }
 {
     tell_counts(all, left, row, called, number, line)?;
-    tell_answers(all, row, called, number, line)?;
+    tell_answers(all, ends, row, called, number, line)?;
     push(all, number, failed(line))?;
     Ok(())
 }
 
-// Appends what a line tells, and takes note of it.
-fn step(
+// Appends what a line tells, by what is kept before it.
+fn tell_line(
     all: &mut Vec<Finding>,
+    left: &Watch,
     ends: &Watch,
-    watch: &mut Watch,
+    watch: &Watch,
     number: u32,
     line: &Line,
 ) -> Result<(), NoMemory>
-    requires at_end { (device_of line.now.event).0 < length ends.now.rows }
-    requires before { (device_of line.now.event).0 < length watch.old.rows }
-    ensures found { OnOk result (all.new.items ≡ all.old.items ++ told_at ends.now watch.old number line.now) }
-    ensures kept { OnOk result (watch.new ≡ table_after number line.now watch.old) }
+    requires at_end { (device_of line.now.event).0 < length left.now.rows }
+    requires before { (device_of line.now.event).0 < length watch.now.rows }
+    ensures { OnOk result (all.new.items ≡ all.old.items ++ told_at left.now ends.now watch.now number line.now) }
 {
     let dev = device_of(&line.event);
     let called = watch.called(line.actor);
-    tell(all, ends.row(dev), watch.row(dev), called, number, line)?;
-    watch.follow(number, line)
+    tell(
+        all,
+        ends,
+        left.row(dev),
+        watch.row(dev),
+        called,
+        number,
+        line,
+    )
 }
 
 /// What is kept of the devices and callers of a plan after these lines. Fails where memory runs out.
@@ -112,63 +126,75 @@ pub fn after(alloc: Global, plan: &Plan, lines: &[Line]) -> Result<Watch, NoMemo
     Ok(watch)
 }
 
-/// What stands out at these lines of a run, in their order, where this is what is left at the end. Goes through them
-/// with what is kept before any. Fails where memory runs out.
+/// What stands out at these lines of a run, in their order, where this is what is left at the end, and this what is kept
+/// after all lines. Goes through them with what is kept before any. Fails where memory runs out.
 pub fn at_lines(
     alloc: Global,
     plan: &Plan,
+    left: &Watch,
     ends: &Watch,
     bonds: &mut Bonds,
+    drops: &mut [bool],
     lines: &[Line],
 ) -> Result<Vec<Finding>, NoMemory>
     requires few { length lines.now < 2 ^ 32 }
     requires lawful { IsLawful plan.now (reverse lines.now) }
     requires of_plan { list_all (is_line_of plan.now) (reverse lines.now) ≡ true }
-    requires ends { length ends.now.rows ≡ length plan.now.devices + 1 }
+    requires left { length left.now.rows ≡ length plan.now.devices + 1 }
     requires start { IsKept plan.now bonds.old [] }
-    ensures found { IfOk result (λ all. all.items ≡ found_in plan.now (counts_in ends.now) (reverse lines.now)) }
+    requires undropped { AreDropped plan.now [] drops.old }
+    ensures found { IfOk result (λ all. all.items ≡ found_in plan.now (later_in left.now ends.now) (reverse lines.now)) }
     ensures kept { OnOk result (IsKept plan.now bonds.new (reverse lines.now)) }
+    ensures dropped { OnOk result (AreDropped plan.now (reverse lines.now) drops.new) }
 {
     let mut watch = Watch::new(alloc, plan.devices.len() + 1, plan.callers.len())?;
     let mut all = Vec::new(alloc);
     let mut number = 0;
     for line in lines {
         number += 1;
+        tell_line(&mut all, left, ends, &watch, number, line)?;
+        let row = watch.row(device_of(&line.event));
         let called = watch.called(line.actor);
-        step(&mut all, ends, &mut watch, number, line)?;
-        tell_placed(alloc, &mut all, bonds, plan, called, number, line)?;
+        tell_placed(
+            alloc, &mut all, bonds, drops, plan, row, called, number, line,
+        )?;
+        watch.follow(number, line)?;
     }
     Ok(all)
 }
 
-// A device that is Active.
-fn on_in(row: &Watched, dev: DevId) -> Option<Kind>
-    ensures { result ≡ on_in row.now dev }
-{
-    if is_active(row.status()) {
-        Some(Kind::LeftOn {
-            dev,
-            holder: earliest(row),
-        })
-    } else {
-        None
-    }
-}
-
-/// Appends the devices, of so many, that are Active, told at this line. Fails where memory runs out.
+/// Appends the devices of the plan that are left on, told at this line. Fails where memory runs out.
 pub fn at_end(
     all: &mut Vec<Finding>,
     ends: &Watch,
-    devices: usize,
+    drops: &[bool],
+    parts: &Parts,
+    plan: &Plan,
     number: u32,
 ) -> Result<(), NoMemory>
-    requires within { devices ≤ length ends.now.rows }
-    requires few { devices < 2 ^ 32 }
-    ensures { OnOk result (all.new.items ≡ all.old.items ++ flat_map (λ d. at_line number (on_in (row_at ends.now.rows (record { 0 = d })) (record { 0 = d }))) (range_with_len 0 devices)) }
+    requires made_for { IsFor plan.now parts.now.shape }
+    requires entries { HasEntries plan.now parts.now.views }
+    requires within { length plan.now.devices ≤ length ends.now.rows }
+    ensures { OnOk result (all.new.items ≡ all.old.items ++ flat_map (λ d. at_line number (on_in plan.now parts.now.views ends.now drops.now (record { 0 = d }))) (range_with_len 0 (length plan.now.devices))) }
 {
-    for place in 0..devices {
+    for place in 0..plan.devices.len() {
         let dev = DevId(place as u32);
-        push(all, number, on_in(ends.row(dev), dev))?;
+        let has_dropped = dropped_at(drops, dev);
+        push(
+            all,
+            number,
+            left_on(parts, plan, ends.row(dev), has_dropped, dev),
+        )?;
     }
     Ok(())
+}
+
+// Whether the last line that disabled a device dropped a suspend.
+fn dropped_at(drops: &[bool], dev: DevId) -> bool
+    ensures { result ≡ slice_index_or drops.now dev.0 false }
+{
+    match drops.get(dev.0 as usize) {
+        Some(dropped) => *dropped,
+        None => false,
+    }
 }

@@ -98,7 +98,7 @@ fn push_off_domain(
     push_device(text, plan, dev)?;
     push(text, b" is active and its domain ")?;
     push_domain(text, plan, domain)?;
-    push(text, b" is off")?;
+    push(text, b" is off: its status is forced here")?;
     Ok(())
 }
 

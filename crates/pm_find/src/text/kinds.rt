@@ -1,12 +1,12 @@
 //! What is told of findings, kind by kind.
 
-ghost use Rattle.std.specs.Prelude.{◌≡◌, ◌++◌, OnOk};
+ghost use Rattle.std.specs.Prelude.{◌≡◌, ◌++◌, OnOk, false};
 ghost use Rattle.pm_find.specs.declared.findings.Kind.TheVariants as kind;
 ghost use Rattle.pm_find.specs.text.Texts.{holder_text, keeper_text, keeps_text, kind_text, taken_text};
-ghost use Rattle.pm_model.specs.Spelling.{cb_word};
+ghost use Rattle.pm_model.specs.Spelling.{cb_word, device_name};
 ghost use Rattle.pm_model.specs.Text.{names_of};
 
-use crate::findings::{Count, DomainOn, Kind};
+use crate::findings::{DomainOn, Holder, Kind};
 use crate::text::bonds::push_bond;
 use crate::text::pieces::{
     push, push_actor, push_call, push_code, push_device, push_domain, push_helper, push_long,
@@ -31,20 +31,26 @@ fn push_taken(text: &mut Vec<u8>, helper: Option<Helper>) -> Result<(), NoMemory
     Ok(())
 }
 
-/// Appends who holds a device.
-fn push_holder(text: &mut Vec<u8>, plan: &Plan, holder: Option<Count>) -> Result<(), NoMemory>
-    ensures { OnOk result (text.new.items ≡ text.old.items ++ holder_text (names_of plan.now) holder) }
+/// Appends which other device holds a device.
+fn push_held(text: &mut Vec<u8>, plan: &Plan, what: &[u8], other: DevId) -> Result<(), NoMemory>
+    ensures { OnOk result (text.new.items ≡ text.old.items ++ (what.now ++ device_name (names_of plan.now) other.0)) }
 {
-    match holder {
-        Some(count) => {
-            push(text, b", held by ")?;
-            push_actor(text, plan, count.actor)?;
-            push(text, b" since line ")?;
-            push_number(text, count.line)?;
-        }
-        None => push(text, b", held by no caller")?,
-    }
+    push(text, what)?;
+    push_device(text, plan, other)?;
     Ok(())
+}
+
+/// Appends what holds a device that no caller holds.
+fn push_holder(text: &mut Vec<u8>, plan: &Plan, by: Holder) -> Result<(), NoMemory>
+    ensures { OnOk result (text.new.items ≡ text.old.items ++ holder_text (names_of plan.now) by) }
+{
+    match by {
+        Holder::Forbid => push(text, b", held by forbid"),
+        Holder::Delay => push(text, b", held by a negative autosuspend delay"),
+        Holder::Consumer(dev) => push_held(text, plan, b", held by its consumer ", dev),
+        Holder::Child(dev) => push_held(text, plan, b", held by its child ", dev),
+        Holder::Nobody => push(text, b", held by no caller"),
+    }
 }
 
 /// Appends what is told of a count that isn't given back.
@@ -124,10 +130,42 @@ fn push_error(
     code: i32,
     keeps: bool,
 ) -> Result<(), NoMemory>
-    ensures { OnOk result (text.new.items ≡ text.old.items ++ kind_text plan.now (kind.Answer actor helper dev code keeps)) }
+    ensures { OnOk result (text.new.items ≡ text.old.items ++ kind_text plan.now (kind.Answer actor helper dev code keeps false)) }
 {
     push_answer(text, plan, actor, helper, dev, code)?;
     push_keeps(text, keeps)?;
+    Ok(())
+}
+
+/// Appends that a call that forces a status is refused.
+fn push_refused_status(
+    text: &mut Vec<u8>,
+    plan: &Plan,
+    actor: ActorId,
+    helper: Helper,
+    dev: DevId,
+    code: i32,
+) -> Result<(), NoMemory>
+    ensures { OnOk result (text.new.items ≡ text.old.items ++ kind_text plan.now (kind.RefusedStatus actor helper dev code)) }
+{
+    push_answer(text, plan, actor, helper, dev, code)?;
+    push(text, b", and the status stays")?;
+    Ok(())
+}
+
+/// Appends that a put has no count to give back.
+fn push_refused_put(
+    text: &mut Vec<u8>,
+    plan: &Plan,
+    actor: ActorId,
+    helper: Helper,
+    dev: DevId,
+    code: i32,
+) -> Result<(), NoMemory>
+    ensures { OnOk result (text.new.items ≡ text.old.items ++ kind_text plan.now (kind.RefusedPut actor helper dev code false)) }
+{
+    push_answer(text, plan, actor, helper, dev, code)?;
+    push(text, b": there is no count to give back")?;
     Ok(())
 }
 
@@ -149,32 +187,12 @@ fn push_no_count(
 }
 
 /// Appends what is told of a device that is left on.
-fn push_left_on(
-    text: &mut Vec<u8>,
-    plan: &Plan,
-    dev: DevId,
-    holder: Option<Count>,
-) -> Result<(), NoMemory>
-    ensures { OnOk result (text.new.items ≡ text.old.items ++ kind_text plan.now (kind.LeftOn dev holder)) }
+fn push_left_on(text: &mut Vec<u8>, plan: &Plan, dev: DevId, by: Holder) -> Result<(), NoMemory>
+    ensures { OnOk result (text.new.items ≡ text.old.items ++ kind_text plan.now (kind.LeftOn dev by)) }
 {
     push_device(text, plan, dev)?;
     push(text, b" is active at the end")?;
-    push_holder(text, plan, holder)?;
-    Ok(())
-}
-
-/// Appends what is told of a device that is disabled while it is on.
-fn push_disabled_on(
-    text: &mut Vec<u8>,
-    plan: &Plan,
-    dev: DevId,
-    holder: Option<Count>,
-) -> Result<(), NoMemory>
-    ensures { OnOk result (text.new.items ≡ text.old.items ++ kind_text plan.now (kind.DisabledOn dev holder)) }
-{
-    push_device(text, plan, dev)?;
-    push(text, b" is disabled while it is active")?;
-    push_holder(text, plan, holder)?;
+    push_holder(text, plan, by)?;
     Ok(())
 }
 
@@ -308,6 +326,7 @@ pub(crate) fn push_kind(text: &mut Vec<u8>, plan: &Plan, kind: &Kind) -> Result<
             dev,
             code,
             keeps,
+            ..
         } => push_error(text, plan, actor, helper, dev, code, keeps),
         Kind::Refused {
             actor,
@@ -315,9 +334,21 @@ pub(crate) fn push_kind(text: &mut Vec<u8>, plan: &Plan, kind: &Kind) -> Result<
             dev,
             code,
         } => push_answer(text, plan, actor, helper, dev, code),
+        Kind::RefusedStatus {
+            actor,
+            helper,
+            dev,
+            code,
+        } => push_refused_status(text, plan, actor, helper, dev, code),
+        Kind::RefusedPut {
+            actor,
+            helper,
+            dev,
+            code,
+            ..
+        } => push_refused_put(text, plan, actor, helper, dev, code),
         Kind::NoCount { actor, helper, dev } => push_no_count(text, plan, actor, helper, dev),
-        Kind::LeftOn { dev, holder } => push_left_on(text, plan, dev, holder),
-        Kind::DisabledOn { dev, holder } => push_disabled_on(text, plan, dev, holder),
+        Kind::LeftOn { dev, by } => push_left_on(text, plan, dev, by),
         Kind::NeverOn { actor, dev, line } => push_never_on(text, plan, actor, dev, line),
         Kind::Unmarked {
             actor,

@@ -3,10 +3,11 @@
 ghost use Rattle.std.specs.Prelude.{◌≡◌, IfOk};
 ghost use Rattle.pm_audit.specs.Auditing.{reason_of};
 ghost use Rattle.pm_find.specs.trace.Telling.{IsFound, IsUnlawful, IsToldOf};
-ghost use Rattle.pm_find.specs.trace.Texts.{shown};
+ghost use Rattle.pm_find.specs.trace.Texts.{files_of, shown};
 
 use crate::findings::{Finding, faults, findings, has_faults};
-use crate::trace::texts::{push_shown, push_unlawful};
+use crate::trace::places::PlanFile;
+use crate::trace::texts::{push_unlawful, shown_text};
 use pm_audit::{LoadFault, NoWhy, load_trace};
 use pm_base::NoMemory;
 use pm_book::Book;
@@ -30,17 +31,23 @@ fn shown(alloc: Global, notes: bool, all: Vec<Finding>) -> Result<Vec<Finding>, 
 }
 
 /// What is told of the run of a book, whose trace is called so, with notes or without them: a line for each of the
-/// first 200 findings in the order of the lines, and how many there are. Fails where memory runs out.
-pub fn tell(alloc: Global, book: &Book, file: &[u8], notes: bool) -> Result<Found, NoMemory>
-    ensures { IfOk result (λ found. IsFound book.now.plan book.now.lines file.now notes found) }
+/// first 200 findings in the order of the lines, with its place in the plan's file, and how many there are. Fails where
+/// memory runs out.
+pub fn tell(
+    alloc: Global,
+    book: &Book,
+    trace: &[u8],
+    file: PlanFile<'_>,
+    notes: bool,
+) -> Result<Found, NoMemory>
+    ensures { IfOk result (λ found. IsFound book.now.plan book.now.lines (files_of trace.now file.entry) notes found) }
 {
     lines_are_bounded();
     let lines = book.lines();
     let all = findings(alloc, book.plan(), lines, book.finished())?;
     let stands_out = has_faults(&all);
     let told = shown(alloc, notes, all)?;
-    let mut text = Vec::new(alloc);
-    push_shown(&mut text, book.plan(), file, lines.len(), &told)?;
+    let text = shown_text(alloc, book.plan(), lines, trace, file, &told)?;
     Ok(Found { text, stands_out })
 }
 
@@ -61,15 +68,16 @@ pub fn tell_unlawful(alloc: Global, file: &[u8], line: u64, why: NoWhy) -> Resul
 pub(crate) fn told_of(
     alloc: Global,
     plan: Plan,
-    file: &[u8],
+    trace: &[u8],
+    file: PlanFile<'_>,
     bytes: &[u8],
     notes: bool,
 ) -> Result<Found, NoMemory>
-    ensures { IfOk result (λ found. IsToldOf plan file.now bytes.now notes found) }
+    ensures { IfOk result (λ found. IsToldOf plan (files_of trace.now file.entry) bytes.now notes found) }
 {
     match load_trace(alloc, plan, bytes) {
-        Ok(book) => tell(alloc, &book, file, notes),
-        Err(LoadFault::No { line, why }) => tell_unlawful(alloc, file, line, why),
+        Ok(book) => tell(alloc, &book, trace, file, notes),
+        Err(LoadFault::No { line, why }) => tell_unlawful(alloc, trace, line, why),
         Err(LoadFault::NoMemory) => Err(NoMemory),
     }
 }

@@ -1,16 +1,18 @@
 //! The texts that are told.
 
-ghost use Rattle.std.specs.Prelude.{◌≡◌, ◌++◌, OnOk, decimal, take};
+ghost use Rattle.std.specs.Prelude.{◌≡◌, ◌++◌, IfOk, OnOk, decimal, take};
 ghost use Rattle.pm_audit.specs.Auditing.{reason_of};
 ghost use Rattle.pm_cmd_ends.specs.Said.{why_word};
-ghost use Rattle.pm_find.specs.trace.Texts.{shown_text, unlawful_text};
+ghost use Rattle.pm_find.specs.trace.Texts.{TellsEach, TellsShown, files_of, unlawful_text};
 
 use crate::findings::Finding;
-use crate::text::{push_count, push_findings};
+use crate::text::{push_count, push_finding};
+use crate::trace::places::{PlanFile, place_of};
 use itoa::Buffer;
 use pm_audit::NoWhy;
 use pm_base::NoMemory;
-use pm_model::Plan;
+use pm_model::{Line, Plan};
+use std::alloc::Global;
 
 /// So many findings are told at most.
 const MOST: usize = 200;
@@ -26,19 +28,39 @@ fn first(all: &[Finding]) -> &[Finding]
     }
 }
 
-/// Appends a line for each of the first findings, and how many there are in how many lines.
-pub(crate) fn push_shown(
-    text: &mut Vec<u8>,
+/// A line for each finding, with its place in the plan's file.
+fn each_text(
+    alloc: Global,
     plan: &Plan,
-    file: &[u8],
-    lines: usize,
+    lines: &[Line],
+    trace: &[u8],
+    file: PlanFile<'_>,
     all: &[Finding],
-) -> Result<(), NoMemory>
-    ensures { OnOk result (text.new.items ≡ text.old.items ++ shown_text plan.now file.now lines all.now) }
+) -> Result<Vec<u8>, NoMemory>
+    ensures { IfOk result (λ text. TellsEach plan.now lines.now (files_of trace.now file.entry) all.now text.items) }
 {
-    push_findings(text, plan, file, first(all))?;
-    push_count(text, all.len(), lines)?;
-    Ok(())
+    let mut text = Vec::new(alloc);
+    for found in all {
+        let place = place_of(alloc, plan, lines, file.name, file.text, found)?;
+        push_finding(&mut text, plan, trace, found, &place)?;
+    }
+    Ok(text)
+}
+
+/// A line for each of the first findings, with its place in the plan's file, and how many there are in how many lines.
+pub(crate) fn shown_text(
+    alloc: Global,
+    plan: &Plan,
+    lines: &[Line],
+    trace: &[u8],
+    file: PlanFile<'_>,
+    all: &[Finding],
+) -> Result<Vec<u8>, NoMemory>
+    ensures { IfOk result (λ text. TellsShown plan.now lines.now (files_of trace.now file.entry) all.now text.items) }
+{
+    let mut text = each_text(alloc, plan, lines, trace, file, first(all))?;
+    push_count(&mut text, all.len(), lines.len())?;
+    Ok(text)
 }
 
 /// Appends bytes.

@@ -146,14 +146,22 @@ fn guessed_helper(alloc: Global, what: String, word: &str) -> Result<Wrong, NoMe
 fn instead_of(helper: &str) -> Option<&'static str> {
     match helper {
         "resume_and_get" => Some(
-            "it isn't modelled: write \"get_sync\", and \"put_noidle\" where that fails",
+            "write \"get_sync\"; where that may fail a driver file has resume_and_get, with where to go on",
         ),
-        "force_suspend" | "force_resume" => Some("it is of system sleep, which isn't modelled"),
+        "force_suspend" => Some(
+            "write \"disable\", and \"set_suspended\" where it is active; a driver file has force_suspend",
+        ),
+        "force_resume" => Some(
+            "write \"set_active\" where it was in use, and \"enable\"; a driver file has force_resume",
+        ),
+        "devm_pm_runtime_enable" | "devm_enable" => Some(
+            "write \"enable\", and \"disable\" where the driver is gone; a driver file has devm_enable",
+        ),
         "get_active" => Some("it isn't modelled: write \"get_sync\""),
         "no_callbacks" => Some("it is a key of the device: write no_callbacks = true there"),
         "irq_safe" => Some("it isn't modelled: no callback runs with interrupts off"),
         "active" | "suspended" | "status_suspended" | "enabled" => Some(
-            "it only asks, and a script takes no branch",
+            "it only asks, and a plan's script takes no branch: a driver file has \"ask\"",
         ),
         "set_memalloc_noio" | "reinit" | "init" | "remove" | "get_suppliers" | "put_suppliers" =>
             Some("it is of the core's own, and isn't modelled"),

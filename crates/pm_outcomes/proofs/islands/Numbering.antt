@@ -7,8 +7,8 @@ use Rattle.pm_base.specs.declared.ActorId.{ActorId}
 use Rattle.pm_base.specs.declared.ActorId.TheVariants.{Caller, Work}
 use Rattle.pm_islands.specs.Blank.{IsBlank}
 use Rattle.pm_islands.specs.Numbers.{AreIslands, NodeNumbers, actor_in, island_in}
-use Rattle.pm_outcomes.specs.declared.list.marks.Mark.{Mark}
-use Rattle.pm_outcomes.specs.declared.list.marks.Mark.TheVariants.{End, Return}
+use Rattle.pm_outcomes.specs.declared.list.observations.Observation.{Observation}
+use Rattle.pm_outcomes.specs.declared.list.observations.Observation.TheVariants.{End, Return}
 use Rattle.pm_model.specs.declared.plan.Plan.{Plan}
 use Rattle.pm_model.specs.declared.rows.CallerRow.{CallerRow}
 use Rattle.pm_model.specs.Islands.{IsPart, Numbering, node_of, the_caller, the_device, with_scripts}
@@ -28,7 +28,7 @@ number_within plan numbers are a = subst (λ o. unwrap_or o numbers.count ≤ nu
     go true e = let below = ltb-true n numbers.count e in omega (arith, below)
     go false e = omega arith
 
-pub home_within : (plan : Plan) (numbers : NodeNumbers) → AreIslands plan numbers → (m : Mark) → home (island_in numbers) m ≤ numbers.count
+pub home_within : (plan : Plan) (numbers : NodeNumbers) → AreIslands plan numbers → (m : Observation) → home (island_in numbers) m ≤ numbers.count
 home_within plan numbers are (Return r) = subst (λ n. n ≤ numbers.count) (unwrap_or-slice_get numbers.callers r.caller numbers.count) (number_within plan numbers are (Caller r.caller))
 home_within plan numbers are (End l) = number_within plan numbers are (Work l.device.0)
 
@@ -66,11 +66,11 @@ blank_by plan numbers n q are last b = record {
         let here : are.numbering.island (the_caller c) < n = omega (arith, below, last) in
         sym (subst (λ a. nat_eq a n ≡ false) (are.nodes (the_caller c)) (differ (are.numbering.island (the_caller c)) n here))
 
--- where a mark is at home
-pub home_part_is : (plan : Plan) (numbers : NodeNumbers) (mark : Mark) (n : ℕ) (q : Plan) → AreIslands plan numbers → n ≡ home (island_in numbers) mark → IsPart plan (island_in numbers) n q → IsHomePart plan mark q
-home_part_is plan numbers mark n q are is part = record {
+-- where an observation is at home
+pub home_part_is : (plan : Plan) (numbers : NodeNumbers) (observation : Observation) (n : ℕ) (q : Plan) → AreIslands plan numbers → n ≡ home (island_in numbers) observation → IsPart plan (island_in numbers) n q → IsHomePart plan observation q
+home_part_is plan numbers observation n q are is part = record {
   count = numbers.count;
   numbering = are.numbering;
   is_part =
-      subst (λ f. IsPart plan f (home f mark) q) (sym (numbers_are plan numbers are)) (subst (λ m. IsPart plan (island_in numbers) m q) is part);
+      subst (λ f. IsPart plan f (home f observation) q) (sym (numbers_are plan numbers are)) (subst (λ m. IsPart plan (island_in numbers) m q) is part);
 }

@@ -6,7 +6,7 @@ use Rattle.pm_base.specs.declared.ActorId.{ActorId}
 use Rattle.pm_base.specs.declared.ActorId.TheVariants.{Caller, Work, Timer}
 use Rattle.pm_model.specs.declared.plan.Plan.{Plan}
 use Rattle.pm_model.specs.Serial.{callers_and_works, timer_actors}
-use Rattle.pm_explore.specs.schedule.Spots.{all_actors}
+use Rattle.pm_explore.specs.schedule.Snapshots.{all_actors}
 use Rattle.pm_state.specs.Standing.{IsActor}
 
 from : {A B : Type 0} (P : B → Type 0) (f : ℕ → B) (n : ℕ) (xs : List A) → ((i : ℕ) → i < n + length xs → P (f i)) → All P (map (λ p. f p.0) (enumerate_from n xs))

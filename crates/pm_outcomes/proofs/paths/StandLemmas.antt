@@ -29,13 +29,13 @@ use Rattle.pm_device.specs.Filling.{CanBe}
 use Rattle.pm_device.specs.Parts.{IsInTime}
 use Rattle.pm_state.specs.Places.{HasRoom}
 use Rattle.pm_state.specs.Standing.{CanStand, IsOf, IsRoomy, Standing}
-use Rattle.pm_explore.specs.schedule.Orders.{spot}
-use Rattle.pm_explore.specs.schedule.Spots.{Spot}
-use Rattle.pm_explore.specs.declared.state.spot.Spot.{Spot as Kept}
-use Rattle.pm_explore.specs.state.SpotOf.{spot_of, world_of}
+use Rattle.pm_explore.specs.schedule.Schedules.{snapshot}
+use Rattle.pm_explore.specs.schedule.Snapshots.{Snapshot}
+use Rattle.pm_explore.specs.declared.state.snapshot.Snapshot.{Snapshot as Kept}
+use Rattle.pm_explore.specs.state.SnapshotOf.{snapshot_of, world_of}
 use Rattle.pm_explore.specs.declared.successors.moves.Last.{Last}
 use Rattle.pm_outcomes.specs.declared.paths.run.Run.{Run}
-use Rattle.pm_outcomes.specs.paths.Runs.{IsListTo, IsRunOf, StandsAt, spot_of_run}
+use Rattle.pm_outcomes.specs.paths.Runs.{IsListTo, IsRunOf, StandsAt, snapshot_of_run}
 use Rattle.pm_outcomes.proofs.paths.RunLemmas.{HaveEntries, HavePlaces, early, sized}
 
 -- each caller has a number of calls
@@ -136,14 +136,14 @@ can_go plan s h is_of was now places in_time shallow = record {
 last_early : (time lines : ℕ) → time ≤ 1000000 * lines → lines ≤ 200000 → time < 2 ^ 63
 last_early time lines le few = let end = early time lines le few in omega (arith, end)
 
-pub can_stand_there : (plan : Plan) (r : Run) (s : Spot) (lines : ℕ) → IsRunOf plan r → (l : IsListTo plan s lines) → HaveEntries plan → HavePlaces plan → AreBusy plan → HaveDelays plan → HaveDepth plan → length l.list ≤ 200000
+pub can_stand_there : (plan : Plan) (r : Run) (s : Snapshot) (lines : ℕ) → IsRunOf plan r → (l : IsListTo plan s lines) → HaveEntries plan → HavePlaces plan → AreBusy plan → HaveDelays plan → HaveDepth plan → length l.list ≤ 200000
     → CanStand r.state s.world
 can_stand_there plan r s lines k l entries places busy delays deep few =
     let was = sized plan r k (entries k.list k.lawful) (places k.list k.lawful) in
-    let time : last_time l.list ≡ s.time = ap (λ (x : Spot). x.time) l.stands in
+    let time : last_time l.list ≡ s.time = ap (λ (x : Snapshot). x.time) l.stands in
     let last : last_time l.list < 2 ^ 63 = subst (λ n. n < 2 ^ 63) (sym time) (last_early s.time lines l.early (let many = l.many in omega (arith, many, few))) in
     let in_time = in_bounds (world plan l.list).views (last_time l.list) (λ d. busy l.list d l.lawful) (delays l.list l.lawful) last in
-    subst (λ (x : Spot). CanStand r.state x.world) l.stands (can_go plan r.state l.list k.is_of was.entries (entries l.list l.lawful) (places l.list l.lawful) in_time (deep l.list l.lawful))
+    subst (λ (x : Snapshot). CanStand r.state x.world) l.stands (can_go plan r.state l.list k.is_of was.entries (entries l.list l.lawful) (places l.list l.lawful) in_time (deep l.list l.lawful))
 
 -- it stands there then
 of_there : (plan : Plan) (s : Standing) (w : World) → IsOf plan s → CanStand s w → IsOf plan (record s { world = w })
@@ -156,19 +156,19 @@ of_there plan s w is can = record {
   roomy = is.roomy;
 }
 
-same_spot : (s : Standing) (new : Run) (node : Kept) → new.state ≡ record s { world = world_of node } → new.last ≡ record { time = node.time; actor = node.last; code = node.code } → spot_of_run new ≡ spot_of node
-same_spot s new node state last = λ i. record { world = (state i).world; time = (last i).time; last = (last i).actor; code = (last i).code }
+same_snapshot : (s : Standing) (new : Run) (node : Kept) → new.state ≡ record s { world = world_of node } → new.last ≡ record { time = node.time; actor = node.last; code = node.code } → snapshot_of_run new ≡ snapshot_of node
+same_snapshot s new node state last = λ i. record { world = (state i).world; time = (last i).time; last = (last i).actor; code = (last i).code }
 
 pub stands_at : (s : Standing) (new : Run) (node : Kept) (lines : ℕ) → new.state ≡ record s { world = world_of node } → new.last ≡ record { time = node.time; actor = node.last; code = node.code } → new.lines ≡ lines
-    → StandsAt new (spot_of node) lines
-stands_at s new node lines state last count = record { spot_is = same_spot s new node state last; lines_are = count }
+    → StandsAt new (snapshot_of node) lines
+stands_at s new node lines state last count = record { snapshot_is = same_snapshot s new node state last; lines_are = count }
 
-pub stood_there : (plan : Plan) (old new : Run) (node : Kept) (lines : ℕ) → IsRunOf plan old → IsListTo plan (spot_of node) lines → CanStand old.state (world_of node) → new.state ≡ record old.state { world = world_of node }
+pub stood_there : (plan : Plan) (old new : Run) (node : Kept) (lines : ℕ) → IsRunOf plan old → IsListTo plan (snapshot_of node) lines → CanStand old.state (world_of node) → new.state ≡ record old.state { world = world_of node }
     → new.last ≡ record { time = node.time; actor = node.last; code = node.code } → new.lines ≡ lines → IsRunOf plan new
 stood_there plan old new node lines k l can state last count = record {
   list = l.list;
   lawful = l.lawful;
-  stands = l.stands ∙ sym (same_spot old.state new node state last);
+  stands = l.stands ∙ sym (same_snapshot old.state new node state last);
   lines = l.many ∙ sym count;
   is_of = subst (λ (s : Standing). IsOf plan s) (sym state) (of_there plan old.state (world_of node) k.is_of can);
   early = let was = l.early in let now : new.last.time ≡ node.time = ap (λ (x : Last). x.time) last in omega (arith, was, now, count);

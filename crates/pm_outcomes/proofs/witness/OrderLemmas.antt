@@ -20,8 +20,8 @@ use Rattle.pm_model.specs.Lawful.{IsFinished, IsLawful, last_time}
 use Rattle.pm_model.specs.Serial.{goes_on, next_line}
 use Rattle.pm_model.specs.World.{World, stage_at, world}
 use Rattle.pm_explore.specs.declared.schedule.Pace.{Pace}
-use Rattle.pm_explore.specs.schedule.Orders.{IsOrder, spot}
-use Rattle.pm_explore.specs.schedule.Spots.{IsTimely}
+use Rattle.pm_explore.specs.schedule.Schedules.{IsSchedule, snapshot}
+use Rattle.pm_explore.specs.schedule.Snapshots.{IsTimely}
 use Rattle.pm_serial.specs.declared.running.End.{End}
 use Rattle.pm_serial.specs.declared.running.End.TheVariants as end
 use Rattle.pm_serial.specs.Ends.{GoesOn, IsEnd, whole}
@@ -54,11 +54,11 @@ next_there P old new lines i d older lt same so_far whole_order =
 
 -- at whatever pace the next line comes soon
 abbrev pub AreNear : Pace → Plan → Type 0
-AreNear pace plan = (h : History) (line : Line) → IsLawful plan h → IsTimely pace plan (spot plan h) line → line.time ≤ last_time h + 1000000
+AreNear pace plan = (h : History) (line : Line) → IsLawful plan h → IsTimely pace plan (snapshot plan h) line → line.time ≤ last_time h + 1000000
 
-pub orders_near : (pace : Pace) (plan : Plan) (h : History) → AreNear pace plan → IsOrder pace plan h → IsLawful plan h → IsNear h
-orders_near pace plan [] near order lawful = tt
-orders_near pace plan (line ∷ h) near order lawful = (near h line lawful.2 order.1, orders_near pace plan h near order.2 lawful.2)
+pub schedules_near : (pace : Pace) (plan : Plan) (h : History) → AreNear pace plan → IsSchedule pace plan h → IsLawful plan h → IsNear h
+schedules_near pace plan [] near order lawful = tt
+schedules_near pace plan (line ∷ h) near order lawful = (near h line lawful.2 order.1, schedules_near pace plan h near order.2 lawful.2)
 
 -- so the last line comes early
 next_early : (last time n : ℕ) → last ≤ 1000000 * n → time ≤ last + 1000000 → time ≤ 1000000 * suc n
@@ -107,7 +107,7 @@ stays_at : (plan : Plan) (n : ℕ) (h : History) → next_line plan h ≡ None �
 stays_at plan zero h none = refl
 stays_at plan (suc n) h none = ap (λ o. option_map_or (λ line. goes_on plan n (line ∷ h)) o h) none
 
--- what was drained of a book with the lines of an order
+-- what was drained of a book with the lines of a schedule
 end_is : (p : Pages) (plan : Plan) (e : End) → p.plan ≡ plan → IsEnd p e → IsEndOf plan p.lines e
 end_is p plan end.Finished same ends = subst (λ (q : Plan). IsFinished q p.lines) same ends
 end_is p plan end.AtLimit same ends = subst (λ (q : Plan). IsEndOf q p.lines end.AtLimit) same (leb-true _ _ ends.0, ends.1)

@@ -23,12 +23,12 @@ abbrev pub lines_in : Option (List ℕ) → List (List ℕ)
 lines_in None = []
 lines_in (Some text) = lines_of text
 
--- a text begins with the mark
+-- a text begins with the prefix of an outcome
 abbrev pub begins : List ℕ → Bool
 begins text = bytes_eq (take 8 text) (codes "pm_lab: ")
 
 -- what stands behind the first `pm_lab: ` of a line
-unfoldable pub behind_mark : List ℕ → Option (List ℕ)
-behind_mark [] = None
-behind_mark (b ∷ bytes) =
-    if begins (b ∷ bytes) then Some (drop 8 (b ∷ bytes)) else behind_mark bytes
+unfoldable pub behind_prefix : List ℕ → Option (List ℕ)
+behind_prefix [] = None
+behind_prefix (b ∷ bytes) =
+    if begins (b ∷ bytes) then Some (drop 8 (b ∷ bytes)) else behind_prefix bytes

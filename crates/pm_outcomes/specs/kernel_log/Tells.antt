@@ -9,7 +9,7 @@ use Rattle.pm_model.specs.NamedList.{place_named}
 use Rattle.pm_outcomes.specs.declared.kernel_log.tells.Tell.TheVariants as tell
 use Rattle.pm_outcomes.specs.declared.kernel_log.tells.Told.{Told}
 use Rattle.pm_outcomes.specs.declared.kernel_log.tells.Told.TheVariants as told
-use Rattle.pm_outcomes.specs.kernel_log.Lines.{behind_mark, is_space, lines_of}
+use Rattle.pm_outcomes.specs.kernel_log.Lines.{behind_prefix, is_space, lines_of}
 use Rattle.pm_spans.specs.source.Places.{without_return}
 
 -- the text before the first space, and behind it
@@ -57,7 +57,7 @@ told_by plan text =
 
 -- what a line tells; a log that was saved elsewhere may have a carriage return before each newline
 abbrev pub told_line : Plan → List ℕ → Option Told
-told_line plan line = option_and_then (told_by plan) (behind_mark (without_return line))
+told_line plan line = option_and_then (told_by plan) (behind_prefix (without_return line))
 
 -- what the lines of a log tell, in order
 abbrev pub told_lines : Plan → List ℕ → List Told

@@ -1,4 +1,4 @@
--- Which marks showed, and where each showed first (this project's own).
+-- Which observations showed, and where each showed first (this project's own).
 use Rattle.std.specs.Prelude.{ℕ, ◌≡◌, ◌≤◌, List, Some, slice_get}
 use Rattle.std.specs.List.{Contains}
 

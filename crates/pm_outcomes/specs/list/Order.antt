@@ -5,11 +5,11 @@ use Rattle.std.specs.declared.cmp.Ordering.TheVariants.{Less, Greater}
 use Rattle.std.specs.Ordering.{int_cmp, nat_cmp, ordering_then}
 use Rattle.pm_base.specs.declared.Status.{Status}
 use Rattle.pm_base.specs.declared.Status.TheVariants.{Active, Suspended, Suspending, Resuming}
-use Rattle.pm_outcomes.specs.declared.list.marks.Left.{Left}
-use Rattle.pm_outcomes.specs.declared.list.marks.Mark.{Mark}
-use Rattle.pm_outcomes.specs.declared.list.marks.Mark.TheVariants.{End, Return}
-use Rattle.pm_outcomes.specs.declared.list.marks.Outcome.{Outcome}
-use Rattle.pm_outcomes.specs.declared.list.marks.Returned.{Returned}
+use Rattle.pm_outcomes.specs.declared.list.observations.Left.{Left}
+use Rattle.pm_outcomes.specs.declared.list.observations.Observation.{Observation}
+use Rattle.pm_outcomes.specs.declared.list.observations.Observation.TheVariants.{End, Return}
+use Rattle.pm_outcomes.specs.declared.list.observations.Outcome.{Outcome}
+use Rattle.pm_outcomes.specs.declared.list.observations.Returned.{Returned}
 
 abbrev pub status_rank : Status → ℕ
 status_rank Active = 0
@@ -28,11 +28,11 @@ by_end a k b l =
     (ordering_then (nat_cmp (status_rank a.status) (status_rank b.status)) (ordering_then (nat_cmp a.usage b.usage) (int_cmp a.error b.error))))
 
 -- returns before ends
-abbrev pub by_mark : Mark → ℕ → Mark → ℕ → Ordering
-by_mark (Return a) k (Return b) l = by_return a k b l
-by_mark (Return a) k (End b) l = Less
-by_mark (End a) k (Return b) l = Greater
-by_mark (End a) k (End b) l = by_end a k b l
+abbrev pub by_observation : Observation → ℕ → Observation → ℕ → Ordering
+by_observation (Return a) k (Return b) l = by_return a k b l
+by_observation (Return a) k (End b) l = Less
+by_observation (End a) k (Return b) l = Greater
+by_observation (End a) k (End b) l = by_end a k b l
 
 abbrev pub by_text : Outcome → Outcome → Ordering
-by_text a b = by_mark a.mark a.round b.mark b.round
+by_text a b = by_observation a.observation a.round b.observation b.round

@@ -1,8 +1,8 @@
--- The line that says that no order shows what is asked for (this project's own).
+-- The line that says that no schedule shows what is asked for (this project's own).
 use Rattle.std.specs.Prelude.{ℕ, List, [], ◌++◌, codes, slice_get}
 use Rattle.std.specs.Option.{option_map_or}
-use Rattle.pm_outcomes.specs.declared.list.marks.Mark.{Mark}
-use Rattle.pm_outcomes.specs.declared.list.marks.Mark.TheVariants.{End, Return}
+use Rattle.pm_outcomes.specs.declared.list.observations.Observation.{Observation}
+use Rattle.pm_outcomes.specs.declared.list.observations.Observation.TheVariants.{End, Return}
 use Rattle.pm_model.specs.declared.plan.Plan.{Plan}
 use Rattle.pm_model.specs.Spelling.{device_name, newline}
 use Rattle.pm_model.specs.Text.{names_of}
@@ -12,7 +12,7 @@ use Rattle.pm_outcomes.specs.declared.text.reach.Reach.{Reach}
 use Rattle.pm_outcomes.specs.declared.text.reach.Reach.TheVariants.{All, Limit, Within}
 
 -- the command that returned, or the device that is left so
-abbrev pub subject_text : Plan → Mark → List ℕ
+abbrev pub subject_text : Plan → Observation → List ℕ
 subject_text plan (Return r) = option_map_or (called_text plan r.command) (slice_get plan.callers r.caller) []
 subject_text plan (End l) = codes "end " ++ device_name (names_of plan) l.device.0
 
@@ -21,5 +21,5 @@ limit_words All = []
 limit_words (Within k) = []
 limit_words (Limit k) = codes "; a limit came first"
 
-abbrev pub absent_line : Plan → Reach → Mark → List ℕ
-absent_line plan reach mark = codes "order: " ++ subject_text plan mark ++ codes ": " ++ value_text mark ++ codes ": " ++ none_words reach ++ limit_words reach ++ newline
+abbrev pub absent_line : Plan → Reach → Observation → List ℕ
+absent_line plan reach observation = codes "order: " ++ subject_text plan observation ++ codes ": " ++ value_text observation ++ codes ": " ++ none_words reach ++ limit_words reach ++ newline

@@ -1,4 +1,4 @@
--- The text of where the outcome of a kernel's run stands among what the orders of its plan show (this project's own).
+-- The text of where the outcome of a kernel's run stands among what the schedules of its plan show (this project's own).
 use Rattle.std.specs.Prelude.{ℕ, ◌-◌, List, [], ◌++◌, Option, Some, None, codes, decimal, slice_get}
 use Rattle.std.specs.Fmt.{signed_decimal}
 use Rattle.std.specs.Option.{option_map_or}
@@ -12,12 +12,16 @@ use Rattle.pm_outcomes.specs.declared.text.reach.Reach.TheVariants.{All, Limit, 
 use Rattle.pm_outcomes.specs.declared.kernel_log.tells.Tell.{Tell}
 use Rattle.pm_outcomes.specs.declared.kernel_log.tells.Tell.TheVariants.{Answer, End}
 
-abbrev pub none_within : ℕ → List ℕ
-none_within k = codes "in no order of at most " ++ decimal k ++ codes " disturbances"
+-- as many preemptions at most
+unfoldable pub few_text : ℕ → List ℕ
+few_text k = codes " of at most " ++ decimal k ++ codes " preemptions"
 
--- of which orders none shows it
+abbrev pub none_within : ℕ → List ℕ
+none_within k = codes "in no schedule" ++ few_text k
+
+-- of which schedules none shows it
 abbrev pub none_words : Reach → List ℕ
-none_words All = codes "in no order"
+none_words All = codes "in no schedule"
 none_words (Within k) = none_within k
 none_words (Limit (Some k)) = none_within k
 none_words (Limit None) = codes "no round is complete"
@@ -37,7 +41,7 @@ tell_text plan (Answer caller number code) =
 tell_text plan (End d status usage) =
     device_name (names_of plan) d.0 ++ codes " ended " ++ status_text status ++ codes " usage " ++ signed_decimal usage
 
--- the line behind what the orders show: of what was told the first that none of them shows, if there is one
+-- the line behind what the schedules show: of what was told the first that none of them shows, if there is one
 abbrev pub seen_line : Plan → Reach → Option Tell → List ℕ
-seen_line plan reach None = codes "seen: every mark is listed\n"
+seen_line plan reach None = codes "seen: every observation is listed\n"
 seen_line plan reach (Some t) = codes "seen: " ++ tell_text plan t ++ codes ": " ++ none_words reach ++ newline

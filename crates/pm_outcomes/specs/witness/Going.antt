@@ -1,4 +1,4 @@
--- How a run goes on from an order (this project's own). Lists have the newest line first.
+-- How a run goes on from a schedule (this project's own). Lists have the newest line first.
 use Rattle.std.specs.Prelude.{◌≡◌, ◌≤◌, ◌+◌, false, List, [], ◌∷◌, ◌++◌, length}
 use Rattle.pm_model.specs.declared.event.Line.{Line}
 use Rattle.pm_model.specs.declared.plan.Plan.{Plan}

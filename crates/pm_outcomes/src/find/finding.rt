@@ -3,7 +3,7 @@
 ghost use Rattle.std.specs.Prelude.{ℕ, ◌≡◌, ◌≤◌, ◌+◌, IfOk, Some, length, map, max, min, slice_get, true};
 ghost use Rattle.std.specs.List.Sorted.{IsSorted};
 ghost use Rattle.pm_outcomes.specs.list.Order.{by_text};
-ghost use Rattle.pm_explore.specs.schedule.Spots.{Follows, start_spot};
+ghost use Rattle.pm_explore.specs.schedule.Snapshots.{Follows, start_snapshot};
 ghost use Rattle.pm_outcomes.specs.find.Had.{AreExact, AreExactWithin, AreOfRounds, AreShown, IsListedOnce};
 ghost use Rattle.pm_explore.specs.declared.search.found.Ended.TheVariants.{Rounds, Stopped, Whole};
 ghost use Rattle.pm_explore.specs.declared.search.graph.Stop.TheVariants.{Full, NoMemory as WantsMemory, TooFar};
@@ -11,27 +11,27 @@ ghost use Rattle.pm_explore.specs.search.Exact.{EndWithAll};
 ghost use Rattle.pm_explore.specs.search.Growing.{IsLed};
 ghost use Rattle.pm_explore.specs.search.Seen.{IsSeen};
 ghost use Rattle.pm_explore.specs.search.Trees.{AreLed, IsTree};
-ghost use Rattle.pm_explore.specs.state.SpotOf.{spot_of};
-ghost use Rattle.pm_outcomes.specs.paths.Found.{AreOfAllOrders, AreOfOrders, IsTooFar};
+ghost use Rattle.pm_explore.specs.state.SnapshotOf.{snapshot_of};
+ghost use Rattle.pm_outcomes.specs.paths.Found.{AreOfAllSchedules, AreOfSchedules, IsTooFar};
 
-use crate::find::firsts::first_marks;
+use crate::find::firsts::first_observations;
 use crate::list::{Outcome, listed};
-use crate::paths::all_orders;
+use crate::paths::all_schedules;
 use pm_base::NoMemory;
 use pm_explore::schedule::Pace;
 use pm_explore::search::{Ended, Found, Stop};
-use pm_explore::state::Spot;
+use pm_explore::state::Snapshot;
 use pm_model::Plan;
 use std::alloc::Global;
 
-/// What the orders of a plan show, and the spots at which they stand.
+/// What the schedules of a plan show, and the snapshots at which they stand.
 #[derive(Drop)]
 pub struct Outcomes {
-    /// The spots, round by round.
-    pub found: Found<Spot>,
-    /// Each mark once, with the first round that has it and the place of a spot that shows it: returns by caller and
+    /// The snapshots, round by round.
+    pub found: Found<Snapshot>,
+    /// Each observation once, with the first round that has it and the place of a snapshot that shows it: returns by caller and
     /// command, and then ends by device, each by rounds and then by value.
-    pub marks: Vec<Outcome>,
+    pub observations: Vec<Outcome>,
 }
 
 fn is_whole(ended: Ended) -> bool
@@ -44,8 +44,8 @@ fn is_whole(ended: Ended) -> bool
     }
 }
 
-/// All that the orders of a plan show whose lines come at a pace, with the least number of disturbances, up to
-/// so many; or all that any order shows, where that is seen; or what was found before a spot more than the limit, or another
+/// All that the schedules of a plan show whose lines come at a pace, with the least number of preemptions, up to
+/// so many; or all that any schedule shows, where that is seen; or what was found before a snapshot more than the limit, or another
 /// stop.
 pub fn all_outcomes(
     alloc: Global,
@@ -54,23 +54,23 @@ pub fn all_outcomes(
     most: usize,
     limit: usize,
 ) -> Result<Outcomes, NoMemory>
-    // For each number of disturbances whose orders were all seen, and for all orders where it is whole.
-    ensures rounds { IfOk result (λ all. (k : ℕ) → IsSeen all.found.ended all.found.rounds.items k → AreExactWithin pace plan.now k all.marks.items) }
-    ensures whole { IfOk result (λ all. all.found.ended ≡ Ended.Whole → AreExact pace plan.now all.marks.items) }
-    ensures orders { IfOk result (λ all. (k bound : ℕ) → slice_get all.found.rounds.items k ≡ Some bound → AreOfOrders pace plan.now k (map spot_of all.found.tree.nodes.keys) bound) }
-    ensures all_orders { IfOk result (λ all. all.found.ended ≡ Ended.Whole → AreOfAllOrders pace plan.now (map spot_of all.found.tree.nodes.keys)) }
-    ensures last { IfOk result (λ all. all.found.ended ≡ Ended.Whole → EndWithAll (map spot_of all.found.tree.nodes.keys) all.found.rounds.items) }
-    ensures end { IfOk result (λ all. all.found.ended ≡ Ended.Rounds → EndWithAll (map spot_of all.found.tree.nodes.keys) all.found.rounds.items) }
-    ensures of_rounds { IfOk result (λ all. AreOfRounds all.found.rounds.items all.marks.items) }
-    ensures once { IfOk result (λ all. IsListedOnce all.marks.items) }
-    ensures in_order { IfOk result (λ all. IsSorted by_text all.marks.items) }
+    // For each number of preemptions whose schedules were all seen, and for all schedules where it is whole.
+    ensures rounds { IfOk result (λ all. (k : ℕ) → IsSeen all.found.ended all.found.rounds.items k → AreExactWithin pace plan.now k all.observations.items) }
+    ensures whole { IfOk result (λ all. all.found.ended ≡ Ended.Whole → AreExact pace plan.now all.observations.items) }
+    ensures orders { IfOk result (λ all. (k bound : ℕ) → slice_get all.found.rounds.items k ≡ Some bound → AreOfSchedules pace plan.now k (map snapshot_of all.found.tree.nodes.keys) bound) }
+    ensures all_schedules { IfOk result (λ all. all.found.ended ≡ Ended.Whole → AreOfAllSchedules pace plan.now (map snapshot_of all.found.tree.nodes.keys)) }
+    ensures last { IfOk result (λ all. all.found.ended ≡ Ended.Whole → EndWithAll (map snapshot_of all.found.tree.nodes.keys) all.found.rounds.items) }
+    ensures end { IfOk result (λ all. all.found.ended ≡ Ended.Rounds → EndWithAll (map snapshot_of all.found.tree.nodes.keys) all.found.rounds.items) }
+    ensures of_rounds { IfOk result (λ all. AreOfRounds all.found.rounds.items all.observations.items) }
+    ensures once { IfOk result (λ all. IsListedOnce all.observations.items) }
+    ensures in_order { IfOk result (λ all. IsSorted by_text all.observations.items) }
 
     // Where each shows.
-    ensures shown { IfOk result (λ all. AreShown plan.now (map spot_of all.found.tree.nodes.keys) all.found.rounds.items all.marks.items) }
-    ensures tree { IfOk result (λ all. IsTree (Follows pace plan.now) (start_spot plan.now) (map spot_of all.found.tree.nodes.keys) all.found.tree.parents.items) }
-    ensures led { IfOk result (λ all. AreLed (Follows pace plan.now) (map spot_of all.found.tree.nodes.keys) all.found.tree.parents.items all.found.rounds.items) }
+    ensures shown { IfOk result (λ all. AreShown plan.now (map snapshot_of all.found.tree.nodes.keys) all.found.rounds.items all.observations.items) }
+    ensures tree { IfOk result (λ all. IsTree (Follows pace plan.now) (start_snapshot plan.now) (map snapshot_of all.found.tree.nodes.keys) all.found.tree.parents.items) }
+    ensures led { IfOk result (λ all. AreLed (Follows pace plan.now) (map snapshot_of all.found.tree.nodes.keys) all.found.tree.parents.items all.found.rounds.items) }
     ensures few { IfOk result (λ all. length all.found.rounds.items ≤ most + 1) }
-    ensures near { IfOk result (λ all. IsLed (Follows pace plan.now) (min most (length all.found.rounds.items)) (map spot_of all.found.tree.nodes.keys) all.found.tree.parents.items) }
+    ensures near { IfOk result (λ all. IsLed (Follows pace plan.now) (min most (length all.found.rounds.items)) (map snapshot_of all.found.tree.nodes.keys) all.found.tree.parents.items) }
 
     // How the search ended.
     ensures complete { IfOk result (λ all. all.found.ended ≡ Ended.Rounds → length all.found.rounds.items ≡ most + 1) }
@@ -78,13 +78,16 @@ pub fn all_outcomes(
     ensures full { IfOk result (λ all. all.found.ended ≡ Ended.Stopped Stop.Full → limit ≤ length all.found.tree.nodes.keys) }
     ensures too_far { IfOk result (λ all. all.found.ended ≡ Ended.Stopped Stop.TooFar → (at : ℕ) × IsTooFar plan.now all.found.tree.parents.items at) }
 {
-    let found = all_orders(alloc, plan, pace, most, limit)?;
-    let firsts = first_marks(alloc, plan, &found.tree)?;
-    let marks = listed(
+    let found = all_schedules(alloc, plan, pace, most, limit)?;
+    let firsts = first_observations(alloc, plan, &found.tree)?;
+    let observations = listed(
         alloc,
         &firsts,
         found.rounds.as_slice(),
         is_whole(found.ended),
     )?;
-    Ok(Outcomes { found, marks })
+    Ok(Outcomes {
+        found,
+        observations,
+    })
 }

@@ -1,4 +1,4 @@
-//! Where a mark is at home.
+//! Where an observation is at home.
 
 ghost use Rattle.std.specs.Prelude.{◌≡◌, ◌++◌, OnOk, length, nat_le};
 ghost use Rattle.std.specs.List.{list_any, range_with_len};
@@ -6,7 +6,7 @@ ghost use Rattle.pm_outcomes.specs.islands.Homes.{at_home, has_rest, home};
 ghost use Rattle.pm_islands.specs.Numbers.{island_in};
 ghost use Rattle.pm_model.specs.Islands.{the_caller, the_device};
 
-use crate::list::{Mark, Outcome};
+use crate::list::{Observation, Outcome};
 use pm_base::{ActorId, DevId, NoMemory};
 use pm_islands::IslandNumbers;
 use pm_model::Plan;
@@ -27,28 +27,28 @@ fn device_home(numbers: &IslandNumbers, dev: DevId) -> u32
     numbers.island_of_device(dev).unwrap_or(numbers.count())
 }
 
-/// The number of the island where a mark is at home, or how many islands there are where it has none.
-pub fn home_of(numbers: &IslandNumbers, mark: &Mark) -> u32
-    ensures { result ≡ home (island_in numbers.now) mark.now }
+/// The number of the island where an observation is at home, or how many islands there are where it has none.
+pub fn home_of(numbers: &IslandNumbers, observation: &Observation) -> u32
+    ensures { result ≡ home (island_in numbers.now) observation.now }
 {
-    match mark {
-        Mark::Return(returned) => caller_home(numbers, returned.caller),
-        Mark::End(left) => device_home(numbers, left.device),
+    match observation {
+        Observation::Return(returned) => caller_home(numbers, returned.caller),
+        Observation::End(left) => device_home(numbers, left.device),
     }
 }
 
 /// Puts those of the outcomes that are at home on an island behind those that are there.
 pub fn push_own(
-    marks: &mut Vec<Outcome>,
+    observations: &mut Vec<Outcome>,
     outcomes: &[Outcome],
     numbers: &IslandNumbers,
     island: u32,
 ) -> Result<(), NoMemory>
-    ensures { OnOk result (marks.new.items ≡ marks.old.items ++ at_home (island_in numbers.now) island outcomes.now) }
+    ensures { OnOk result (observations.new.items ≡ observations.old.items ++ at_home (island_in numbers.now) island outcomes.now) }
 {
     for outcome in outcomes {
-        if home_of(numbers, &outcome.mark) == island {
-            marks.push(*outcome)?;
+        if home_of(numbers, &outcome.observation) == island {
+            observations.push(*outcome)?;
         }
     }
     Ok(())

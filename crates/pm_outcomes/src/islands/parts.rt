@@ -6,7 +6,7 @@ ghost use Rattle.pm_islands.specs.Numbers.{AreIslands, island_in};
 ghost use Rattle.pm_model.specs.Islands.{IsPart};
 
 use crate::islands::homes::home_of;
-use crate::list::Mark;
+use crate::list::Observation;
 use pm_base::NoMemory;
 use pm_islands::{IslandNumbers, blank, number, part};
 use pm_model::Plan;
@@ -31,11 +31,11 @@ pub fn part_at(
     }
 }
 
-/// The part of the island where a mark is at home. Fails where memory runs out.
-pub fn home_part(alloc: Global, plan: &Plan, mark: Mark) -> Result<Plan, NoMemory>
-    ensures { IfOk result (IsHomePart plan.now mark) }
+/// The part of the island where an observation is at home. Fails where memory runs out.
+pub fn home_part(alloc: Global, plan: &Plan, observation: Observation) -> Result<Plan, NoMemory>
+    ensures { IfOk result (IsHomePart plan.now observation) }
 {
     let numbers = number(alloc, plan)?;
-    let island = home_of(&numbers, &mark);
+    let island = home_of(&numbers, &observation);
     part_at(alloc, plan, &numbers, island)
 }

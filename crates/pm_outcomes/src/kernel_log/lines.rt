@@ -2,23 +2,23 @@
 
 ghost use Rattle.std.specs.Prelude.{◌≡◌, ◌==◌, ◌<◌, ◌∷◌, IfNone, IfSome, drop, false, length, option_map, true};
 ghost use Rattle.std.specs.List.{after_first, before_first, position, position_or_len};
-ghost use Rattle.pm_outcomes.specs.kernel_log.Lines.{begins, behind_mark, lines_in, lines_of};
+ghost use Rattle.pm_outcomes.specs.kernel_log.Lines.{begins, behind_prefix, lines_in, lines_of};
 
 /// What begins the text of an outcome.
-const MARK: &[u8] = b"pm_lab: ";
+const PREFIX: &[u8] = b"pm_lab: ";
 
-/// What stands behind the mark with which a text begins.
+/// What stands behind the prefix with which a text begins.
 fn behind(text: &[u8]) -> Option<&[u8]>
     ensures some { IfSome result (λ rest. (begins text.now ≡ true) × (rest.now ≡ drop 8 text.now)) }
     ensures none { IfNone result (begins text.now ≡ false) }
 {
-    text.strip_prefix(MARK)
+    text.strip_prefix(PREFIX)
 }
 
 /// What stands behind the first `pm_lab: ` of a line.
-#[tactic(auto, using(crate::proofs::kernel_log::MarkLemmas::marked_here, crate::proofs::kernel_log::MarkLemmas::marked_later, crate::proofs::kernel_log::MarkLemmas::not_marked))]
-pub fn behind_mark(line: &[u8]) -> Option<&[u8]>
-    ensures { option_map (λ text. text.now) result ≡ behind_mark line.now }
+#[tactic(auto, using(crate::proofs::kernel_log::PrefixLemmas::marked_here, crate::proofs::kernel_log::PrefixLemmas::marked_later, crate::proofs::kernel_log::PrefixLemmas::not_marked))]
+pub fn behind_prefix(line: &[u8]) -> Option<&[u8]>
+    ensures { option_map (λ text. text.now) result ≡ behind_prefix line.now }
 {
     let mut rest = line;
     while !rest.is_empty() {

@@ -5,7 +5,7 @@ ghost use Rattle.pm_outcomes.specs.kernel_log.Runs.{IsReadOf, outcome_of};
 ghost use Rattle.pm_outcomes.specs.declared.kernel_log.tells.Told.{Told as ATold};
 ghost use Rattle.pm_outcomes.specs.kernel_log.Tells.{told_line, told_lines};
 
-use crate::kernel_log::lines::{behind_mark, cut};
+use crate::kernel_log::lines::{behind_prefix, cut};
 use crate::kernel_log::tells::{Tell, Told, told_by};
 use pm_model::Plan;
 use pm_spans::source::without_return;
@@ -16,7 +16,7 @@ use std::mem::replace;
 fn told_line(plan: &Plan, line: &[u8]) -> Option<Told>
     ensures { result ≡ told_line plan.now line.now }
 {
-    told_by(plan, behind_mark(without_return(line))?)
+    told_by(plan, behind_prefix(without_return(line))?)
 }
 
 /// The outcomes that were read so far.

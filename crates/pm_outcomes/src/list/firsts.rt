@@ -1,20 +1,20 @@
-//! Where each mark showed first.
+//! Where each observation showed first.
 
 ghost use Rattle.std.specs.Prelude.{◌≡◌, ◌++◌, ◌∷◌, [], List, OnOk, ℕ};
-ghost use Rattle.pm_outcomes.specs.declared.list.marks.Mark.{Mark as AMark};
+ghost use Rattle.pm_outcomes.specs.declared.list.observations.Observation.{Observation as AnObservation};
 ghost use Rattle.pm_outcomes.specs.list.Firsts.{AreFirsts, IsUpTo};
 
-use crate::list::marks::Mark;
+use crate::list::observations::Observation;
 use indexmap::IndexMap;
 use std::alloc::{AllocError, Global};
 
-/// The marks that showed, no two of them equal, each with the place at which it showed first.
+/// The observations that showed, no two of them equal, each with the place at which it showed first.
 #[derive(Drop)]
 pub struct Firsts {
-    pub entries: IndexMap<Mark, usize>,
+    pub entries: IndexMap<Observation, usize>,
 }
 
-/// No mark.
+/// No observation.
 pub fn new_firsts(alloc: Global) -> Firsts
     ensures { result.entries.entries ≡ [] }
 {
@@ -23,12 +23,12 @@ pub fn new_firsts(alloc: Global) -> Firsts
     }
 }
 
-/// Notes that a mark shows at a place, which is no earlier than those before.
-pub fn note(firsts: &mut Firsts, mark: Mark, place: usize) -> Result<(), AllocError>
-    ensures { OnOk result ((seen : List (AMark × ℕ)) → IsUpTo place seen → AreFirsts seen firsts.old.entries.entries → AreFirsts (seen ++ (mark, place) ∷ []) firsts.new.entries.entries) }
+/// Notes that an observation shows at a place, which is no earlier than those before.
+pub fn note(firsts: &mut Firsts, observation: Observation, place: usize) -> Result<(), AllocError>
+    ensures { OnOk result ((seen : List (AnObservation × ℕ)) → IsUpTo place seen → AreFirsts seen firsts.old.entries.entries → AreFirsts (seen ++ (observation, place) ∷ []) firsts.new.entries.entries) }
 {
-    if !firsts.entries.contains_key(&mark) {
-        firsts.entries.insert(mark, place)?;
+    if !firsts.entries.contains_key(&observation) {
+        firsts.entries.insert(observation, place)?;
     }
     Ok(())
 }

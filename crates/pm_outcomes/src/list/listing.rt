@@ -5,7 +5,7 @@ ghost use Rattle.std.specs.List.{filter_map};
 ghost use Rattle.pm_outcomes.specs.list.Listing.{AreListed, outcome_of, round_of};
 
 use crate::list::firsts::Firsts;
-use crate::list::marks::{Mark, Outcome};
+use crate::list::observations::{Observation, Outcome};
 use crate::list::ranks::rank_of;
 use std::alloc::{AllocError, Global};
 
@@ -21,19 +21,28 @@ pub fn round_of(rounds: &[usize], place: usize) -> usize
     rounds.len()
 }
 
-// A mark told by its round, if that counts.
-fn outcome_of(rounds: &[usize], whole: bool, mark: Mark, place: usize) -> Option<Outcome>
-    ensures { result ≡ outcome_of rounds.now whole (mark, place) }
+// An observation told by its round, if that counts.
+fn outcome_of(
+    rounds: &[usize],
+    whole: bool,
+    observation: Observation,
+    place: usize,
+) -> Option<Outcome>
+    ensures { result ≡ outcome_of rounds.now whole (observation, place) }
 {
     let round = round_of(rounds, place);
     if whole || round < rounds.len() {
-        Some(Outcome { mark, round, place })
+        Some(Outcome {
+            observation,
+            round,
+            place,
+        })
     } else {
         None
     }
 }
 
-// The outcomes in the order in which their marks showed.
+// The outcomes in the order in which their observations showed.
 fn unsorted(
     alloc: Global,
     firsts: &Firsts,
@@ -44,18 +53,18 @@ fn unsorted(
 {
     let mut out = Vec::new(alloc);
     for i in 0..firsts.entries.len() {
-        let Some((mark, place)) = firsts.entries.get_index(i) else {
+        let Some((observation, place)) = firsts.entries.get_index(i) else {
             unreachable!();
         };
-        if let Some(outcome) = outcome_of(rounds, whole, *mark, *place) {
+        if let Some(outcome) = outcome_of(rounds, whole, *observation, *place) {
             out.push(outcome)?;
         }
     }
     Ok(out)
 }
 
-/// The outcomes of the marks that showed within the rounds, or of all, in the order of the text. A round is told by
-/// how many spots there are up to its end.
+/// The outcomes of the observations that showed within the rounds, or of all, in the order of the text. A round is told by
+/// how many snapshots there are up to its end.
 pub fn listed(
     alloc: Global,
     firsts: &Firsts,

@@ -4,7 +4,7 @@ ghost use Rattle.std.specs.Prelude.{◌≡◌};
 ghost use Rattle.pm_outcomes.specs.list.Order.{status_rank};
 ghost use Rattle.pm_outcomes.specs.list.Ranks.{rank_of};
 
-use crate::list::marks::{Mark, Outcome};
+use crate::list::observations::{Observation, Outcome};
 use pm_base::Status;
 
 /// What decides where an outcome stands: returns come first, by their callers and commands, and then devices; those
@@ -41,14 +41,14 @@ fn status_rank(status: Status) -> u8
 pub fn rank_of(outcome: &Outcome) -> Rank
     ensures { result ≡ rank_of outcome.now }
 {
-    match outcome.mark {
-        Mark::Return(returned) => Rank::Return {
+    match outcome.observation {
+        Observation::Return(returned) => Rank::Return {
             caller: returned.caller,
             command: returned.command,
             round: outcome.round,
             code: returned.code,
         },
-        Mark::End(left) => Rank::End {
+        Observation::End(left) => Rank::End {
             device: left.device.0,
             round: outcome.round,
             status: status_rank(left.status),

@@ -2,12 +2,12 @@
 
 ghost use Rattle.std.specs.Prelude.{◌≡◌};
 ghost use Rattle.pm_model.specs.Views.{device, fresh_device};
-ghost use Rattle.pm_explore.specs.state.SpotOf.{views_of};
+ghost use Rattle.pm_explore.specs.state.SnapshotOf.{views_of};
 ghost use Rattle.pm_outcomes.specs.observe.Shows.{end_of};
 
 use crate::list::Left;
 use pm_base::{DevId, Status};
-use pm_explore::state::Spot;
+use pm_explore::state::Snapshot;
 use pm_model::Device;
 
 // A device before any line.
@@ -33,22 +33,23 @@ fn fresh_device() -> Device
     }
 }
 
-/// What a spot has of a device.
-pub fn device_at(spot: &Spot, at: DevId) -> Device
-    ensures { result ≡ device (views_of spot.now) at }
+/// What a snapshot has of a device.
+pub fn device_at(snapshot: &Snapshot, at: DevId) -> Device
+    ensures { result ≡ device (views_of snapshot.now) at }
 {
-    spot.devices
+    snapshot
+        .devices
         .as_slice()
         .get(at.0 as usize)
         .copied()
         .unwrap_or(fresh_device())
 }
 
-/// How a spot has a device.
-pub fn end_of(spot: &Spot, device: DevId) -> Left
-    ensures { result ≡ end_of (views_of spot.now) device }
+/// How a snapshot has a device.
+pub fn end_of(snapshot: &Snapshot, device: DevId) -> Left
+    ensures { result ≡ end_of (views_of snapshot.now) device }
 {
-    let view = device_at(spot, device);
+    let view = device_at(snapshot, device);
     Left {
         device,
         status: view.status,

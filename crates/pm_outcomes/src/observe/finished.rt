@@ -1,12 +1,12 @@
-//! Whether a run that stands at a spot is finished.
+//! Whether a run that stands at a snapshot is finished.
 
 ghost use Rattle.std.specs.Prelude.{◌≡◌, length, map, nat_le, not, slice_index_or, is_none};
 ghost use Rattle.std.specs.List.{enumerate_from, list_all};
 ghost use Rattle.pm_model.specs.Lawful.{is_empty_place, is_finished};
-ghost use Rattle.pm_explore.specs.state.SpotOf.{world_of};
+ghost use Rattle.pm_explore.specs.state.SnapshotOf.{world_of};
 
 use pm_base::{Armed, Pending};
-use pm_explore::state::Spot;
+use pm_explore::state::Snapshot;
 use pm_model::{CallerRow, Plan, Stage};
 
 // Every script has ended, where the callers have called so many commands.
@@ -61,13 +61,13 @@ fn none_armed(timers: &[Option<Armed>]) -> bool
 
 /// Whether a run that stands there is finished: every script has ended, every place is empty, no device is queued and
 /// no timer is armed.
-pub fn is_finished(plan: &Plan, spot: &Spot) -> bool
-    ensures { result ≡ is_finished plan.now (world_of spot.now) }
+pub fn is_finished(plan: &Plan, snapshot: &Snapshot) -> bool
+    ensures { result ≡ is_finished plan.now (world_of snapshot.now) }
 {
-    scripts_ended(plan.callers.as_slice(), &spot.called)
-        && all_empty(&spot.caller_places)
-        && all_empty(&spot.work_places)
-        && all_empty(&spot.timer_places)
-        && none_queued(&spot.pending)
-        && none_armed(&spot.timers)
+    scripts_ended(plan.callers.as_slice(), &snapshot.called)
+        && all_empty(&snapshot.caller_places)
+        && all_empty(&snapshot.work_places)
+        && all_empty(&snapshot.timer_places)
+        && none_queued(&snapshot.pending)
+        && none_armed(&snapshot.timers)
 }

@@ -1,22 +1,22 @@
-//! The graph of the spots of a plan.
+//! The graph of the snapshots of a plan.
 
 ghost use Rattle.std.specs.Prelude.{◌≡◌, map};
-ghost use Rattle.pm_explore.specs.schedule.Spots.{Follows, all_actors, start_spot};
-ghost use Rattle.pm_explore.specs.schedule.Spots.{Spot as Where};
-ghost use Rattle.pm_explore.specs.state.SpotOf.{spot_of};
+ghost use Rattle.pm_explore.specs.schedule.Snapshots.{Follows, all_actors, start_snapshot};
+ghost use Rattle.pm_explore.specs.schedule.Snapshots.{Snapshot as Where};
+ghost use Rattle.pm_explore.specs.state.SnapshotOf.{snapshot_of};
 ghost use Rattle.pm_outcomes.specs.paths.Found.{IsTooFar};
 ghost use Rattle.pm_outcomes.specs.paths.Runs.{IsRunOf};
 
-use crate::paths::next::next_spots;
+use crate::paths::next::next_snapshots;
 use crate::paths::run::Run;
 use pm_base::{ActorId, NoMemory};
 use pm_explore::schedule::Pace;
 use pm_explore::search::{Graph, Stop, Tree, steps_to};
-use pm_explore::state::Spot;
+use pm_explore::state::Snapshot;
 use pm_model::Plan;
 use std::alloc::Global;
 
-/// The spots of a plan, each followed by those to which the lines of a pace lead.
+/// The snapshots of a plan, each followed by those to which the lines of a pace lead.
 #[derive(Drop)]
 pub struct PaceGraph<'a> {
     pub plan: &'a Plan,
@@ -26,16 +26,16 @@ pub struct PaceGraph<'a> {
     ghost all: { actors.now ≡ all_actors plan.now },
 }
 
-impl Graph<Spot> for PaceGraph<'_> {
+impl Graph<Snapshot> for PaceGraph<'_> {
     type Scratch = Run;
 
-    ghost use Rattle.pm_explore.proofs.state.SpotAlike.{same_if, same_then};
+    ghost use Rattle.pm_explore.proofs.state.SnapshotAlike.{same_if, same_then};
 
     ghost Point = { Where };
 
-    ghost point = { λ g n. spot_of n };
+    ghost point = { λ g n. snapshot_of n };
 
-    ghost start = { λ g. start_spot g.plan.now };
+    ghost start = { λ g. start_snapshot g.plan.now };
 
     ghost Follows = { λ g. Follows g.pace g.plan.now };
 
@@ -48,15 +48,15 @@ impl Graph<Spot> for PaceGraph<'_> {
         &self,
         alloc: Global,
         run: &mut Run,
-        tree: &Tree<Spot>,
+        tree: &Tree<Snapshot>,
         at: usize,
         spends: bool,
-    ) -> Result<Vec<Spot>, Stop> {
+    ) -> Result<Vec<Snapshot>, Stop> {
         let steps = steps_to(tree, at);
         if steps >= self.plan.lines as usize {
             return Err(Stop::TooFar);
         }
-        match next_spots(
+        match next_snapshots(
             alloc,
             self.plan,
             self.pace,
@@ -67,7 +67,7 @@ impl Graph<Spot> for PaceGraph<'_> {
             steps as u32,
             spends,
         ) {
-            Ok(spots) => Ok(spots),
+            Ok(snapshots) => Ok(snapshots),
             Err(NoMemory) => Err(Stop::NoMemory),
         }
     }

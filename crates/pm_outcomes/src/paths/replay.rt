@@ -1,24 +1,24 @@
-//! A way through the nodes of a search is gone step by step.
+//! A path through the nodes of a search is gone step by step.
 
 ghost use Rattle.std.specs.Prelude.{◌≡◌, ◌<◌, ◌+◌, Bool};
-ghost use Rattle.pm_explore.specs.schedule.Spots.{Follows};
-ghost use Rattle.pm_explore.specs.state.SpotOf.{spot_of};
-ghost use Rattle.pm_outcomes.specs.paths.Runs.{IsRunOf, spot_of_run};
+ghost use Rattle.pm_explore.specs.schedule.Snapshots.{Follows};
+ghost use Rattle.pm_explore.specs.state.SnapshotOf.{snapshot_of};
+ghost use Rattle.pm_outcomes.specs.paths.Runs.{IsRunOf, snapshot_of_run};
 
 use crate::paths::run::Run;
 use pm_explore::schedule::Pace;
-use pm_explore::state::Spot;
+use pm_explore::state::Snapshot;
 use pm_explore::successors::{lines_are_by_one, times_are_near};
 use pm_laws::counts::sizes;
 use pm_model::Plan;
 
 /// Goes on from one node to one that follows it.
-pub fn follow(run: &mut Run, plan: &Plan, _pace: Pace, node: &Spot)
+pub fn follow(run: &mut Run, plan: &Plan, _pace: Pace, node: &Snapshot)
     requires run { IsRunOf plan.now run.old }
     requires room { run.old.lines < plan.now.lines }
-    requires follows { (spends : Bool) × Follows _pace plan.now spends (spot_of_run run.old) (spot_of node.now) }
+    requires follows { (spends : Bool) × Follows _pace plan.now spends (snapshot_of_run run.old) (snapshot_of node.now) }
     ensures run { IsRunOf plan.now run.new }
-    ensures spot { spot_of_run run.new ≡ spot_of node.now }
+    ensures snapshot { snapshot_of_run run.new ≡ snapshot_of node.now }
     ensures lines { run.new.lines ≡ run.old.lines + 1 }
 {
     sizes();

@@ -2,14 +2,14 @@
 
 ghost use Rattle.std.specs.Prelude.{◌≡◌, ◌<◌, ◌≤◌, ◌+◌, IfOk, IfSome, None, false, true};
 ghost use Rattle.pm_model.specs.declared.event.Line.{Line as ALine};
-ghost use Rattle.pm_explore.specs.schedule.Spots.{MayFollow, code_of, start_spot};
-ghost use Rattle.pm_explore.specs.state.SpotOf.{spot_of};
+ghost use Rattle.pm_explore.specs.schedule.Snapshots.{MayFollow, code_of, start_snapshot};
+ghost use Rattle.pm_explore.specs.state.SnapshotOf.{snapshot_of};
 ghost use Rattle.pm_state.specs.Standing.{IsActor};
-ghost use Rattle.pm_outcomes.specs.paths.Runs.{IsListTo, IsRunOf, StandsAt, Took, spot_of_run};
+ghost use Rattle.pm_outcomes.specs.paths.Runs.{IsListTo, IsRunOf, StandsAt, Took, snapshot_of_run};
 
 use pm_base::{ActorId, NoMemory};
 use pm_book::{all_stand_well, each_line_fits, each_line_is_taken, offered};
-use pm_explore::state::Spot;
+use pm_explore::state::Snapshot;
 use pm_explore::successors::Last;
 use pm_laws::bounds::{due_moments, lines_are_bounded};
 use pm_laws::counts::sizes;
@@ -40,7 +40,7 @@ impl Run {
     /// The run of a plan before any line.
     pub fn start(alloc: Global, plan: &Plan) -> Result<Run, NoMemory>
         ensures run { IfOk result (λ run. IsRunOf plan.now run) }
-        ensures spot { IfOk result (λ run. spot_of_run run ≡ start_spot plan.now) }
+        ensures snapshot { IfOk result (λ run. snapshot_of_run run ≡ start_snapshot plan.now) }
         ensures lines { IfOk result (λ run. run.lines ≡ 0) }
     {
         let state = State::fresh(alloc, plan)?;
@@ -64,7 +64,7 @@ impl Run {
         requires room { self.old.lines < plan.now.lines }
         requires near { time ≤ self.old.last.time + 1000000 }
         ensures took { result ≡ true → Took plan.now self.old self.new actor time }
-        ensures none { result ≡ false → (line : ALine) → line.actor ≡ actor → line.time ≡ time → ¬ MayFollow plan.now (spot_of_run self.old) line }
+        ensures none { result ≡ false → (line : ALine) → line.actor ≡ actor → line.time ≡ time → ¬ MayFollow plan.now (snapshot_of_run self.old) line }
     {
         all_stand_well();
         each_line_is_taken();
@@ -93,10 +93,10 @@ impl Run {
         requires in_range { IsActor plan.now actor }
         requires room { self.now.lines < plan.now.lines }
         requires near { time ≤ self.now.last.time + 1000000 }
-        ensures may { IfSome result (λ line. MayFollow plan.now (spot_of_run self.now) line) }
+        ensures may { IfSome result (λ line. MayFollow plan.now (snapshot_of_run self.now) line) }
         ensures by { IfSome result (λ line. line.actor ≡ actor) }
         ensures at { IfSome result (λ line. line.time ≡ time) }
-        ensures none { result ≡ None → (line : ALine) → line.actor ≡ actor → line.time ≡ time → ¬ MayFollow plan.now (spot_of_run self.now) line }
+        ensures none { result ≡ None → (line : ALine) → line.actor ≡ actor → line.time ≡ time → ¬ MayFollow plan.now (snapshot_of_run self.now) line }
     {
         all_stand_well();
         lines_are_bounded();
@@ -111,20 +111,20 @@ impl Run {
     }
 
     /// Where it stands, as it is kept.
-    pub fn spot(&self, alloc: Global, plan: &Plan) -> Result<Spot, AllocError>
+    pub fn snapshot(&self, alloc: Global, plan: &Plan) -> Result<Snapshot, AllocError>
         requires run { IsRunOf plan.now self.now }
-        ensures { IfOk result (λ spot. spot_of spot ≡ spot_of_run self.now) }
+        ensures { IfOk result (λ snapshot. snapshot_of snapshot ≡ snapshot_of_run self.now) }
     {
         sizes();
         let last = self.last;
-        Spot::of(alloc, plan, &self.state, last.time, last.actor, last.code)
+        Snapshot::of(alloc, plan, &self.state, last.time, last.actor, last.code)
     }
     /// It stands where a lawful list of so many lines does. It takes no memory.
-    pub fn stand_at(&mut self, plan: &Plan, node: &Spot, lines: u32)
+    pub fn stand_at(&mut self, plan: &Plan, node: &Snapshot, lines: u32)
         requires run { IsRunOf plan.now self.old }
-        requires there { IsListTo plan.now (spot_of node.now) lines }
+        requires there { IsListTo plan.now (snapshot_of node.now) lines }
         ensures run { IsRunOf plan.now self.new }
-        ensures stands { StandsAt self.new (spot_of node.now) lines }
+        ensures stands { StandsAt self.new (snapshot_of node.now) lines }
     {
         sizes();
         due_moments();

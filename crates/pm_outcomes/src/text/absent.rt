@@ -1,25 +1,26 @@
-//! The line that says that no order shows what is asked for.
+//! The line that says that no schedule shows what is asked for.
 
 ghost use Rattle.std.specs.Prelude.{◌≡◌, ◌++◌, IfOk, OnOk};
 ghost use Rattle.pm_outcomes.specs.text.Absent.{absent_line, limit_words, subject_text};
 
-use crate::list::Mark;
-use crate::text::pieces::{device_name, push, push_value};
+use crate::list::Observation;
+use crate::text::pieces::push_value;
 use crate::text::reach::Reach;
 use crate::text::seen::{push_caller, push_none};
 use pm_base::NoMemory;
+use pm_linetext::{push, push_device};
 use pm_model::Plan;
 use std::alloc::Global;
 
 // Appends the command that returned, or the device that is left so.
-fn push_subject(text: &mut Vec<u8>, plan: &Plan, mark: &Mark) -> Result<(), NoMemory>
-    ensures { OnOk result (text.new.items ≡ text.old.items ++ subject_text plan.now mark.now) }
+fn push_subject(text: &mut Vec<u8>, plan: &Plan, observation: &Observation) -> Result<(), NoMemory>
+    ensures { OnOk result (text.new.items ≡ text.old.items ++ subject_text plan.now observation.now) }
 {
-    match mark {
-        Mark::Return(returned) => push_caller(text, plan, returned.command, returned.caller),
-        Mark::End(left) => {
+    match observation {
+        Observation::Return(returned) => push_caller(text, plan, returned.command, returned.caller),
+        Observation::End(left) => {
             push(text, b"end ")?;
-            push(text, device_name(plan, left.device.0 as usize))
+            push_device(text, plan, left.device)
         }
     }
 }
@@ -34,20 +35,20 @@ pub fn push_limit(text: &mut Vec<u8>, reach: Reach) -> Result<(), NoMemory>
     }
 }
 
-/// The line that says that a mark is in none of the orders so far as they were gone through.
+/// The line that says that an observation is in none of the schedules so far as they were gone through.
 pub fn absent_text(
     alloc: Global,
     plan: &Plan,
     reach: Reach,
-    mark: &Mark,
+    observation: &Observation,
 ) -> Result<Vec<u8>, NoMemory>
-    ensures { IfOk result (λ text. text.items ≡ absent_line plan.now reach mark.now) }
+    ensures { IfOk result (λ text. text.items ≡ absent_line plan.now reach observation.now) }
 {
     let mut text = Vec::new(alloc);
     push(&mut text, b"order: ")?;
-    push_subject(&mut text, plan, mark)?;
+    push_subject(&mut text, plan, observation)?;
     push(&mut text, b": ")?;
-    push_value(&mut text, mark)?;
+    push_value(&mut text, observation)?;
     push(&mut text, b": ")?;
     push_none(&mut text, reach)?;
     push_limit(&mut text, reach)?;

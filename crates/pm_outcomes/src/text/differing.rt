@@ -1,22 +1,23 @@
-//! Whether anything has more than one mark.
+//! Whether anything has more than one observation.
 
 ghost use Rattle.std.specs.Prelude.{◌≡◌};
 ghost use Rattle.pm_outcomes.specs.text.Texts.{differs, is_alike};
 
-use crate::list::{Mark, Outcome};
+use crate::list::{Observation, Outcome};
 
-/// Whether two marks are of one command, or of one device.
-fn is_alike(one: Mark, other: Mark) -> bool
+/// Whether two observations are of one command, or of one device.
+fn is_alike(one: Observation, other: Observation) -> bool
     ensures { result ≡ is_alike one other }
 {
     match (one, other) {
-        (Mark::Return(r), Mark::Return(s)) => r.caller == s.caller && r.command == s.command,
-        (Mark::End(l), Mark::End(m)) => l.device.0 == m.device.0,
+        (Observation::Return(r), Observation::Return(s)) => r.caller == s.caller
+            && r.command == s.command,
+        (Observation::End(l), Observation::End(m)) => l.device.0 == m.device.0,
         _ => false,
     }
 }
 
-/// Whether a command or a device has more than one mark, in a list in which those of one stand one behind the
+/// Whether a command or a device has more than one observation, in a list in which those of one stand one behind the
 /// other, as in that of `all_outcomes`.
 pub fn differs(outcomes: &[Outcome]) -> bool
     ensures { result ≡ differs outcomes.now }
@@ -24,7 +25,7 @@ pub fn differs(outcomes: &[Outcome]) -> bool
     let mut left = outcomes;
     while let [first, rest @ ..] = left {
         if let [second, ..] = rest
-            && is_alike(first.mark, second.mark)
+            && is_alike(first.observation, second.observation)
         {
             return true;
         }

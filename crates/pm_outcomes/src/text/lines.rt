@@ -1,37 +1,38 @@
 //! The lines of the text.
 
-ghost use Rattle.std.specs.Prelude.{◌≡◌, ◌++◌, IfOk, OnOk, filter};
+ghost use Rattle.std.specs.Prelude.{◌≡◌, ◌++◌, IfOk, OnOk, filter, length};
 ghost use Rattle.std.specs.List.{flat_map, range_with_len};
 ghost use Rattle.pm_outcomes.specs.text.Texts.{call_line, caller_lines, command_line, end_line, is_end, is_left_out, is_return, last_line, reach_text, script_lines};
-ghost use Rattle.std.specs.Prelude.{length};
+ghost use Rattle.pm_model.specs.Spelling.{device_name};
+ghost use Rattle.pm_model.specs.Text.{names_of};
 
-use crate::list::{Mark, Outcome};
-use crate::text::pieces::{device_name, push, push_choices, push_number};
+use crate::list::{Observation, Outcome};
+use crate::text::pieces::push_choices;
 use crate::text::reach::Reach;
 use pm_base::NoMemory;
-use pm_model::{CallerRow, Command, Plan};
-use pm_module::push_command;
+use pm_linetext::{push, push_command, push_number};
+use pm_model::{CallerRow, Command, Named, Plan};
 use std::alloc::{AllocError, Global};
 
-// Whether a mark is a return of this command, from 1, of this caller.
-fn is_return(caller: usize, command: usize, mark: &Mark) -> bool
-    ensures { result ≡ is_return caller command mark.now }
+// Whether an observation is a return of this command, from 1, of this caller.
+fn is_return(caller: usize, command: usize, observation: &Observation) -> bool
+    ensures { result ≡ is_return caller command observation.now }
 {
-    match mark {
-        Mark::Return(returned) => {
+    match observation {
+        Observation::Return(returned) => {
             returned.caller as usize == caller && returned.command as usize == command
         }
-        Mark::End(_) => false,
+        Observation::End(_) => false,
     }
 }
 
-// Whether a mark tells how this device is left.
-fn is_end(device: usize, mark: &Mark) -> bool
-    ensures { result ≡ is_end device mark.now }
+// Whether an observation tells how this device is left.
+fn is_end(device: usize, observation: &Observation) -> bool
+    ensures { result ≡ is_end device observation.now }
 {
-    match mark {
-        Mark::Return(_) => false,
-        Mark::End(left) => left.device.0 as usize == device,
+    match observation {
+        Observation::Return(_) => false,
+        Observation::End(left) => left.device.0 as usize == device,
     }
 }
 
@@ -42,11 +43,11 @@ fn returns_of(
     caller: usize,
     command: usize,
 ) -> Result<Vec<Outcome>, AllocError>
-    ensures { IfOk result (λ out. out.items ≡ filter (λ o. is_return caller command o.mark) outcomes.now) }
+    ensures { IfOk result (λ out. out.items ≡ filter (λ o. is_return caller command o.observation) outcomes.now) }
 {
     let mut out = Vec::new(alloc);
     for outcome in outcomes {
-        if is_return(caller, command, &outcome.mark) {
+        if is_return(caller, command, &outcome.observation) {
             out.push(*outcome)?;
         }
     }
@@ -55,11 +56,11 @@ fn returns_of(
 
 // Those that tell how a device is left.
 fn ends_of(alloc: Global, outcomes: &[Outcome], device: usize) -> Result<Vec<Outcome>, AllocError>
-    ensures { IfOk result (λ out. out.items ≡ filter (λ o. is_end device o.mark) outcomes.now) }
+    ensures { IfOk result (λ out. out.items ≡ filter (λ o. is_end device o.observation) outcomes.now) }
 {
     let mut out = Vec::new(alloc);
     for outcome in outcomes {
-        if is_end(device, &outcome.mark) {
+        if is_end(device, &outcome.observation) {
             out.push(*outcome)?;
         }
     }
@@ -93,7 +94,7 @@ fn push_call(
     }
     push(text, name)?;
     push(text, b" ")?;
-    push_number(text, number)?;
+    push_number(text, number as u64)?;
     push(text, b" ")?;
     push_command(text, plan, command)?;
     push(text, b": ")?;
@@ -148,6 +149,17 @@ pub fn push_callers(
     Ok(())
 }
 
+// The name of the device at a place of the plan, and no bytes for another.
+#[tactic(auto, using(crate::proofs::text::TextLemmas::name_here))]
+fn name_at(plan: &Plan, place: usize) -> &[u8]
+    ensures { result.now ≡ device_name (names_of plan.now) place }
+{
+    match plan.devices.get(place) {
+        Some(row) => row.name().as_slice(),
+        None => &[],
+    }
+}
+
 // Appends the line of a device.
 fn push_end(
     text: &mut Vec<u8>,
@@ -164,7 +176,7 @@ fn push_end(
         return Ok(());
     }
     push(text, b"end ")?;
-    push(text, device_name(plan, device))?;
+    push(text, name_at(plan, device))?;
     push(text, b": ")?;
     push_choices(text, told.as_slice())?;
     push(text, b"\n")
@@ -194,12 +206,12 @@ fn push_reach(text: &mut Vec<u8>, reach: Reach) -> Result<(), NoMemory>
         Reach::All => push(text, b"all "),
         Reach::Within(round) => {
             push(text, b"within ")?;
-            push_number(text, round)?;
+            push_number(text, round as u64)?;
             push(text, b", ")
         }
         Reach::Limit(Some(round)) => {
             push(text, b"limit within ")?;
-            push_number(text, round)?;
+            push_number(text, round as u64)?;
             push(text, b", ")
         }
         Reach::Limit(None) => push(text, b"limit none, "),
@@ -207,10 +219,10 @@ fn push_reach(text: &mut Vec<u8>, reach: Reach) -> Result<(), NoMemory>
 }
 
 /// Appends the last line.
-pub fn push_last(text: &mut Vec<u8>, reach: Reach, spots: usize) -> Result<(), NoMemory>
-    ensures { OnOk result (text.new.items ≡ text.old.items ++ last_line reach spots) }
+pub fn push_last(text: &mut Vec<u8>, reach: Reach, snapshots: usize) -> Result<(), NoMemory>
+    ensures { OnOk result (text.new.items ≡ text.old.items ++ last_line reach snapshots) }
 {
     push_reach(text, reach)?;
-    push_number(text, spots)?;
-    push(text, b" spots\n")
+    push_number(text, snapshots as u64)?;
+    push(text, b" states\n")
 }

@@ -1,48 +1,18 @@
-//! The pieces of the text, each of which is appended to what stands before it.
+//! What an observation tells, appended to what stands before it.
 
 ghost use Rattle.std.specs.Prelude.{◌≡◌, ◌++◌, OnOk, decimal};
-ghost use Rattle.std.specs.Fmt.{signed_decimal};
 ghost use Rattle.std.specs.List.{flat_map};
-ghost use Rattle.pm_model.specs.Spelling.{device_name};
-ghost use Rattle.pm_model.specs.Text.{names_of};
 ghost use Rattle.pm_outcomes.specs.text.Texts.{after_text, choices_text, further_text, left_text, outcome_text, status_text, value_text};
 
-use crate::list::{Left, Mark, Outcome};
-use itoa::Buffer;
+use crate::list::{Left, Observation, Outcome};
 use pm_base::{NoMemory, Status};
-use pm_model::{Named, Plan};
+use pm_linetext::{push, push_signed};
 
-/// Appends bytes.
-pub fn push(text: &mut Vec<u8>, piece: &[u8]) -> Result<(), NoMemory>
-    ensures { OnOk result (text.new.items ≡ text.old.items ++ piece.now) }
-{
-    text.extend_from_slice(piece)?;
-    Ok(())
-}
-
-/// Appends a number in decimal.
+/// Appends a count in decimal.
 pub fn push_number(text: &mut Vec<u8>, number: usize) -> Result<(), NoMemory>
     ensures { OnOk result (text.new.items ≡ text.old.items ++ decimal number) }
 {
-    push(text, Buffer::new().format(number).as_bytes())
-}
-
-/// Appends a code in decimal, with a minus where it is below 0.
-pub fn push_code(text: &mut Vec<u8>, code: i64) -> Result<(), NoMemory>
-    ensures { OnOk result (text.new.items ≡ text.old.items ++ signed_decimal code) }
-{
-    push(text, Buffer::new().format(code).as_bytes())
-}
-
-/// The name of a device of the plan, and no bytes for another.
-#[tactic(auto, using(crate::proofs::text::TextLemmas::name_here))]
-pub fn device_name(plan: &Plan, place: usize) -> &[u8]
-    ensures { result.now ≡ device_name (names_of plan.now) place }
-{
-    match plan.devices.get(place) {
-        Some(row) => row.name().as_slice(),
-        None => &[],
-    }
+    pm_linetext::push_number(text, number as u64)
 }
 
 /// The word of a status.
@@ -65,20 +35,20 @@ fn push_left(text: &mut Vec<u8>, left: &Left) -> Result<(), NoMemory>
     push(text, b" usage ")?;
     push_number(text, left.usage as usize)?;
     push(text, b" error ")?;
-    push_code(text, i64::from(left.error))
+    push_signed(text, i64::from(left.error))
 }
 
-/// Appends what a mark tells.
-pub fn push_value(text: &mut Vec<u8>, mark: &Mark) -> Result<(), NoMemory>
-    ensures { OnOk result (text.new.items ≡ text.old.items ++ value_text mark.now) }
+/// Appends what an observation tells.
+pub fn push_value(text: &mut Vec<u8>, observation: &Observation) -> Result<(), NoMemory>
+    ensures { OnOk result (text.new.items ≡ text.old.items ++ value_text observation.now) }
 {
-    match mark {
-        Mark::Return(returned) => push_code(text, i64::from(returned.code)),
-        Mark::End(left) => push_left(text, left),
+    match observation {
+        Observation::Return(returned) => push_signed(text, i64::from(returned.code)),
+        Observation::End(left) => push_left(text, left),
     }
 }
 
-/// Appends a number of disturbances, where it isn't 0.
+/// Appends a number of preemptions, where it isn't 0.
 pub fn push_after(text: &mut Vec<u8>, round: usize) -> Result<(), NoMemory>
     ensures { OnOk result (text.new.items ≡ text.old.items ++ after_text round) }
 {
@@ -93,7 +63,7 @@ pub fn push_after(text: &mut Vec<u8>, round: usize) -> Result<(), NoMemory>
 fn push_outcome(text: &mut Vec<u8>, outcome: &Outcome) -> Result<(), NoMemory>
     ensures { OnOk result (text.new.items ≡ text.old.items ++ outcome_text outcome.now) }
 {
-    push_value(text, &outcome.mark)?;
+    push_value(text, &outcome.observation)?;
     push_after(text, outcome.round)
 }
 

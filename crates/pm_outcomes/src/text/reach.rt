@@ -8,11 +8,11 @@ use pm_explore::search::Ended;
 /// How far a list of outcomes is exact.
 #[derive(Clone, Copy, PartialEq, Eq)]
 pub enum Reach {
-    /// It has what any order shows.
+    /// It has what any schedule shows.
     All,
-    /// It has what orders of at most so many disturbances show, as many as were asked for.
+    /// It has what schedules of at most so many preemptions show, as many as were asked for.
     Within(usize),
-    /// A limit came first: it has what orders of at most so many disturbances show, if of any.
+    /// A limit came first: it has what schedules of at most so many preemptions show, if of any.
     Limit(Option<usize>),
 }
 

@@ -2,30 +2,39 @@
 
 ghost use Rattle.std.specs.Prelude.{◌≡◌, ◌++◌, [], OnOk, option_map, slice_get};
 ghost use Rattle.std.specs.Option.{option_map_or};
-ghost use Rattle.pm_outcomes.specs.text.Seen.{called_text, command_there, none_within, none_words, seen_line, tell_text};
+ghost use Rattle.pm_outcomes.specs.text.Seen.{called_text, command_there, few_text, none_within, none_words, seen_line, tell_text};
 
 use crate::kernel_log::Tell;
-use crate::text::pieces::{device_name, push, push_code, push_number, status_text};
+use crate::text::pieces::status_text;
 use crate::text::reach::Reach;
 use pm_base::NoMemory;
+use pm_linetext::{push, push_command, push_device, push_number, push_signed};
 use pm_model::{CallerRow, Plan};
-use pm_module::push_command;
 
-// Appends that no order of at most so many disturbances shows it.
+// Appends of how many preemptions at most.
+#[tactic(auto, unfolding(crate::specs::text::Seen::few_text))]
+fn push_few(text: &mut Vec<u8>, count: usize) -> Result<(), NoMemory>
+    ensures { OnOk result (text.new.items ≡ text.old.items ++ few_text count) }
+{
+    push(text, b" of at most ")?;
+    push_number(text, count as u64)?;
+    push(text, b" preemptions")
+}
+
+// Appends that no schedule of at most so many preemptions shows it.
 fn push_none_within(text: &mut Vec<u8>, round: usize) -> Result<(), NoMemory>
     ensures { OnOk result (text.new.items ≡ text.old.items ++ none_within round) }
 {
-    push(text, b"in no order of at most ")?;
-    push_number(text, round)?;
-    push(text, b" disturbances")
+    push(text, b"in no schedule")?;
+    push_few(text, round)
 }
 
-/// Appends of which orders none shows it.
+/// Appends of which schedules none shows it.
 pub fn push_none(text: &mut Vec<u8>, reach: Reach) -> Result<(), NoMemory>
     ensures { OnOk result (text.new.items ≡ text.old.items ++ none_words reach) }
 {
     match reach {
-        Reach::All => push(text, b"in no order"),
+        Reach::All => push(text, b"in no schedule"),
         Reach::Within(round) => push_none_within(text, round),
         Reach::Limit(Some(round)) => push_none_within(text, round),
         Reach::Limit(None) => push(text, b"no round is complete"),
@@ -58,7 +67,7 @@ fn push_called(
 {
     push(text, row.name.as_slice())?;
     push(text, b" ")?;
-    push_number(text, number as usize)?;
+    push_number(text, number as u64)?;
     push(text, b" ")?;
     push_command_at(text, plan, row, (number as usize).saturating_sub(1))
 }
@@ -90,23 +99,23 @@ fn push_tell(text: &mut Vec<u8>, plan: &Plan, tell: &Tell) -> Result<(), NoMemor
         } => {
             push_caller(text, plan, *command, *caller)?;
             push(text, b" answered ")?;
-            push_code(text, i64::from(*code))
+            push_signed(text, i64::from(*code))
         }
         Tell::End {
             device,
             status,
             usage,
         } => {
-            push(text, device_name(plan, device.0 as usize))?;
+            push_device(text, plan, *device)?;
             push(text, b" ended ")?;
             push(text, status_text(*status))?;
             push(text, b" usage ")?;
-            push_code(text, *usage)
+            push_signed(text, *usage)
         }
     }
 }
 
-/// Appends the line that says of what was told the first that none of the orders shows, if there is one.
+/// Appends the line that says of what was told the first that none of the schedules shows, if there is one.
 pub fn push_seen(
     text: &mut Vec<u8>,
     plan: &Plan,
@@ -116,7 +125,7 @@ pub fn push_seen(
     ensures { OnOk result (text.new.items ≡ text.old.items ++ seen_line plan.now reach (option_map (λ t. t.now) unlisted.entry)) }
 {
     match unlisted {
-        None => push(text, b"seen: every mark is listed\n"),
+        None => push(text, b"seen: every observation is listed\n"),
         Some(tell) => {
             push(text, b"seen: ")?;
             push_tell(text, plan, tell)?;

@@ -2,9 +2,9 @@
 
 ghost use Rattle.std.specs.Prelude.{◌≡◌, ◌<◌, ◌^◌};
 ghost use Rattle.pm_lab_words.specs.Request.{sought_in};
-ghost use Rattle.pm_outcomes.specs.wanted.Sought.{mark_sought, of_command, of_named};
+ghost use Rattle.pm_outcomes.specs.wanted.Sought.{observation_sought, of_command, of_named};
 
-use crate::list::{Left, Mark, Returned};
+use crate::list::{Left, Observation, Returned};
 use pm_base::DevId;
 use pm_lab_words::Sought;
 use pm_model::{CallerRow, Plan};
@@ -21,12 +21,17 @@ pub enum Missing {
 }
 
 // The return of a command of the caller at a place.
-fn of_command(caller: usize, number: u32, code: i32, row: &CallerRow) -> Result<Mark, Missing>
+fn of_command(
+    caller: usize,
+    number: u32,
+    code: i32,
+    row: &CallerRow,
+) -> Result<Observation, Missing>
     requires { caller < 2 ^ 32 }
     ensures { result ≡ of_command caller number code row.now }
 {
     if number >= 1 && number as usize <= row.script.as_slice().len() {
-        Ok(Mark::Return(Returned {
+        Ok(Observation::Return(Returned {
             caller: caller as u32,
             command: number,
             code,
@@ -37,7 +42,7 @@ fn of_command(caller: usize, number: u32, code: i32, row: &CallerRow) -> Result<
 }
 
 // The return of a command of a caller.
-fn of_caller(plan: &Plan, number: u32, code: i32, name: &str) -> Result<Mark, Missing>
+fn of_caller(plan: &Plan, number: u32, code: i32, name: &str) -> Result<Observation, Missing>
     ensures { result ≡ of_named plan.now number code name.now }
 {
     let Some(caller) = plan.callers.find(name.as_bytes()) else {
@@ -49,9 +54,9 @@ fn of_caller(plan: &Plan, number: u32, code: i32, name: &str) -> Result<Mark, Mi
     }
 }
 
-/// The mark that is asked for, or what of it the plan doesn't have.
-pub fn mark_sought(plan: &Plan, asked: &Sought<'_>) -> Result<Mark, Missing>
-    ensures { result ≡ mark_sought plan.now (sought_in asked.now) }
+/// The observation that is asked for, or what of it the plan doesn't have.
+pub fn observation_sought(plan: &Plan, asked: &Sought<'_>) -> Result<Observation, Missing>
+    ensures { result ≡ observation_sought plan.now (sought_in asked.now) }
 {
     match asked {
         Sought::Return {
@@ -65,7 +70,7 @@ pub fn mark_sought(plan: &Plan, asked: &Sought<'_>) -> Result<Mark, Missing>
             usage,
             error,
         } => match plan.devices.find(device.as_bytes()) {
-            Some(place) => Ok(Mark::End(Left {
+            Some(place) => Ok(Observation::End(Left {
                 device: DevId(place as u32),
                 status: *status,
                 usage: *usage,

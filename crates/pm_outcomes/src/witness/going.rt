@@ -5,7 +5,7 @@ ghost use Rattle.pm_model.specs.Lawful.{IsLawful};
 ghost use Rattle.pm_model.specs.declared.plan.Plan.{Plan as APlan};
 ghost use Rattle.pm_model.specs.History.{History};
 ghost use Rattle.pm_explore.specs.declared.schedule.Pace.{Pace};
-ghost use Rattle.pm_explore.specs.schedule.Orders.{IsOrder};
+ghost use Rattle.pm_explore.specs.schedule.Schedules.{IsSchedule};
 ghost use Rattle.pm_outcomes.specs.witness.Going.{GoesOnFrom, IsNear};
 
 use pm_base::NoMemory;
@@ -25,9 +25,9 @@ pub struct Gone {
     pub end: End,
 }
 
-/// The lines of a lawful order, at whatever pace, come near one another.
-pub fn orders_are_near()
-    ensures { (pace : Pace) (plan : APlan) (h : History) → IsOrder pace plan h → IsLawful plan h → IsNear h }
+/// The lines of a lawful schedule, at whatever pace, come near one another.
+pub fn schedules_are_near()
+    ensures { (pace : Pace) (plan : APlan) (h : History) → IsSchedule pace plan h → IsLawful plan h → IsNear h }
 {
     times_are_near();
 }

@@ -3,9 +3,10 @@
 ghost use Rattle.std.specs.Prelude.{◌≡◌, ◌++◌, OnOk};
 ghost use Rattle.pm_picture.specs.events.Events.{bar_text, count_text, instant_text, named, process_text, thread_text};
 
-use crate::events::pieces::{push, push_field};
+use crate::events::pieces::push_field;
 use crate::events::plain::push_plain;
 use pm_base::NoMemory;
+use pm_linetext::push;
 
 /// A thread, by its number and that of its process.
 #[derive(Clone, Copy, PartialEq, Eq)]

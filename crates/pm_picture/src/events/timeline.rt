@@ -6,8 +6,8 @@ ghost use Rattle.pm_picture.specs.events.Events.{IsTimeline, bar_text, begin_tex
 use crate::events::events::{
     Bar, Thread, push_bar, push_count, push_instant, push_process, push_thread,
 };
-use crate::events::pieces::push;
 use pm_base::NoMemory;
+use pm_linetext::push;
 use std::alloc::Global;
 use std::marker::Model;
 

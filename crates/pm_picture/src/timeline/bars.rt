@@ -1,12 +1,11 @@
 //! What each piece tells.
 
 use crate::timeline::writer::Writer;
-use itoa::Buffer;
 use pm_base::{ActorId, Cb, DevId, NoMemory, Status};
-use pm_find::text::{push, push_code};
+use pm_find::text::push_code;
 use pm_lanes::{Lane, Piece, Shown};
+use pm_linetext::{push, push_command, push_number};
 use pm_model::{Command, Helper};
-use pm_module::push_command;
 
 // The word of a status.
 fn status_word(status: Status) -> &'static [u8] {
@@ -69,7 +68,7 @@ fn say_callback(writer: &mut Writer<'_>, place: usize, cb: Cb) -> Result<(), NoM
 // Says for which moment a timer is armed.
 fn say_deadline(writer: &mut Writer<'_>, deadline: u64) -> Result<(), NoMemory> {
     writer.say(b"armed for ")?;
-    push(&mut writer.words, Buffer::new().format(deadline).as_bytes())?;
+    push_number(&mut writer.words, deadline)?;
     push(&mut writer.words, b" ms")
 }
 

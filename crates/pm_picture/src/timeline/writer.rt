@@ -8,8 +8,8 @@ use crate::timeline::threads::{process_of, thread_of, thread_word};
 use crate::timeline::times::Times;
 use indexmap::IndexMap;
 use pm_base::{ActorId, DevId, NoMemory};
-use pm_find::text::push;
 use pm_lanes::Lane;
+use pm_linetext::push;
 use pm_sheet::scene::Run;
 use std::alloc::Global;
 

@@ -4,6 +4,8 @@ use Rattle.std.specs.List.{list_all}
 use Rattle.std.specs.Str.{bytes_eq}
 use Rattle.toml.specs.Data.{Data, array, as_array, as_bool, as_integer, as_str}
 use Rattle.pm_planread.specs.tree.Tree.{items_list}
+use Rattle.pm_planread.specs.declared.tree.keys.Format.{Format}
+use Rattle.pm_planread.specs.declared.tree.keys.Format.TheVariants as format
 use Rattle.pm_planread.specs.declared.tree.keys.Kind.{Kind}
 use Rattle.pm_planread.specs.declared.tree.keys.Kind.TheVariants.{Text, Number, Switch, Numbers, Texts, Tables}
 use Rattle.pm_planread.specs.declared.tree.place.Section.{Section}
@@ -47,16 +49,34 @@ abbrev pub is_tables_key : Section → List ℕ → Bool
 is_tables_key Top key = bytes_eq key (codes "domain") || bytes_eq key (codes "device") || bytes_eq key (codes "link") || bytes_eq key (codes "caller")
 is_tables_key _ key = false
 
+-- what a driver's tables have beside
+abbrev pub caller_kind : List ℕ → Option Kind
+caller_kind key =
+    if bytes_eq key (codes "after") || bytes_eq key (codes "adopts") then Some Texts
+    else if bytes_eq key (codes "role") || bytes_eq key (codes "binds") || bytes_eq key (codes "bus") then Some Text
+    else if bytes_eq key (codes "times") then Some Number
+    else if bytes_eq key (codes "irq") then Some Switch
+    else None
+
+abbrev pub own_kind : Section → List ℕ → Option Kind
+own_kind Device key = if bytes_eq key (codes "fails") then Some Texts else None
+own_kind Caller key = caller_kind key
+own_kind _ key = None
+
+abbrev pub more_kind : Format → Section → List ℕ → Option Kind
+more_kind format.Plan section key = None
+more_kind format.Driver section key = own_kind section key
+
 -- the kind of a key's value, where a table of the section has the key
-unfoldable pub kind_of : Section → List ℕ → Option Kind
-kind_of section key =
+unfoldable pub kind_of : Format → Section → List ℕ → Option Kind
+kind_of f section key =
     if is_text_key section key then Some Text
     else if is_number_key section key then Some Number
     else if is_switch_key section key then Some Switch
     else if is_numbers_key section key then Some Numbers
     else if is_texts_key section key then Some Texts
     else if is_tables_key section key then Some Tables
-    else None
+    else more_kind f section key
 
 -- whether a value is of the kind. The elements of an array of tables are looked at apart.
 abbrev pub is_of_kind : Kind → Data → Bool

@@ -5,7 +5,7 @@ ghost use Rattle.std.specs.List.{list_all};
 ghost use Rattle.std.specs.Str.{bytes_eq};
 ghost use Rattle.toml.specs.Data.{as_integer, as_str};
 ghost use Rattle.toml.specs.View.{view};
-ghost use Rattle.pm_planread.specs.tree.Keys.{is_number_key, is_numbers_key, is_of_kind, is_switch_key, is_tables_key, is_text_key, is_texts_key, kind_of};
+ghost use Rattle.pm_planread.specs.tree.Keys.{is_number_key, is_numbers_key, is_of_kind, is_switch_key, is_tables_key, is_text_key, is_texts_key, caller_kind, kind_of, own_kind};
 
 use crate::tree::place::Section;
 use toml::Value;
@@ -27,10 +27,19 @@ pub enum Kind {
     Tables,
 }
 
+/// What kind of file is read.
+#[derive(Clone, Copy)]
+pub enum Format {
+    /// A plan.
+    Plan,
+    /// A driver: a plan whose tables have more keys.
+    Driver,
+}
+
 /// The kind of a key's value, where a table of the section has the key.
 #[tactic(auto, unfolding(crate::specs::tree::Keys::kind_of))]
-pub fn kind_of(section: Section, key: &str) -> Option<Kind>
-    ensures { result ≡ kind_of section key.now }
+pub fn kind_of(format: Format, section: Section, key: &str) -> Option<Kind>
+    ensures { result ≡ kind_of format section key.now }
 {
     if is_text_key(section, key) {
         Some(Kind::Text)
@@ -44,6 +53,36 @@ pub fn kind_of(section: Section, key: &str) -> Option<Kind>
         Some(Kind::Texts)
     } else if is_tables_key(section, key) {
         Some(Kind::Tables)
+    } else {
+        match format {
+            Format::Plan => None,
+            Format::Driver => own_kind(section, key),
+        }
+    }
+}
+
+/// The kind of the value of a key that a driver's tables have and a plan's don't.
+fn own_kind(section: Section, key: &str) -> Option<Kind>
+    ensures { result ≡ own_kind section key.now }
+{
+    match section {
+        Section::Device if is_word(key, "fails") => Some(Kind::Texts),
+        Section::Caller => caller_kind(key),
+        _ => None,
+    }
+}
+
+fn caller_kind(key: &str) -> Option<Kind>
+    ensures { result ≡ caller_kind key.now }
+{
+    if is_word(key, "after") || is_word(key, "adopts") {
+        Some(Kind::Texts)
+    } else if is_word(key, "role") || is_word(key, "binds") || is_word(key, "bus") {
+        Some(Kind::Text)
+    } else if is_word(key, "times") {
+        Some(Kind::Number)
+    } else if is_word(key, "irq") {
+        Some(Kind::Switch)
     } else {
         None
     }

@@ -210,7 +210,7 @@ fn copied(alloc: Global, text: Text) -> Result<Name, AllocError>
 }
 
 /// The string under a key.
-fn text_at<'a>(entries: &[Entry<'a>], key: &str) -> Option<Text<'a>>
+pub fn text_at<'a>(entries: &[Entry<'a>], key: &str) -> Option<Text<'a>>
     ensures { result ≡ text_at key.now (entries_view entries.now) }
 {
     match value_in(entries, key) {
@@ -240,7 +240,7 @@ fn text_or_empty<'a>(entries: &[Entry<'a>], key: &str) -> Text<'a>
 }
 
 /// The integer under a key.
-fn number_at(entries: &[Entry], key: &str) -> Option<i64>
+pub fn number_at(entries: &[Entry], key: &str) -> Option<i64>
     ensures { result ≡ number_at key.now (entries_view entries.now) }
 {
     match value_in(entries, key) {
@@ -250,7 +250,7 @@ fn number_at(entries: &[Entry], key: &str) -> Option<i64>
 }
 
 /// The boolean under a key.
-fn switch_at(entries: &[Entry], key: &str) -> Option<bool>
+pub fn switch_at(entries: &[Entry], key: &str) -> Option<bool>
     ensures { result ≡ switch_at key.now (entries_view entries.now) }
 {
     match value_in(entries, key) {
@@ -283,7 +283,7 @@ fn numbers_in(alloc: Global, values: &[Value]) -> Result<Vec<i64>, AllocError>
 }
 
 /// The strings of an array.
-fn texts_in<'a>(alloc: Global, values: &'a [Value]) -> Result<Vec<Text<'a>>, AllocError>
+pub fn texts_in<'a>(alloc: Global, values: &'a [Value]) -> Result<Vec<Text<'a>>, AllocError>
     ensures { IfOk result (λ texts. texts.items ≡ texts_in (map view values.now)) }
 {
     let mut texts = Vec::with_capacity(alloc, values.len())?;

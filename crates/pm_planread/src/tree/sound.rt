@@ -10,7 +10,7 @@ ghost use Rattle.pm_planread.specs.tree.Sound.{is_wrong_entry};
 ghost use Rattle.pm_planread.specs.tree.Tree.{member_list};
 
 use crate::tree::key_faults::lacks_key;
-use crate::tree::keys::{is_of_kind, kind_of};
+use crate::tree::keys::{Format, is_of_kind, kind_of};
 use crate::tree::place::Section;
 use crate::tree::tree::list_at;
 use toml::{Table, Value};
@@ -18,30 +18,30 @@ use toml::{Table, Value};
 /// Whether no key and no value of a tree is wrong. It looks at each once, where `key_fault` and
 /// `kind_fault` each do; they say what is wrong.
 #[tactic(auto, unfolding(crate::specs::tree::KeyFault::key_fault, crate::specs::tree::KindFault::kind_fault))]
-pub fn is_sound(tree: &Table) -> bool
-    ensures keys { IsTrue result → key_fault (table_view tree.now) ≡ None }
-    ensures kinds { IsTrue result → kind_fault (table_view tree.now) ≡ None }
+pub fn is_sound(format: Format, tree: &Table) -> bool
+    ensures keys { IsTrue result → key_fault format (table_view tree.now) ≡ None }
+    ensures kinds { IsTrue result → kind_fault format (table_view tree.now) ≡ None }
 {
-    is_sound_table(Section::Top, tree)
-        && is_sound_section(Section::Domain, tree)
-        && is_sound_section(Section::Device, tree)
-        && is_sound_section(Section::Link, tree)
-        && is_sound_section(Section::Caller, tree)
+    is_sound_table(format, Section::Top, tree)
+        && is_sound_section(format, Section::Domain, tree)
+        && is_sound_section(format, Section::Device, tree)
+        && is_sound_section(format, Section::Link, tree)
+        && is_sound_section(format, Section::Caller, tree)
 }
 
-fn is_sound_section(section: Section, tree: &Table) -> bool
-    ensures keys { IsTrue result → section_key_fault section (table_view tree.now) ≡ None }
-    ensures kinds { IsTrue result → section_kind_fault section (table_view tree.now) ≡ None }
+fn is_sound_section(format: Format, section: Section, tree: &Table) -> bool
+    ensures keys { IsTrue result → section_key_fault format section (table_view tree.now) ≡ None }
+    ensures kinds { IsTrue result → section_kind_fault format section (table_view tree.now) ≡ None }
 {
-    are_sound(section, list_at(tree, section.word()))
+    are_sound(format, section, list_at(tree, section.word()))
 }
 
-fn are_sound(section: Section, items: &[Value]) -> bool
-    ensures keys { IsTrue result → first_fault (item_key_fault section) 0 (map view items.now) ≡ None }
-    ensures kinds { IsTrue result → first_fault (item_kind_fault section) 0 (map view items.now) ≡ None }
+fn are_sound(format: Format, section: Section, items: &[Value]) -> bool
+    ensures keys { IsTrue result → first_fault (item_key_fault format section) 0 (map view items.now) ≡ None }
+    ensures kinds { IsTrue result → first_fault (item_kind_fault format section) 0 (map view items.now) ≡ None }
 {
     for (i, item) in items.iter().enumerate() {
-        if !is_sound_item(section, i, item) {
+        if !is_sound_item(format, section, i, item) {
             return false;
         }
     }
@@ -49,30 +49,30 @@ fn are_sound(section: Section, items: &[Value]) -> bool
 }
 
 /// Whether nothing is wrong with an item, which for that must be a table.
-fn is_sound_item(section: Section, i: usize, item: &Value) -> bool
-    ensures keys { IsTrue result → item_key_fault section i (view item.now) ≡ None }
-    ensures kinds { IsTrue result → item_kind_fault section i (view item.now) ≡ None }
+fn is_sound_item(format: Format, section: Section, i: usize, item: &Value) -> bool
+    ensures keys { IsTrue result → item_key_fault format section i (view item.now) ≡ None }
+    ensures kinds { IsTrue result → item_kind_fault format section i (view item.now) ≡ None }
 {
     match item.as_table() {
-        Some(table) => is_sound_table(section, table),
+        Some(table) => is_sound_table(format, section, table),
         None => false,
     }
 }
 
 #[tactic(auto, using(crate::proofs::tree::SoundLemmas::no_wrong_key, crate::proofs::tree::SoundLemmas::no_unknown_key, crate::proofs::tree::SoundLemmas::no_wrong_kind))]
-fn is_sound_table(section: Section, table: &Table) -> bool
-    ensures unknown { IsTrue result → unknown_key section (table_view table.now) ≡ None }
-    ensures keys { IsTrue result → wrong_key section (table_view table.now) ≡ None }
-    ensures kinds { IsTrue result → wrong_kind section (table_view table.now) ≡ None }
+fn is_sound_table(format: Format, section: Section, table: &Table) -> bool
+    ensures unknown { IsTrue result → unknown_key format section (table_view table.now) ≡ None }
+    ensures keys { IsTrue result → wrong_key format section (table_view table.now) ≡ None }
+    ensures kinds { IsTrue result → wrong_kind format section (table_view table.now) ≡ None }
 {
-    has_sound_entries(section, table) && !lacks_key(section, table)
+    has_sound_entries(format, section, table) && !lacks_key(section, table)
 }
 
-fn has_sound_entries(section: Section, table: &Table) -> bool
-    ensures { IsTrue result → list_any (is_wrong_entry section) (member_list (table_view table.now)) ≡ false }
+fn has_sound_entries(format: Format, section: Section, table: &Table) -> bool
+    ensures { IsTrue result → list_any (is_wrong_entry format section) (member_list (table_view table.now)) ≡ false }
 {
     for (key, value) in table.iter() {
-        if is_wrong_entry(section, key.as_str(), value) {
+        if is_wrong_entry(format, section, key.as_str(), value) {
             return false;
         }
     }
@@ -81,10 +81,10 @@ fn has_sound_entries(section: Section, table: &Table) -> bool
 
 /// Whether tables of the section don't have the key, or have a value of another kind under it.
 #[tactic(auto, unfolding(crate::specs::tree::KindFault::fits_key))]
-fn is_wrong_entry(section: Section, key: &str, value: &Value) -> bool
-    ensures { result ≡ is_wrong_entry section (key.now, view value.now) }
+fn is_wrong_entry(format: Format, section: Section, key: &str, value: &Value) -> bool
+    ensures { result ≡ is_wrong_entry format section (key.now, view value.now) }
 {
-    match kind_of(section, key) {
+    match kind_of(format, section, key) {
         Some(kind) => !is_of_kind(kind, value),
         None => true,
     }

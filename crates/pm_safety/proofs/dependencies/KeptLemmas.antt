@@ -32,7 +32,7 @@ use Rattle.pm_safety.specs.dependencies.Grouped.{AreGroups, belongs, places_of}
 use Rattle.pm_safety.specs.dependencies.Kept.{IsKept, Kept, consumers, excuses_by, suppliers}
 use Rattle.pm_safety.specs.dependencies.Looked.{broken_by, children_of, is_child, is_from, is_to, links_from, links_to}
 use Rattle.pm_safety.specs.dependencies.Past.{ArePasts, before_of, no_past, parent_excuse_by, past_after, past_at, past_of, supplier_excuse_by}
-use Rattle.pm_safety.specs.dependencies.Replayed.{IsAfter, Replayed}
+use Rattle.pm_book.specs.Replayed.{IsAfter, Replayed}
 use Rattle.pm_safety.specs.dependencies.Told.{broken_near, domain_bond, parent_bond, parent_bonds, supplier_bond, supplier_bonds}
 use Rattle.pm_safety.specs.dependencies.Turning.{turned_by}
 use Rattle.pm_safety.proofs.dependencies.Breaking.{at, link_test, parent_less, parent_test}

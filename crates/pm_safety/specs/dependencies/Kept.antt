@@ -6,7 +6,7 @@ use Rattle.pm_model.specs.History.{History}
 use Rattle.pm_safety.specs.declared.dependencies.past.Past.{Past}
 use Rattle.pm_safety.specs.dependencies.Grouped.{AreGroups}
 use Rattle.pm_safety.specs.dependencies.Past.{ArePasts, parent_excuse_by, past_at, supplier_excuse_by}
-use Rattle.pm_safety.specs.dependencies.Replayed.{IsAfter, Replayed}
+use Rattle.pm_book.specs.Replayed.{IsAfter, Replayed}
 use Rattle.pm_safety.specs.dependencies.Told.{Excuses}
 
 -- where the run stands, the past of each device, and of each device its children, its links as a consumer and those as a supplier

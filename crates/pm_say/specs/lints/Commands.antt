@@ -9,7 +9,7 @@ use Rattle.pm_model.specs.PlanRows.{domain, domains_of, is_kept_on}
 use Rattle.pm_say.specs.declared.lints.helpers.Deed.TheVariants as deed
 use Rattle.pm_say.specs.declared.lints.helpers.Move.{Move}
 use Rattle.pm_say.specs.declared.lints.helpers.Move.TheVariants as move
-use Rattle.pm_say.specs.lints.Helpers.{is_move, is_put_autosuspend, is_set_active, is_set_delay, moves, resumes}
+use Rattle.pm_say.specs.lints.Helpers.{is_disabling, is_move, is_put_autosuspend, is_set_active, is_set_delay, moves, resumes}
 use Rattle.pm_say.specs.lints.Scripts.{is_done}
 
 -- set_autosuspend_delay of a device without a use_autosuspend of it in any script, or put_autosuspend of one with neither
@@ -17,6 +17,11 @@ abbrev pub lacks_autosuspend : Plan → Command → Bool
 lacks_autosuspend plan c =
     not (is_done plan deed.UsesAutosuspend c.dev.0)
     && (is_set_delay c.helper || (is_put_autosuspend c.helper && not (is_done plan deed.SetsDelay c.dev.0)))
+
+-- disable of a device that some script lets use autosuspend, and none stops from it: the setting outlives the driver (runtime_pm.rst, section 9)
+abbrev pub keeps_autosuspend : Plan → Command → Bool
+keeps_autosuspend plan c =
+    is_disabling c.helper && is_done plan deed.UsesAutosuspend c.dev.0 && not (is_done plan deed.StopsAutosuspend c.dev.0)
 
 -- a command asks for a resume of a device in domain o or below it, which switches o on
 abbrev pub switches_on : Plan → ℕ → Command → Bool

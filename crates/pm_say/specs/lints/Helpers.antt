@@ -23,6 +23,14 @@ abbrev pub is_use_autosuspend : Helper → Bool
 is_use_autosuspend helper.UseAutosuspend = true
 is_use_autosuspend _ = false
 
+abbrev pub is_dont_use_autosuspend : Helper → Bool
+is_dont_use_autosuspend helper.DontUseAutosuspend = true
+is_dont_use_autosuspend _ = false
+
+abbrev pub is_disabling : Helper → Bool
+is_disabling helper.Disable = true
+is_disabling _ = false
+
 abbrev pub is_set_delay : Helper → Bool
 is_set_delay helper.SetAutosuspendDelay = true
 is_set_delay _ = false
@@ -76,6 +84,7 @@ does deed.Supplies h = is_of_link h
 does deed.Enables h = is_enable h
 does deed.UsesAutosuspend h = is_use_autosuspend h
 does deed.SetsDelay h = is_set_delay h
+does deed.StopsAutosuspend h = is_dont_use_autosuspend h
 
 -- the place of the device that is meant: the supplier of a link's helper, or the device
 abbrev pub meant : Deed → Command → ℕ

@@ -28,4 +28,5 @@ pub record IsMarked (plan : Plan) (marks : Marks) : Type 0 where
   pub enabled : AreOf plan deed.Enables marks.enabled.items
   pub autosuspended : AreOf plan deed.UsesAutosuspend marks.autosuspended.items
   pub delayed : AreOf plan deed.SetsDelay marks.delayed.items
+  pub stopped : AreOf plan deed.StopsAutosuspend marks.stopped.items
   pub kept_on : AreLit plan [] marks.kept_on.items

@@ -9,7 +9,7 @@ use Rattle.pm_model.specs.declared.rows.DeviceRow.{DeviceRow}
 use Rattle.pm_model.specs.declared.rows.LinkRow.{LinkRow}
 use Rattle.pm_say.specs.declared.lints.Warning.{Warning}
 use Rattle.pm_say.specs.declared.lints.Warning.TheVariants as warning
-use Rattle.pm_say.specs.lints.Commands.{is_dark, is_uneven, lacks_autosuspend}
+use Rattle.pm_say.specs.lints.Commands.{is_dark, is_uneven, keeps_autosuspend, lacks_autosuspend}
 use Rattle.pm_say.specs.lints.Devices.{is_enabled, is_needed, is_used}
 use Rattle.pm_say.specs.lints.Scripts.{is_added}
 
@@ -34,6 +34,7 @@ of_command plan c script k command =
     when (lacks_autosuspend plan command) (warning.NoAutosuspend c k)
     ++ when (is_dark plan (take k script) command) (warning.DomainOff c k)
     ++ when (is_uneven script k command) (warning.Uneven c k)
+    ++ when (keeps_autosuspend plan command) (warning.KeepsAutosuspend c k)
 
 -- a caller without commands, and what is wrong with the commands of one
 unfoldable pub of_caller : Plan → ℕ → CallerRow → List Warning

@@ -8,7 +8,7 @@ use pm_base::NoMemory;
 use pm_planread::PlanWhy;
 use pm_planread::rows::names::names_of;
 use pm_planread::rows::{code_fault, name_fault, number_fault, too_many_fault};
-use pm_planread::tree::{RawPlan, Section, key_fault, kind_fault, raw_plan};
+use pm_planread::tree::{Format, RawPlan, Section, key_fault, kind_fault, raw_plan};
 use std::alloc::Global;
 use toml::{Table, Value};
 
@@ -38,13 +38,13 @@ pub fn look_at_key(
 ) -> Result<bool, NoMemory> {
     let (key, value) = member;
     let tree = sole_item(alloc, section, sole_member(alloc, key, value.clone()?)?)?;
-    if let Some(place) = key_fault(&tree) {
+    if let Some(place) = key_fault(Format::Plan, &tree) {
         if place.part == 0 {
             found.keep(PlanWhy::Key, item, number)?;
             return Ok(false);
         }
     }
-    if kind_fault(&tree).is_some() {
+    if kind_fault(Format::Plan, &tree).is_some() {
         found.keep(PlanWhy::Kind, item, number)?;
     }
     Ok(true)
@@ -59,7 +59,7 @@ pub fn look_at_values(
     found: &mut Found,
 ) -> Result<(), NoMemory> {
     let tree = sole_item(alloc, section, table.clone()?)?;
-    if kind_fault(&tree).is_some() {
+    if kind_fault(Format::Plan, &tree).is_some() {
         return Ok(());
     }
     let raw = raw_plan(alloc, &tree)?;

@@ -4,7 +4,7 @@ use crate::further::found::Found;
 use pm_base::{MAX_DEVICES, NoMemory};
 use pm_messages::notes::{list, name_of, place_of, row, text};
 use pm_planread::PlanWhy;
-use pm_planread::tree::{Section, key_fault};
+use pm_planread::tree::{Format, Section, key_fault};
 use toml::{Table, Value};
 
 /// Of which sections it is known what their items are called.
@@ -17,7 +17,7 @@ pub struct Known {
 impl Known {
     /// Of a tree: of none where the top has a key that is none, since that may be a section's.
     pub fn of(tree: &Table) -> Known {
-        let top = match key_fault(tree) {
+        let top = match key_fault(Format::Plan, tree) {
             Some(place) => place.section != Section::Top,
             None => true,
         };

@@ -5,7 +5,7 @@ use crate::further::found::Found;
 use pm_base::NoMemory;
 use pm_planread::PlanWhy;
 use pm_planread::rows::number_fault;
-use pm_planread::tree::{Place, Section, key_fault, kind_fault, raw_plan};
+use pm_planread::tree::{Format, Place, Section, key_fault, kind_fault, raw_plan};
 use std::alloc::Global;
 use toml::{Table, Value};
 
@@ -36,10 +36,10 @@ fn look_at_key(
     found: &mut Found,
 ) -> Result<(), NoMemory> {
     let tree = sole_member(alloc, key, value.clone()?)?;
-    if key_fault(&tree).is_some() {
+    if key_fault(Format::Plan, &tree).is_some() {
         return found.keep(PlanWhy::Key, number, 0);
     }
-    if kind_fault(&tree).is_some() {
+    if kind_fault(Format::Plan, &tree).is_some() {
         return found.keep(PlanWhy::Kind, number, 0);
     }
     if number_fault(&raw_plan(alloc, &tree)?).is_some() {

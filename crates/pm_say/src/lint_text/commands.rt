@@ -56,6 +56,18 @@ pub fn dark_note(alloc: Global, plan: &Plan, at: At) -> Result<Note<'static>, No
     on_command(alloc, plan, at, what)?.with_hint(hint)
 }
 
+/// The note on a device that still uses autosuspend when it is disabled.
+pub fn kept_note(alloc: Global, plan: &Plan, at: At) -> Result<Note<'static>, NoMemory> {
+    let name = device_name(plan, device_at(plan, at).0 as usize);
+    let what = format!(in alloc;
+        "{name:?} is disabled, and no script says that it uses autosuspend no more"
+    )?;
+    let hint = format!(in alloc;
+        "write \"dont_use_autosuspend {name}\" before it: that suspends {name:?} too, where nobody uses it"
+    )?;
+    on_command(alloc, plan, at, what)?.with_hint(hint)
+}
+
 /// The note on gets and puts that don't add up.
 pub fn uneven_note(alloc: Global, plan: &Plan, at: At) -> Result<Note<'static>, NoMemory> {
     let dev = device_at(plan, at);

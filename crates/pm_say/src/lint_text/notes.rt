@@ -1,6 +1,6 @@
 //! The note on a warning.
 
-use crate::lint_text::commands::{dark_note, delay_note, put_note, uneven_note};
+use crate::lint_text::commands::{dark_note, delay_note, kept_note, put_note, uneven_note};
 use crate::lint_text::names::script;
 use crate::lint_text::rows::{disabled_note, empty_note, later_note, needless_note};
 use crate::lints::Warning;
@@ -30,6 +30,11 @@ pub fn note_of(alloc: Global, plan: &Plan, warning: Warning) -> Result<Note<'sta
         ),
         Warning::DomainOff { caller, command } => dark_note(alloc, plan, At { caller, command }),
         Warning::Uneven { caller, command } => uneven_note(alloc, plan, At { caller, command }),
+        Warning::KeepsAutosuspend { caller, command } => kept_note(
+            alloc,
+            plan,
+            At { caller, command },
+        ),
     }
 }
 

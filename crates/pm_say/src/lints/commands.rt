@@ -4,14 +4,14 @@ ghost use Rattle.std.specs.Prelude.{◌≡◌, ◌++◌, List, OnOk, Some, lengt
 ghost use Rattle.std.specs.List.{list_all};
 ghost use Rattle.pm_model.specs.IsPlan.{is_command};
 ghost use Rattle.pm_model.specs.declared.event.Command.{Command};
-ghost use Rattle.pm_say.specs.lints.Commands.{is_dark, lacks_autosuspend};
+ghost use Rattle.pm_say.specs.lints.Commands.{is_dark, keeps_autosuspend, lacks_autosuspend};
 ghost use Rattle.pm_say.specs.lints.Marks.{AreLit, IsMarked};
 ghost use Rattle.pm_say.specs.lints.Warnings.{of_command, of_rows};
 
 use crate::lints::Warning;
 use crate::lints::counts::is_uneven;
 use crate::lints::domains::{domain_of, follow};
-use crate::lints::helpers::{Deed, is_put_autosuspend, is_set_active, is_set_delay};
+use crate::lints::helpers::{Deed, is_disabling, is_put_autosuspend, is_set_active, is_set_delay};
 use crate::lints::listed::push_if;
 use crate::lints::marks::{Marks, has_mark, is_done};
 use pm_base::NoMemory;
@@ -81,7 +81,30 @@ fn push_command(
             caller,
             command: place,
         },
+    )?;
+    let keeps = keeps_autosuspend(plan, marks, command);
+    push_if(
+        out,
+        keeps,
+        Warning::KeepsAutosuspend {
+            caller,
+            command: place,
+        },
     )
+}
+
+fn keeps_autosuspend(plan: &Plan, marks: &Marks, command: &Command) -> bool
+    requires marked { IsMarked plan.now marks.now }
+    requires lawful { is_command (length plan.now.devices) command.now ≡ true }
+    ensures { result ≡ keeps_autosuspend plan.now command.now }
+{
+    let device = command.dev.0 as usize;
+    if is_disabling(command.helper) {
+        is_done(marks, plan, Deed::UsesAutosuspend, device)
+            && !is_done(marks, plan, Deed::StopsAutosuspend, device)
+    } else {
+        false
+    }
 }
 
 fn lacks_autosuspend(plan: &Plan, marks: &Marks, command: &Command) -> bool

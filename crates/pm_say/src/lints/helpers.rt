@@ -2,7 +2,7 @@
 
 ghost use Rattle.std.specs.Prelude.{◌≡◌};
 ghost use Rattle.std.specs.Option.{option_map};
-ghost use Rattle.pm_say.specs.lints.Helpers.{does, is_link_add, is_move, is_of_link, is_put_autosuspend, is_set_active, is_set_delay, moves, place_of, resumes};
+ghost use Rattle.pm_say.specs.lints.Helpers.{does, is_disabling, is_link_add, is_move, is_of_link, is_put_autosuspend, is_set_active, is_set_delay, moves, place_of, resumes};
 
 use pm_model::{Command, Helper};
 
@@ -18,6 +18,7 @@ pub(crate) enum Deed {
     Enables,
     UsesAutosuspend,
     SetsDelay,
+    StopsAutosuspend,
 }
 
 /// What a helper of a script does to the usage count of its device.
@@ -53,6 +54,12 @@ pub(crate) fn is_set_active(helper: Helper) -> bool
     ensures { result ≡ is_set_active helper }
 {
     matches!(helper, Helper::SetActive)
+}
+
+pub(crate) fn is_disabling(helper: Helper) -> bool
+    ensures { result ≡ is_disabling helper }
+{
+    matches!(helper, Helper::Disable)
 }
 
 pub(crate) fn is_link_add(helper: Helper) -> bool
@@ -119,6 +126,7 @@ fn does(deed: Deed, helper: Helper) -> bool
         Deed::Enables => matches!(helper, Helper::Enable),
         Deed::UsesAutosuspend => matches!(helper, Helper::UseAutosuspend),
         Deed::SetsDelay => is_set_delay(helper),
+        Deed::StopsAutosuspend => matches!(helper, Helper::DontUseAutosuspend),
     }
 }
 

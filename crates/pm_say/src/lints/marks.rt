@@ -75,6 +75,7 @@ pub(crate) struct Marks {
     enabled: Vec<bool>,
     autosuspended: Vec<bool>,
     delayed: Vec<bool>,
+    stopped: Vec<bool>,
     /// For each domain, whether it is always on, or one below it is.
     pub kept_on: Vec<bool>,
 }
@@ -90,6 +91,7 @@ pub(crate) fn marks_of(alloc: Global, plan: &Plan) -> Result<Marks, NoMemory>
         enabled: marked_by(alloc, plan, Deed::Enables)?,
         autosuspended: marked_by(alloc, plan, Deed::UsesAutosuspend)?,
         delayed: marked_by(alloc, plan, Deed::SetsDelay)?,
+        stopped: marked_by(alloc, plan, Deed::StopsAutosuspend)?,
         kept_on: kept_on(alloc, plan)?,
     })
 }
@@ -107,6 +109,7 @@ pub(crate) fn is_done(marks: &Marks, plan: &Plan, deed: Deed, device: usize) -> 
         Deed::Enables => &marks.enabled,
         Deed::UsesAutosuspend => &marks.autosuspended,
         Deed::SetsDelay => &marks.delayed,
+        Deed::StopsAutosuspend => &marks.stopped,
     };
     has_mark(marked, device)
 }

@@ -4,20 +4,37 @@ use crate::scene::run::Run;
 use crate::scene::survey::{Glance, Survey};
 use crate::svg::Style;
 use indexmap::IndexMap;
-use pm_base::{DevId, NoMemory, Status};
-use pm_find::findings::{Count, Finding, Kind};
-use pm_find::text::{push, push_actor, push_device, push_number};
+use pm_base::{ActorId, DevId, NoMemory, Status};
+use pm_find::findings::{Finding, Kind};
+use pm_linetext::{push, push_actor, push_device, push_number};
 use std::alloc::Global;
 
-/// For each device that is left on the earliest count on it that no caller has given back, if there is one.
-pub type LeftOn = IndexMap<DevId, Option<Count>>;
+/// A count on a device that its caller never gives back: who took it, and in which line.
+#[derive(Clone, Copy)]
+pub struct Leaked {
+    pub actor: ActorId,
+    pub line: u32,
+}
+
+/// For each device that is left on, or on which a count is, the earliest count that no caller has given back, if there is one.
+pub type LeftOn = IndexMap<DevId, Option<Leaked>>;
 
 /// Which devices are left on. Fails where memory runs out.
 pub fn left_on(alloc: Global, findings: &[Finding]) -> Result<LeftOn, NoMemory> {
     let mut left = IndexMap::new(alloc);
     for found in findings {
-        if let Kind::LeftOn { dev, holder } = found.kind {
-            left.insert(dev, holder)?;
+        match found.kind {
+            Kind::Leak { actor, dev, .. } if !left.contains_key(&dev) => {
+                let leaked = Leaked {
+                    actor,
+                    line: found.line,
+                };
+                left.insert(dev, Some(leaked))?;
+            }
+            Kind::LeftOn { dev, .. } => {
+                left.insert(dev, None)?;
+            }
+            _ => {}
         }
     }
     Ok(left)
@@ -34,11 +51,11 @@ fn status_word(status: Status) -> &'static [u8] {
 }
 
 // Appends who holds a device.
-fn push_holder(text: &mut Vec<u8>, run: &Run<'_>, count: Count) -> Result<(), NoMemory> {
+fn push_holder(text: &mut Vec<u8>, run: &Run<'_>, count: Leaked) -> Result<(), NoMemory> {
     push(text, b", held by ")?;
     push_actor(text, run.plan, count.actor)?;
     push(text, b" since line ")?;
-    push_number(text, count.line)
+    push_number(text, u64::from(count.line))
 }
 
 // Appends what holds a device that no caller holds.
@@ -63,7 +80,7 @@ fn push_left_on(
     text: &mut Vec<u8>,
     run: &Run<'_>,
     glance: &Glance,
-    holder: Option<Count>,
+    holder: Option<Leaked>,
 ) -> Result<Style, NoMemory> {
     if let Some(count) = holder {
         push_holder(text, run, count)?;
@@ -96,13 +113,13 @@ pub fn push_end(
     push(text, status_word(glance.status))?;
     if glance.usage > 0 {
         push(text, b", usage ")?;
-        push_number(text, glance.usage)?;
+        push_number(text, u64::from(glance.usage))?;
     }
     if glance.disabled {
         push(text, b", disabled")?;
     }
-    match left.get(&dev).copied() {
-        Some(holder) => push_left_on(text, run, glance, holder),
-        None => Ok(Style::Left),
+    match (glance.status, left.get(&dev).copied()) {
+        (Status::Active, Some(holder)) => push_left_on(text, run, glance, holder),
+        _ => Ok(Style::Left),
     }
 }

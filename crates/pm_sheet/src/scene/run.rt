@@ -6,11 +6,10 @@ ghost use Rattle.pm_lanes.specs.calls.Calls.{calls_from};
 ghost use Rattle.pm_model.specs.LineOf.{is_line_of};
 
 use pm_base::{DevId, DomId, NoMemory};
-use pm_find::text::{push, push_number};
 use pm_lanes::Piece;
 use pm_lanes::calls::Call;
-use pm_linetext::write_line;
-use pm_model::{Line, Named, Plan};
+use pm_linetext::{push, push_number, write_line};
+use pm_model::{Line, Plan};
 use std::alloc::Global;
 
 /// A run of a plan, with all that is shown of it.
@@ -80,32 +79,23 @@ impl<'a> Run<'a> {
             return Ok(());
         };
         push(text, b"line ")?;
-        push_number(text, number)?;
+        push_number(text, u64::from(number))?;
         push(text, b": ")?;
         write_line(alloc, self.plan, line, text)
     }
 
     /// The name of a device.
     pub fn device_name(&self, dev: DevId) -> &'a [u8] {
-        match self.plan.devices.get(dev.0 as usize) {
-            Some(row) => row.name().as_slice(),
-            None => b"",
-        }
+        pm_linetext::device_name(self.plan, dev)
     }
 
     /// The name of a domain.
     pub fn domain_name(&self, domain: DomId) -> &'a [u8] {
-        match self.plan.domains.get(domain.0 as usize) {
-            Some(row) => row.name().as_slice(),
-            None => b"",
-        }
+        pm_linetext::domain_name(self.plan, domain)
     }
 
     /// The name of a caller.
     pub fn caller_name(&self, caller: u32) -> &'a [u8] {
-        match self.plan.callers.get(caller as usize) {
-            Some(row) => row.name().as_slice(),
-            None => b"",
-        }
+        pm_linetext::caller_name(self.plan, caller)
     }
 }

@@ -3,10 +3,11 @@
 ghost use Rattle.std.specs.Prelude.{◌≡◌, ◌++◌, [], IfOk, OnErr, OnOk, codes};
 ghost use Rattle.pm_sheet.specs.svg.Shapes.{block_text, head_text, label_text, rule_text, sheet};
 
-use crate::svg::pieces::{push, push_attribute};
+use crate::svg::pieces::push_attribute;
 use crate::svg::shapes::{Block, Label, Rule, push_block, push_label, push_rule};
 use crate::svg::sheet::SHEET;
 use pm_base::NoMemory;
+use pm_linetext::push;
 use std::alloc::Global;
 use std::marker::Model;
 

@@ -4,8 +4,8 @@ ghost use Rattle.std.specs.Prelude.{◌≡◌, ◌++◌, List, ℕ, OnOk, true};
 ghost use Rattle.std.specs.List.{list_all};
 ghost use Rattle.pm_sheet.specs.svg.Escape.{escaped, escaped_byte, is_itself, is_no_markup};
 
-use crate::svg::pieces::push;
 use pm_base::NoMemory;
+use pm_linetext::push;
 
 // Appends a byte so that it is no markup.
 fn push_byte(text: &mut Vec<u8>, byte: u8) -> Result<(), NoMemory>

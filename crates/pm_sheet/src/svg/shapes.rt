@@ -4,9 +4,10 @@ ghost use Rattle.std.specs.Prelude.{◌≡◌, ◌++◌, OnOk};
 ghost use Rattle.pm_sheet.specs.svg.Shapes.{block_text, label_text, lean_text, leaning, opened, rule_text, titled};
 
 use crate::svg::escape::push_escaped;
-use crate::svg::pieces::{push, push_attribute};
+use crate::svg::pieces::push_attribute;
 use crate::svg::style::{Style, class_word};
 use pm_base::NoMemory;
+use pm_linetext::push;
 
 /// A block: a bar or a part of a band.
 #[derive(Clone, Copy, PartialEq, Eq)]

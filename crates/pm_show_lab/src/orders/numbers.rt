@@ -8,7 +8,7 @@ ghost use Rattle.pm_show_lab.specs.orders.Doubling.{FollowsTo};
 
 use crate::orders::show_rounds;
 use anyhow::Result;
-use pm_explore::search::{Graph, Stop, Tree, search, steps_to, way_back};
+use pm_explore::search::{Graph, Stop, Tree, path_back, search, steps_to};
 use std::alloc::Global;
 use std::io::Print;
 
@@ -76,7 +76,7 @@ pub fn show<R: Print>(rt: &R, alloc: Global) -> Result<()> {
         let steps = steps_to(&found.tree, last);
         let count = found.tree.nodes.len();
         print!(rt; "{count} found, the last by {steps} steps:")?;
-        for place in way_back(alloc, parents, last)? {
+        for place in path_back(alloc, parents, last)? {
             if let Some(number) = found.tree.nodes.get_index(place) {
                 print!(rt; " {number}")?;
             }

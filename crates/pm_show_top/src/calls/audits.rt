@@ -3,7 +3,10 @@
 ghost use Rattle.std.specs.Prelude.{◌<◌};
 
 use pm_audit::{Auditor, LineTaker, LoadFault, NoWhy, Verdict, load_trace};
+use pm_base::PLAN_BYTES;
 use pm_book::Book;
+use pm_cmd_ends::Fault;
+use pm_io::{Files, read_all};
 use pm_planread::{PlanFault, read_plan};
 use std::alloc::Global;
 
@@ -12,6 +15,13 @@ pub struct Said {
     pub shows: &'static str,
     plan: &'static [u8],
     text: &'static str,
+    verdict: Verdict,
+}
+
+/// A trace in a file, over the plan in another, and what is said of it.
+pub struct StoredSaid {
+    plan: &'static str,
+    pub trace: &'static str,
     verdict: Verdict,
 }
 
@@ -301,22 +311,66 @@ pm_trace 2
     },
 ];
 
+/// Whole traces, and such as are changed or cut.
+pub static STORED: [StoredSaid; 8] = [
+    StoredSaid {
+        plan: "parents.toml",
+        trace: "parents.trace",
+        verdict: Verdict::YesFinished,
+    },
+    StoredSaid {
+        plan: "parents.toml",
+        trace: "parents_swapped.trace",
+        verdict: no!(21, Step),
+    },
+    StoredSaid {
+        plan: "parents.toml",
+        trace: "parents_cut.trace",
+        verdict: no!(41, Cut),
+    },
+    StoredSaid {
+        plan: "parents.toml",
+        trace: "parents_open.trace",
+        verdict: Verdict::YesOpen,
+    },
+    StoredSaid {
+        plan: "resumed.toml",
+        trace: "resumed_other_count.trace",
+        verdict: no!(5, Step),
+    },
+    StoredSaid {
+        plan: "resumed.toml",
+        trace: "resumed_one_space.trace",
+        verdict: no!(5, Text),
+    },
+    StoredSaid {
+        plan: "deferred_resume.toml",
+        trace: "deferred_resume.trace",
+        verdict: Verdict::YesFinished,
+    },
+    StoredSaid {
+        plan: "deferred_resume.toml",
+        trace: "deferred_resume_early.trace",
+        verdict: no!(25, Time),
+    },
+];
+
 /// Feeds the text in pieces of this length.
-fn feed<T: LineTaker>(auditor: &mut Auditor<T>, text: &str, len: usize)
+fn feed<T: LineTaker>(auditor: &mut Auditor<T>, text: &[u8], len: usize)
     requires { 0 < len }
 {
-    for piece in text.as_bytes().chunks(len) {
+    for piece in text.chunks(len) {
         auditor.feed(piece);
     }
 }
 
 /// What is said of a text that is fed in pieces of this length, where nothing is kept of it.
-fn said_of_pieces(alloc: Global, case: &Said, len: usize) -> Result<Verdict, PlanFault>
+fn said_of_pieces(alloc: Global, plan: &[u8], text: &[u8], len: usize) -> Result<Verdict, PlanFault>
     requires { 0 < len }
 {
-    match Auditor::new(alloc, read_plan(alloc, case.plan)?) {
+    match Auditor::new(alloc, read_plan(alloc, plan)?) {
         Ok(mut auditor) => {
-            feed(&mut auditor, case.text, len);
+            feed(&mut auditor, text, len);
             Ok(auditor.end())
         }
         Err((_plan, error)) => Err(error.into()),
@@ -324,12 +378,12 @@ fn said_of_pieces(alloc: Global, case: &Said, len: usize) -> Result<Verdict, Pla
 }
 
 /// What is said of it where a book is made of it.
-fn said_of_book(alloc: Global, case: &Said, len: usize) -> Result<Verdict, PlanFault>
+fn said_of_book(alloc: Global, plan: &[u8], text: &[u8], len: usize) -> Result<Verdict, PlanFault>
     requires { 0 < len }
 {
-    match Auditor::keeping(alloc, read_plan(alloc, case.plan)?) {
+    match Auditor::keeping(alloc, read_plan(alloc, plan)?) {
         Ok(mut auditor) => {
-            feed(&mut auditor, case.text, len);
+            feed(&mut auditor, text, len);
             said_of(auditor.book(alloc))
         }
         Err((_plan, error)) => Err(error.into()),
@@ -349,17 +403,37 @@ fn said_of(book: Result<Book, LoadFault>) -> Result<Verdict, PlanFault> {
     }
 }
 
-/// The same is said of the text in one piece, in pieces of 7 bytes and of one, and where a book is loaded.
-pub fn is_said(alloc: Global, case: &Said) -> Result<bool, PlanFault> {
-    let text = case.text.as_bytes();
+/// The same is said of a text in one piece, in pieces of 7 bytes and of one, and where a book is loaded.
+fn is_said_of(
+    alloc: Global,
+    plan: &[u8],
+    text: &[u8],
+    verdict: Verdict,
+) -> Result<bool, PlanFault> {
     for len in [text.len(), 7, 1] {
         let len = len.max(1);
-        if said_of_pieces(alloc, case, len)? != case.verdict
-            || said_of_book(alloc, case, len)? != case.verdict
+        if said_of_pieces(alloc, plan, text, len)? != verdict
+            || said_of_book(alloc, plan, text, len)? != verdict
         {
             return Ok(false);
         }
     }
-    let loaded = said_of(load_trace(alloc, read_plan(alloc, case.plan)?, text))?;
-    Ok(loaded == case.verdict)
+    let loaded = said_of(load_trace(alloc, read_plan(alloc, plan)?, text))?;
+    Ok(loaded == verdict)
+}
+
+/// Whether that is said of it.
+pub fn is_said(alloc: Global, case: &Said) -> Result<bool, PlanFault> {
+    is_said_of(alloc, case.plan, case.text.as_bytes(), case.verdict)
+}
+
+/// Whether that is said of a stored trace over its plan.
+pub fn is_said_of_stored<F: Files>(
+    alloc: Global,
+    files: &mut F,
+    case: &StoredSaid,
+) -> Result<bool, Fault> {
+    let plan = read_all(alloc, files, case.plan, PLAN_BYTES)?;
+    let trace = read_all(alloc, files, case.trace, PLAN_BYTES)?;
+    Ok(is_said_of(alloc, &plan, &trace, case.verdict)?)
 }

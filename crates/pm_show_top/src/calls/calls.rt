@@ -174,8 +174,22 @@ pub fn failed_writes<R: Threads + Wait + Sync>(
     Ok(run_ends(rt, alloc, run, failing, PIECE_BYTES, run.end)?)
 }
 
-/// The run ends as is told also where sinks take one byte at a call. A fault in the midst of its message
-/// changes neither its status nor what it writes.
+/// A fault of `err` before its message changes neither its status nor what it writes to `out`.
+fn is_untold<R: Threads + Wait + Sync>(
+    rt: &R,
+    alloc: Global,
+    run: &Run,
+) -> Result<bool, AllocError> {
+    let failing = Failing { tell: 1, ..NONE };
+    let end = End {
+        err: b"",
+        ..run.end
+    };
+    run_ends(rt, alloc, run, failing, PIECE_BYTES, end)
+}
+
+/// The run ends as is told also where sinks take one byte at a call. A fault of `err`, before its message or in the midst of
+/// it, changes neither its status nor what it writes.
 pub fn by_few_bytes<R: Threads + Wait + Sync>(
     rt: &R,
     alloc: Global,
@@ -186,5 +200,9 @@ pub fn by_few_bytes<R: Threads + Wait + Sync>(
         err: run.end.err.get(..9).unwrap_or(run.end.err),
         ..run.end
     };
-    Ok(run_ends(rt, alloc, run, NONE, 1, run.end)? && run_ends(rt, alloc, run, failing, 9, end)?)
+    Ok(
+        run_ends(rt, alloc, run, NONE, 1, run.end)?
+            && run_ends(rt, alloc, run, failing, 9, end)?
+            && is_untold(rt, alloc, run)?,
+    )
 }

@@ -72,7 +72,7 @@ const IGNORED: &[u8] = b"device = [{name = 'p'}, {name = 'k', parent = 'p'}]
 caller = [{name = 'c', script = ['enable p', 'enable k', 'get_sync k', 'ignore_children p on', 'suspend p']}]
 ";
 
-pub static CUTS: [Cut; 15] = [
+pub static CUTS: [Cut; 16] = [
     Cut {
         shows: "a Resuming device isn't live before its callback begins",
         limit: b"lines = 29\n",
@@ -122,6 +122,14 @@ caller = [{name = 'c', script = ['enable k', 'get_sync k']}]
         limit: b"",
         plan: b"device = [{name = 'p', ignore_children = true}, {name = 'k', parent = 'p'}]
 caller = [{name = 'c', script = ['enable p', 'enable k', 'get_sync k']}]
+",
+        stand: &[RESTING, FREE_CHILD],
+    },
+    Cut {
+        shows: "and one that was used and is suspended beside its child",
+        limit: b"",
+        plan: b"device = [{name = 'p', ignore_children = true}, {name = 'k', parent = 'p'}]
+caller = [{name = 'c', script = ['enable p', 'enable k', 'get_sync k', 'get_sync p', 'put_sync_suspend p']}]
 ",
         stand: &[RESTING, FREE_CHILD],
     },

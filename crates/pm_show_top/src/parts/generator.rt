@@ -1,4 +1,4 @@
-//! The plan of 7 and 64. The values come from a second program that was written from the rules alone.
+//! The plans of 7 and 64 and of 0 and 2. The values come from a second program that was written from the rules alone.
 
 use pm_base::{DevId, DomId};
 use pm_make::make_plan;
@@ -83,6 +83,22 @@ fn has_scripts(plan: &Plan) -> bool {
         are_so &= is_script(row.script.as_slice(), wanted);
     }
     are_so
+}
+
+/// The plan of 0 and 2 has two devices without parents in one domain, which take so long, and no link.
+pub fn two_devices(alloc: Global) -> Result<bool, PlanFault> {
+    let plan = make_plan(alloc, 0, 2)?;
+    let [first, second] = plan.devices.as_slice() else {
+        return Ok(false);
+    };
+    let places = (first.domain, first.parent, second.domain, second.parent);
+    let first = (first.suspend_ms, first.resume_ms);
+    let second = (second.suspend_ms, second.resume_ms);
+    Ok(
+        places == (Some(DomId(0)), None, Some(DomId(0)), None)
+            && (first, second) == ((10, 16), (9, 10))
+            && plan.links.as_slice().is_empty(),
+    )
 }
 
 /// Whether the plan has its devices and domains, its links and its scripts.

@@ -1,11 +1,14 @@
 //! Cases of `pm_islands`: the islands of small plans, their parts, and the merge of lists.
 
-use crate::texts::plans::{EMPTY, ISLANDS};
+use crate::common::fresh_book;
+use crate::texts::plans::{EMPTY, ISLANDS, LINKED, UNLINKED};
 use crate::texts::told::{Case, Told};
-use pm_base::{ActorId, DevId, DomId};
+use pm_base::{ActorId, DevId, DomId, NoMemory};
+use pm_book::Book;
 use pm_islands::{islands, merge, number, part};
 use pm_model::{Event, Line, Plan};
 use pm_planread::{PlanFault, read_plan};
+use pm_serial::{drain, fresh_books_have_time};
 use std::alloc::Global;
 
 pub fn cases(alloc: Global) -> Result<Vec<Case>, PlanFault> {
@@ -30,6 +33,11 @@ fn cases_over(alloc: Global, plan: &Plan) -> Result<Vec<Case>, PlanFault> {
         ),
         ("an empty plan has no island", is_empty(alloc)?),
         ("lines of one time go by their list", go_by_list(alloc)?),
+        ("links of runtime connect", are_linked(alloc)?),
+        (
+            "finished lists are merged, as far as there is room",
+            are_merged(alloc)?,
+        ),
     ];
     Ok(Vec::from_slice(alloc, &cases)?)
 }
@@ -134,4 +142,40 @@ fn go_by_list(alloc: Global) -> Result<Told, PlanFault> {
     let lists: [&[Line]; 3] = [&[first], &[second], &[third]];
     let lines = merge(alloc, &lists, 2)?;
     Ok(Told::One(lines.as_slice() == [second, first].as_slice()))
+}
+
+/// A consumer and its two suppliers are one island.
+fn are_linked(alloc: Global) -> Result<Told, PlanFault> {
+    let plan = read_plan(alloc, LINKED)?;
+    Ok(Told::One(islands(&plan) == 1))
+}
+
+/// The book of an island's run on one thread, if there is such an island.
+fn book_of(alloc: Global, plan: &Plan, island: u32) -> Result<Option<Book>, PlanFault> {
+    if island >= number(alloc, plan)?.count() {
+        return Ok(None);
+    }
+    let mut book = fresh_book(alloc, part(alloc, plan, island)?)?;
+    fresh_books_have_time();
+    drain(&mut book)?;
+    Ok(Some(book))
+}
+
+/// As many lines of two runs as this.
+fn merged(alloc: Global, first: &Book, second: &Book, limit: usize) -> Result<Vec<Line>, NoMemory> {
+    let lists: [&[Line]; 2] = [first.lines(), second.lines()];
+    merge(alloc, &lists, limit)
+}
+
+/// The finished runs of two islands come to all their lines where so many are allowed, and where one is, to the first
+/// of the first island.
+fn are_merged(alloc: Global) -> Result<Told, PlanFault> {
+    let plan = read_plan(alloc, UNLINKED)?;
+    let (Some(first), Some(second)) = (book_of(alloc, &plan, 0)?, book_of(alloc, &plan, 1)?) else {
+        return Ok(Told::One(false));
+    };
+    let all = merged(alloc, &first, &second, 200_000)?;
+    let one = merged(alloc, &first, &second, 1)?;
+    let is_first = one.as_slice() == first.lines().get(..1).unwrap_or(&[]);
+    Ok(Told::One(all.len() == 26 && all.get(..1) == Some(one.as_slice()) && is_first))
 }

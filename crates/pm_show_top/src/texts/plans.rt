@@ -36,3 +36,12 @@ device = [{name = 'x'}, {name = 'p'}, {name = 's', domain = 'o'}, {name = 'k', p
 link = [{consumer = 'a', supplier = 'p', pm_runtime = false}]
 caller = [{name = 'n', script = ['delay 1']}, {name = 'e', script = ['enable a']},
 {name = 'c', script = ['delay 1', 'enable k']}]";
+
+/// A device with two suppliers.
+pub static LINKED: &[u8] = b"device = [{name = 's'}, {name = 't', resume = [-110]}, {name = 'k'}]
+link = [{consumer = 'k', supplier = 's'}, {consumer = 'k', supplier = 't'}]
+caller = [{name = 'c', script = ['enable s', 'enable t', 'enable k', 'get_sync k']}]";
+
+/// Two callers on devices of their own: two islands, whose runs have 13 lines each.
+pub static UNLINKED: &[u8] = b"device = [{name = 'a'}, {name = 'b'}]
+caller = [{name = 'c', script = ['enable a', 'get_sync a']}, {name = 'e', script = ['enable b', 'get_sync b']}]";

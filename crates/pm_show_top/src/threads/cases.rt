@@ -3,7 +3,7 @@
 ghost use Rattle.std.specs.Prelude.{◌≤◌};
 
 use crate::common::ticker;
-use crate::threads::counting::{Counting, begun};
+use crate::threads::counting::{Counting, begun, resumed};
 use crate::threads::plans::{APART, CUT, TIED, TIMED};
 use pm_base::DevId;
 use pm_book::Book;
@@ -44,7 +44,7 @@ pub fn hands_meet<R: Threads + Wait + Sync>(rt: &R, alloc: Global) -> Result<boo
     Ok(islands(&plan) == 1 && lines.is_some() && meet.met())
 }
 
-/// This many hands call the gate as often as lines begin a callback, of each kind.
+/// This many hands call the gate as often as lines begin a callback, of each kind and each device.
 pub fn counts_callbacks<R: Threads + Wait + Sync>(
     rt: &R,
     alloc: Global,
@@ -59,7 +59,7 @@ pub fn counts_callbacks<R: Threads + Wait + Sync>(
         return Ok(false);
     };
     let begun = begun(&lines);
-    Ok(begun.resumes > 1 && begun == gate.counts())
+    Ok(resumed(&begun) == 2 && begun == gate.counts())
 }
 
 /// Waits until the book behind a lock is finished, and says whether it is.
@@ -146,5 +146,5 @@ pub fn strange_book_is_replaced(alloc: Global) -> Result<bool, PlanFault> {
     let Some(book) = finished(alloc, plan, strange)? else {
         return Ok(false);
     };
-    Ok(book.plan().callers.len() == 2 && begun(book.lines()).resumes == 2)
+    Ok(book.plan().callers.len() == 2 && resumed(&begun(book.lines())) == 2)
 }

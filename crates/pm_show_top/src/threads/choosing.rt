@@ -3,7 +3,7 @@
 ghost use Rattle.std.specs.Prelude.{◌≤◌};
 
 use crate::threads::cases::lines_by;
-use crate::threads::counting::begun;
+use crate::threads::counting::{begun, resumed, resumes_and_suspends};
 use crate::threads::plans::{ASKS, LATER, TIMED, TWICE};
 use crate::threads::resting::{Resting, Silent};
 use crate::threads::written::{Way, written};
@@ -85,7 +85,7 @@ pub fn hands_rest<R: Threads + Wait + Sync>(rt: &R, alloc: Global) -> Result<boo
         return Ok(false);
     };
     let begun = begun(&one);
-    Ok(begun.resumes > 1 && alone.rests() == begun.resumes.saturating_add(begun.suspends))
+    Ok(resumed(&begun) == 2 && alone.rests() == resumes_and_suspends(&begun))
 }
 
 /// By a clock that can't be read, hands come to the end all the same.

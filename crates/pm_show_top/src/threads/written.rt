@@ -1,12 +1,12 @@
 //! Cases over what `run` and `desk` write.
 
 use crate::common::{memory_files, ticker};
-use crate::threads::counting::{Counting, begun};
-use crate::threads::plans::{CUT, ONE, SECONDS, STAGGERED, TIED, TIMED};
+use crate::threads::counting::{Counting, begun, resumed};
+use crate::threads::plans::{CUT, HUB, ONE, SECONDS, STAGGERED, TIED};
 use pm_audit::load_trace;
 use pm_base::{Cb, DevId};
 use pm_cmd_top::{audit_top, desk_top, run_top, serial_top};
-use pm_gate::{Clock, Gate, Meet, Quiet};
+use pm_gate::{Clock, Gate, Meet, Quiet, Ticker};
 use pm_io::{MemFiles, MemSink};
 use pm_model::Event;
 use pm_planread::{PlanFault, read_plan};
@@ -119,18 +119,33 @@ pub fn meets<R: Threads + Wait + Sync>(rt: &R, alloc: Global, way: Way) -> Resul
     Ok(ran.status == 0 && meet.met())
 }
 
-/// `run` by four hands calls the gate as often as lines that it writes begin a callback, of each kind.
+/// A clock that stands for a long time, so that devices are enabled before callers' delays are over, and then goes on by a
+/// second at each reading.
+fn late_clock(alloc: Global) -> Result<Ticker, AllocError> {
+    Ok(Ticker::new(vec![in alloc; 0; 100_000]?))
+}
+
+/// `run` by this many hands calls the gate as often as lines that it writes begin a callback, of each kind and each
+/// device.
 pub fn run_counts_callbacks<R: Threads + Wait + Sync>(
     rt: &R,
     alloc: Global,
+    hands: u32,
 ) -> Result<bool, PlanFault> {
     let gate = Counting::new();
-    let ran = written(rt, alloc, Way::Hands(4), TIMED, &ticker(alloc)?, &gate)?;
-    let Ok(book) = load_trace(alloc, read_plan(alloc, TIMED)?, ran.out.taken()) else {
+    let ran = written(
+        rt,
+        alloc,
+        Way::Hands(hands),
+        HUB,
+        &late_clock(alloc)?,
+        &gate,
+    )?;
+    let Ok(book) = load_trace(alloc, read_plan(alloc, HUB)?, ran.out.taken()) else {
         return Ok(false);
     };
     let begun = begun(book.lines());
-    Ok(ran.status == 0 && begun.resumes > 1 && begun == gate.counts())
+    Ok(ran.status == 0 && resumed(&begun) == 5 && begun == gate.counts())
 }
 
 /// What one hand writes has its clock's times, a second for each line, where one thread's has none but 0.

@@ -3,9 +3,9 @@
 ghost use Rattle.std.specs.Prelude.{◌≡◌, ◌++◌, ◌≤◌, IfOk, OnOk, length};
 ghost use Rattle.pm_spans.specs.source.Excerpts.{blank, blanks, front_len, last_chars, shown_before, shown_behind};
 
-use crate::source::pieces::push;
 use crate::source::places::{behind, char_count, front, is_start};
 use pm_base::NoMemory;
+use pm_linetext::push;
 use std::alloc::Global;
 
 /// Columns of a line that are shown, at most.

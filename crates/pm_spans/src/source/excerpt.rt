@@ -5,11 +5,12 @@ ghost use Rattle.pm_spans.specs.source.Excerpts.{carets, excerpt, excerpt_text, 
 ghost use Rattle.pm_spans.specs.source.Places.{chars};
 
 use crate::source::cut::{COLUMNS, push_behind, push_blanks, shown_before};
-use crate::source::pieces::{push, push_number, push_times};
+use crate::source::pieces::{push_number, push_times};
 use crate::source::places::{behind, char_count, front, line_of, line_start, line_text};
 use crate::source::visible::{push_visible, visible};
 use itoa::Buffer;
 use pm_base::NoMemory;
+use pm_linetext::push;
 use std::alloc::Global;
 
 /// The bytes of a text from `start` up to `end`.

@@ -2,22 +2,13 @@
 
 ghost use Rattle.std.specs.Prelude.{◌≡◌, ◌++◌, OnOk, decimal, replicate};
 
-use itoa::Buffer;
 use pm_base::NoMemory;
 
-/// Appends a piece. Fails where memory runs out.
-pub fn push(out: &mut Vec<u8>, piece: &[u8]) -> Result<(), NoMemory>
-    ensures { OnOk result (out.new.items ≡ out.old.items ++ piece.now) }
-{
-    out.extend_from_slice(piece)?;
-    Ok(())
-}
-
-/// Appends a number in decimal. Fails where memory runs out.
+/// Appends a count in decimal. Fails where memory runs out.
 pub fn push_number(out: &mut Vec<u8>, number: usize) -> Result<(), NoMemory>
     ensures { OnOk result (out.new.items ≡ out.old.items ++ decimal number) }
 {
-    push(out, Buffer::new().format(number).as_bytes())
+    pm_linetext::push_number(out, number as u64)
 }
 
 /// Appends a byte so many times. Fails where memory runs out.

@@ -5,8 +5,9 @@ ghost use Rattle.std.specs.List.{suffix_len, position_or_len};
 ghost use Rattle.pm_spans.specs.source.Lines.{place_text};
 ghost use Rattle.pm_spans.specs.source.Places.{IsInText, chars, column_of, is_newline, is_start, line_end, line_of, line_start, line_text, mark_len, text_before, without_return};
 
-use crate::source::pieces::{push, push_number};
+use crate::source::pieces::push_number;
 use pm_base::NoMemory;
+use pm_linetext::push;
 
 /// A place in a text.
 #[derive(Clone, Copy, PartialEq, Eq)]

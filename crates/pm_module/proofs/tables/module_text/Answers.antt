@@ -1,6 +1,6 @@
 use Rattle.std.proofs.Common.{◌++◌}
 use Rattle.pm_module.specs.Module.{engine, head, module_text, tables}
-use Rattle.pm_module.proofs.TextLemmas.{from_none, more}
+use Rattle.pm_linetext.proofs.AppendLemmas.{from_none, more}
 use Rattle.pm_module.proofs.tables.module_text.Goals as goal
 
 pub returns : goal.returns

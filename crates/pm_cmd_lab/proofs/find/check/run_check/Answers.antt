@@ -8,15 +8,15 @@ pub returns-in-Ok : goal.returns-in-Ok
 returns-in-Ok g c =
     let files = g.F.Files in
     let trace = c.args.trace.now in
-    found_of_trace files.tells_all (files.told c.args.files.now trace) trace c.args.expect.now c.args.ktap c.args.notes c.args.plan c.args.read.now.text.items c.args.read.now.expected c.in-Ok.found
+    found_of_trace files.tells_all (files.told c.args.files.now trace) c.args.name.now trace c.args.expect.now c.args.loaded.text.items c.as_bytes.result.now c.deref.result.now c.args.ktap c.args.notes c.args.loaded.plan c.args.read.now.text.items c.args.read.now.expected c.in-Ok.found
     (Rose (files.faults c.args.files.now) (files.faults c.check_trace.new.files))
-    (taking g.O.Sink.taken g.O.Sink.faults c.args.out.now c.write_found.new.out) c.write_found.result c.in-Ok.ensures.told c.write_found.ensures
+    (taking g.O.Sink.taken g.O.Sink.faults c.args.out.now c.write_found.new.out) c.write_found.result c.requires.text c.as_bytes.ensures.value c.deref.ensures.value c.in-Ok.ensures.told c.write_found.ensures
 
-pub returns-in_ok-text-in-Err-TooLong : goal.returns-in_ok-text-in-Err-TooLong
-returns-in_ok-text-in-Err-TooLong g c =
+pub returns-in-Err-TooLong : goal.returns-in-Err-TooLong
+returns-in-Err-TooLong g c =
     let files = g.F.Files in
     let trace = c.args.trace.now in
     let long = rw c.in-Err-TooLong.field-0-is at c.in-Err-TooLong.ensures.not_told in
-    trace_long files.tells_all (files.told c.args.files.now trace) trace c.args.expect.now c.args.ktap c.args.notes c.args.plan c.args.read.now.text.items c.args.read.now.expected c.in_ok-text-in-Err-TooLong.text
+    trace_long files.tells_all (files.told c.args.files.now trace) c.args.name.now trace c.args.expect.now c.args.ktap c.args.notes c.args.loaded.plan c.args.read.now.text.items c.args.read.now.expected c.in_ok-text-in-Err-TooLong.text
     (Rose (files.faults c.args.files.now) (files.faults c.check_trace.new.files))
     (taking g.O.Sink.taken g.O.Sink.faults c.args.out.now c.args.out.now) long c.in_ok-text-in-Err-TooLong.ensures refl

@@ -18,21 +18,22 @@ returns-in-Ok g c =
     let told = files.told c.args.files.now in
     let expect = c.args.expect.now in
     let trace = c.args.trace.now in
-    let plan = c.args.plan in
+    let plan = c.args.loaded.plan in
+    let name_of = c.args.name.now in
     let r = c.in-Ok.read in
     let old = files.faults c.args.files.now in
     let mid = files.faults c.expectations.new.files in
     let new = files.faults c.run_check.new.files in
     let out = taking g.O.Sink.taken g.O.Sink.faults c.args.out.now c.run_check.new.out in
     let err = taking g.E.Sink.taken g.E.Sink.faults c.args.err.now c.finish.new.err in
-    let ends = CheckEnds all told expect trace c.args.ktap c.args.notes plan in
+    let ends = CheckEnds all told name_of expect trace c.args.ktap c.args.notes plan in
     let same = ap (λ (t : List ℕ → Option (List ℕ)). t trace) c.expectations.ensures.same in
     let came =
-    subst (λ (t : Option (List ℕ)). Came (OfCheck all t trace expect c.args.ktap c.args.notes plan r.text.items r.expected) c.run_check.result (Rose mid new) out) same c.run_check.ensures in
+    subst (λ (t : Option (List ℕ)). Came (OfCheck all t name_of trace expect c.args.ktap c.args.notes plan r.text.items r.expected) c.run_check.result (Rose mid new) out) same c.run_check.ensures in
     answered_weaker ends (OfThis trace (Rose old new)) (RunUnread all (told expect) plan expect trace (Rose old new)) c.finish.result out err
     (λ name this. trace_failed all (told expect) plan expect trace name r.text.items r.expected (Rose old new) c.in-Ok.ensures.read this)
     (answered ends trace (Rose old new) c.run_check.result c.finish.result out err
-    (over_expected all (told expect) expect (OfCheck all (told trace) trace expect c.args.ktap c.args.notes) plan r.text.items r.expected (Rose mid new) (Rose old new) out c.run_check.result
+    (over_expected all (told expect) expect (OfCheck all (told trace) name_of trace expect c.args.ktap c.args.notes) plan r.text.items r.expected (Rose mid new) (Rose old new) out c.run_check.result
     (λ rose. rose_later old mid new c.expectations.ensures.never_falls rose) c.in-Ok.ensures.read came)
     c.finish.ensures.status c.finish.ensures.message)
 
@@ -43,15 +44,16 @@ returns-in-Err-Refused g c =
     let told = files.told c.args.files.now in
     let expect = c.args.expect.now in
     let trace = c.args.trace.now in
-    let plan = c.args.plan in
+    let plan = c.args.loaded.plan in
+    let name_of = c.args.name.now in
     let failed = Rose (files.faults c.args.files.now) (files.faults c.expectations.new.files) in
     let out = taking g.O.Sink.taken g.O.Sink.faults c.args.out.now c.write_text-told.new.out in
     let err = taking g.E.Sink.taken g.E.Sink.faults c.args.err.now c.finish-in-Err-Refused.new.err in
-    let ends = CheckEnds all told expect trace c.args.ktap c.args.notes plan in
+    let ends = CheckEnds all told name_of expect trace c.args.ktap c.args.notes plan in
     answered_weaker ends (OfThis expect failed) (RunUnread all (told expect) plan expect trace failed) c.finish-in-Err-Refused.result out err
     (λ name this. expect_failed all (told expect) plan expect trace name failed this)
     (answered ends expect failed c.write_text-told.result c.finish-in-Err-Refused.result out err
-    (refusal_written all (told expect) expect (OfCheck all (told trace) trace expect c.args.ktap c.args.notes) plan c.in-Err-Refused.text c.as_slice.result.now failed out c.write_text-told.result
+    (refusal_written all (told expect) expect (OfCheck all (told trace) name_of trace expect c.args.ktap c.args.notes) plan c.in-Err-Refused.text c.as_slice.result.now failed out c.write_text-told.result
     (rw c.in-Err-Refused.field-0-is at c.as_slice.ensures.value) (rw c.in-Err-Refused.field-0-is at c.in-Err-Refused.ensures.unread) c.write_text-told.ensures)
     c.finish-in-Err-Refused.ensures.status c.finish-in-Err-Refused.ensures.message)
 
@@ -62,11 +64,12 @@ returns-in-Err-ReadFailed g c =
     let told = files.told c.args.files.now in
     let expect = c.args.expect.now in
     let trace = c.args.trace.now in
-    let plan = c.args.plan in
+    let plan = c.args.loaded.plan in
+    let name_of = c.args.name.now in
     let failed = Rose (files.faults c.args.files.now) (files.faults c.expectations.new.files) in
     let out = taking g.O.Sink.taken g.O.Sink.faults c.args.out.now c.args.out.now in
     let err = taking g.E.Sink.taken g.E.Sink.faults c.args.err.now c.finish-in-Err-ReadFailed.new.err in
-    let ends = CheckEnds all told expect trace c.args.ktap c.args.notes plan in
+    let ends = CheckEnds all told name_of expect trace c.args.ktap c.args.notes plan in
     answered_weaker ends (OfThis expect failed) (RunUnread all (told expect) plan expect trace failed) c.finish-in-Err-ReadFailed.result out err
     (λ name this. expect_failed all (told expect) plan expect trace name failed this)
     (answered ends expect failed (Err fault.ReadFailed) c.finish-in-Err-ReadFailed.result out err
@@ -80,11 +83,12 @@ returns g c =
     let told = files.told c.args.files.now in
     let expect = c.args.expect.now in
     let trace = c.args.trace.now in
-    let plan = c.args.plan in
+    let plan = c.args.loaded.plan in
+    let name_of = c.args.name.now in
     let failed = Rose (files.faults c.args.files.now) (files.faults c.expectations.new.files) in
     let out = taking g.O.Sink.taken g.O.Sink.faults c.args.out.now c.args.out.now in
     let err = taking g.E.Sink.taken g.E.Sink.faults c.args.err.now c.finish-in-Err.new.err in
-    let ends = CheckEnds all told expect trace c.args.ktap c.args.notes plan in
+    let ends = CheckEnds all told name_of expect trace c.args.ktap c.args.notes plan in
     answered_weaker ends (OfThis expect failed) (RunUnread all (told expect) plan expect trace failed) c.finish-in-Err.result out err
     (λ name this. expect_failed all (told expect) plan expect trace name failed this)
     (answered ends expect failed (Err fault.NoMemory) c.finish-in-Err.result out err refl c.finish-in-Err.ensures.status c.finish-in-Err.ensures.message)

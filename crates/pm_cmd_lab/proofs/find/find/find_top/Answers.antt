@@ -20,21 +20,21 @@ returns-in-Ok g c =
     let told = files.told c.args.files.now in
     let plan = c.args.plan.now in
     let trace = c.args.trace.now in
-    let read = c.in-Ok.read in
+    let read = c.in-Ok.read.plan in
     let old = files.faults c.args.files.now in
-    let mid = files.faults c.load.new.files in
+    let mid = files.faults c.load_text.new.files in
     let new = files.faults c.run_find.new.files in
     let out = taking g.O.Sink.taken g.O.Sink.faults c.args.out.now c.run_find.new.out in
     let err = taking g.E.Sink.taken g.E.Sink.faults c.args.err.now c.finish.new.err in
     let alone = AskedOnly plan (files.asked c.args.files.now) (files.asked c.run_find.new.files) in
-    let ends = OfPlan all (told plan) plan (OfFind all (told trace) trace c.args.notes) in
-    let same = ap (λ (t : List ℕ → Option (List ℕ)). t trace) c.load.ensures.same in
-    let came = subst (λ (t : Option (List ℕ)). Came (OfFind all t trace c.args.notes read) c.run_find.result (Rose mid new) out) same c.run_find.ensures in
+    let ends = OfPlan all (told plan) plan (OfFind all (told trace) plan trace c.args.notes) in
+    let same = ap (λ (t : List ℕ → Option (List ℕ)). t trace) c.load_text.ensures.same in
+    let came = subst (λ (t : Option (List ℕ)). Came (OfFind all t plan trace c.args.notes read) c.run_find.result (Rose mid new) out) same c.run_find.ensures in
     answered_weaker ends (OfThis trace (Rose old new)) (FindUnread all (told plan) plan trace alone (Rose old new)) c.finish.result out err
     (λ name this. trace_failed all (told plan) plan trace name read alone (Rose old new) c.in-Ok.ensures.read this)
     (answered ends trace (Rose old new) c.run_find.result c.finish.result out err
-    (came_read all (told plan) plan read (OfFind all (told trace) trace c.args.notes) (Rose mid new) (Rose old new) out c.run_find.result
-    (λ rose. rose_later old mid new c.load.ensures.never_falls rose) c.in-Ok.ensures.read came)
+    (came_read all (told plan) plan read (OfFind all (told trace) plan trace c.args.notes) (Rose mid new) (Rose old new) out c.run_find.result
+    (λ rose. rose_later old mid new c.load_text.ensures.never_falls rose) c.in-Ok.ensures.read came)
     c.finish.ensures.status c.finish.ensures.message)
 
 pub returns-in-Err : goal.returns-in-Err
@@ -45,13 +45,13 @@ returns-in-Err g c =
     let plan = c.args.plan.now in
     let trace = c.args.trace.now in
     let fault = c.in-Err.fault in
-    let failed = Rose (files.faults c.args.files.now) (files.faults c.load.new.files) in
+    let failed = Rose (files.faults c.args.files.now) (files.faults c.load_text.new.files) in
     let out = taking g.O.Sink.taken g.O.Sink.faults c.args.out.now c.args.out.now in
     let err = taking g.E.Sink.taken g.E.Sink.faults c.args.err.now c.finish-in-Err.new.err in
-    let alone = AskedOnly plan (files.asked c.args.files.now) (files.asked c.load.new.files) in
-    let ends = OfPlan all (told plan) plan (OfFind all (told trace) trace c.args.notes) in
+    let alone = AskedOnly plan (files.asked c.args.files.now) (files.asked c.load_text.new.files) in
+    let ends = OfPlan all (told plan) plan (OfFind all (told trace) plan trace c.args.notes) in
     answered_weaker ends (OfThis plan failed) (FindUnread all (told plan) plan trace alone failed) c.finish-in-Err.result out err
-    (λ name this. plan_failed all (told plan) plan trace name alone failed c.load.ensures.asked this)
+    (λ name this. plan_failed all (told plan) plan trace name alone failed c.load_text.ensures.asked this)
     (answered ends plan failed (Err fault) c.finish-in-Err.result out err
-    (came_unread all (told plan) plan (OfFind all (told trace) trace c.args.notes) failed out fault c.in-Err.ensures.unread refl)
+    (came_unread all (told plan) plan (OfFind all (told trace) plan trace c.args.notes) failed out fault c.in-Err.ensures.unread refl)
     c.finish-in-Err.ensures.status c.finish-in-Err.ensures.message)

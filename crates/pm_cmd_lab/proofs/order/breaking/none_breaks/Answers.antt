@@ -1,4 +1,4 @@
--- By how far the orders were gone through.
+-- By how far the schedules were gone through.
 use Rattle.std.proofs.Common.{◌∙◌, ap, subst}
 use Rattle.pm_cmd_lab.specs.order.Failing.{BreakEnds}
 use Rattle.pm_cmd_lab.specs.order.Order.{none_ending}

@@ -7,7 +7,7 @@ use Rattle.pm_cmd_lab.proofs.order.order.write_order.Goals as goal
 pub returns-in_err-lines : goal.returns-in_err-lines
 returns-in_err-lines g c =
     let p = err_from_is_err_and c.from_residual.result c.from_residual.ensures.1 in
-    rw (p.1, p.2) (came_not_shown c.args.bounds c.args.plan c.args.mark c.in_err-lines.field-0.0 (taking g.O.Sink.taken g.O.Sink.faults c.args.out.now c.args.out.now) c.in_err-lines.ensures.err refl)
+    rw (p.1, p.2) (came_not_shown c.args.bounds c.args.plan c.args.observation c.in_err-lines.field-0.0 (taking g.O.Sink.taken g.O.Sink.faults c.args.out.now c.args.out.now) c.in_err-lines.ensures.err refl)
 
 pub returns-in_err-outcome : goal.returns-in_err-outcome
 returns-in_err-outcome g c =

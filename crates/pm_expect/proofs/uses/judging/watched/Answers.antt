@@ -1,5 +1,5 @@
 use Rattle.std.proofs.Common.{◌∙◌, ap, arith, reverse, subst, sym, take}
-use Rattle.pm_safety.specs.dependencies.Replayed.{IsAfter}
+use Rattle.pm_book.specs.Replayed.{IsAfter}
 use Rattle.pm_device.specs.Parts.{Counters, IsFor}
 use Rattle.pm_expect.proofs.verdicts.CallLemmas.{line_at, reverse_more}
 use Rattle.pm_model.specs.History.{History}

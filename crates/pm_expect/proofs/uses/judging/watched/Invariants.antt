@@ -1,5 +1,5 @@
 use Rattle.std.proofs.Common.{◌≡◌, map, reverse, take}
-use Rattle.pm_safety.specs.dependencies.Replayed.{IsAfter}
+use Rattle.pm_book.specs.Replayed.{IsAfter}
 use Rattle.pm_expect.specs.uses.Watching.{watch_of}
 use Rattle.pm_expect.proofs.uses.judging.watched.Given as goal
 

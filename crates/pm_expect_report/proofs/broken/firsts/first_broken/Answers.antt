@@ -2,13 +2,13 @@ use Rattle.std.proofs.Common.{◌∙◌, ap, arith, map, sym}
 use Rattle.std.proofs.lemmas.List.{length-map}
 use Rattle.pm_outcomes.specs.list.Listing.{round_of}
 use Rattle.pm_explore.proofs.search.Lists.{some_within}
-use Rattle.pm_explore.specs.state.SpotOf.{spot_of}
+use Rattle.pm_explore.specs.state.SnapshotOf.{snapshot_of}
 use Rattle.pm_expect_report.proofs.broken.firsts.first_broken.Goals as goal
 
 pub returns-in-Some : goal.returns-in-Some
 returns-in-Some c =
     let keys = c.args.found.now.tree.nodes.keys in
-    let at = some_within (map spot_of keys) c.loop-place.place (omega (arith, length-map keys spot_of)) in
+    let at = some_within (map snapshot_of keys) c.loop-place.place (omega (arith, length-map keys snapshot_of)) in
     record {
       stands = at.0;
       there = at.1;

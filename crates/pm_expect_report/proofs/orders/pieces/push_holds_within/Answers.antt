@@ -5,4 +5,4 @@ use Rattle.pm_expect_report.proofs.orders.pieces.push_holds_within.Goals as goal
 
 pub returns : goal.returns
 returns c =
-    two_pieces c.push_within.result c.push_within.new.text.items c.push.new.text.items c.args.text.now.items (codes "holds in every order") (within_text c.args.round) c.push_within.ensures c.in_ok-push.ensures
+    two_pieces c.push_within.result c.push_within.new.text.items c.push.new.text.items c.args.text.now.items (codes "holds in every schedule") (within_text c.args.round) c.push_within.ensures c.in_ok-push.ensures

@@ -4,7 +4,7 @@ use Rattle.std.specs.List.{filter_map, flat_map}
 use Rattle.pm_base.specs.declared.ActorId.{ActorId}
 use Rattle.pm_explore.specs.search.Exact.{HasExactly}
 use Rattle.pm_explore.specs.successors.Lines.{IsNext, line_for, lines_at}
-use Rattle.pm_explore.specs.successors.Standing.{spot_at}
+use Rattle.pm_explore.specs.successors.Standing.{snapshot_at}
 use Rattle.pm_explore.proofs.successors.lines.next_lines.Goals as goal
 
 pub push_lines-requires-clause-in_time : goal.push_lines-requires-clause-in_time
@@ -17,7 +17,7 @@ push_lines-requires-clause-in_time c = λ k d lt.
 pub returns : goal.returns
 returns c =
     let plan = c.args.plan.now in
-    let s = spot_at c.args.state.now.world c.args.last in
+    let s = snapshot_at c.args.state.now.world c.args.last in
     let items = c.in_ok-times.times.items in
     let of = λ (times : List ℕ) (actor : ActorId). filter_map (λ t. line_for c.args.pace plan s c.args.spends t actor) times in
     let is : c.push_lines.new.out.items ≡ lines_at c.args.pace plan s c.args.spends items =

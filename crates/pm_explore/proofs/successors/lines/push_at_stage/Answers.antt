@@ -1,14 +1,14 @@
 use Rattle.std.proofs.Common.{ℕ, None, Some, sym, ◌∙◌}
 use Rattle.std.proofs.lemmas.List.{append-nil}
 use Rattle.pm_explore.specs.successors.Lines.{line_for}
-use Rattle.pm_explore.specs.successors.Standing.{spot_at}
+use Rattle.pm_explore.specs.successors.Standing.{snapshot_at}
 use Rattle.pm_explore.proofs.successors.LoopLemmas.{put_more}
 use Rattle.pm_explore.proofs.successors.lines.push_at_stage.Goals.{in-Some+in_ok-push, in_default}
 use Rattle.pm_explore.proofs.successors.lines.push_at_stage.Goals as goal
 
 pub loop-time-preserved : goal.loop-time-preserved
 loop-time-preserved c =
-    let f = λ (t : ℕ). line_for c.args.pace c.args.plan.now (spot_at c.args.state.now.world c.args.last) c.args.spends t c.args.actor in
+    let f = λ (t : ℕ). line_for c.args.pace c.args.plan.now (snapshot_at c.args.state.now.world c.args.last) c.args.spends t c.args.actor in
     elim c.match-line_for.branch [
       | in-Some+in_ok-push w ↦
           let told =

@@ -9,7 +9,7 @@ unmarked_by-requires c =
     event_is c.args.plan.now c.requires.some.0 c.args.line.now c.args.bonds.now c.parts.result.now c.requires.some.2 c.parts.ensures c.requires.of_plan
 
 pub returns-clause-told : goal.returns-clause-told
-returns-clause-told c = λ h lawful kept counted last.
-    placed_more c.args.plan.now h c.args.line.now c.args.bonds.now c.parts.result.now c.args.called c.args.number c.args.all.now.items c.push.new.all.items c.tell_broken.new.all.items
-    kept c.parts.ensures counted last (c.in_ok-push.ensures ∙ ap (λ found. c.args.all.now.items ++ at_line c.args.number found) c.unmarked_by.ensures)
-    (c.in_ok-tell_broken.ensures.broken h lawful kept counted)
+returns-clause-told c = λ h lawful kept counted last held.
+    placed_more c.args.plan.now h c.args.line.now c.args.bonds.now c.parts.result.now c.args.called c.args.row.now.counts c.args.number c.args.all.now.items c.push.new.all.items c.follow.new.all.items
+    kept c.parts.ensures counted last held (c.in_ok-push.ensures ∙ ap (λ found. c.args.all.now.items ++ at_line c.args.number found) c.unmarked_by.ensures)
+    (c.in_ok-follow.ensures.broken h lawful kept counted)

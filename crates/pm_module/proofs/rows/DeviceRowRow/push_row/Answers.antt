@@ -1,4 +1,4 @@
-use Rattle.pm_module.proofs.TextLemmas.{done, more}
+use Rattle.pm_linetext.proofs.AppendLemmas.{done, more}
 use Rattle.pm_module.proofs.rows.DeviceRowRow.push_row.Goals as goal
 
 pub returns : goal.returns

@@ -5,4 +5,4 @@ use Rattle.pm_outcomes.proofs.islands.homes.push_own.Given as goal
 
 -- those of the outcomes so far
 abbrev pub invariant-loop-outcome : goal.invariant-loop-outcome
-invariant-loop-outcome l = l.marks.items ≡ l.initial.marks.items ++ at_home (island_in l.numbers) l.island (take l.outcome-index l.outcomes)
+invariant-loop-outcome l = l.observations.items ≡ l.initial.observations.items ++ at_home (island_in l.numbers) l.island (take l.outcome-index l.outcomes)

@@ -1,5 +1,5 @@
 use Rattle.std.proofs.Common.{ℕ, sym, ◌∙◌}
-use Rattle.pm_outcomes.specs.declared.list.marks.Mark.{Mark}
+use Rattle.pm_outcomes.specs.declared.list.observations.Observation.{Observation}
 use Rattle.pm_outcomes.specs.list.Listing.{outcome_of}
 use Rattle.pm_outcomes.proofs.list.ListingLemmas.{none_more, told_more}
 use Rattle.pm_outcomes.proofs.list.listing.unsorted.Goals.{in-Some-outcome_of+in_ok-push, in_default-outcome_of}
@@ -9,7 +9,7 @@ pub loop-i-preserved : goal.loop-i-preserved
 loop-i-preserved c =
     let told = outcome_of c.args.rounds.now c.args.whole in
     let firsts = c.args.firsts.now.entries.entries in
-    let first : Mark × ℕ = (c.in-Some.mark.now, c.in-Some.place.now) in
+    let first : Observation × ℕ = (c.in-Some.observation.now, c.in-Some.place.now) in
     let there = sym c.in-Some.ensures.entry in
     elim c.match-outcome_of.branch [
       | in-Some-outcome_of+in_ok-push w ↦

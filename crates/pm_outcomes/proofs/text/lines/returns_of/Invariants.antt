@@ -4,4 +4,4 @@ use Rattle.pm_outcomes.proofs.text.lines.returns_of.Given as goal
 
 -- those of the outcomes so far
 abbrev pub invariant-loop-outcome : goal.invariant-loop-outcome
-invariant-loop-outcome l = l.out.items ≡ filter (λ o. is_return l.caller l.command o.mark) (take l.outcome-index l.outcomes)
+invariant-loop-outcome l = l.out.items ≡ filter (λ o. is_return l.caller l.command o.observation) (take l.outcome-index l.outcomes)

@@ -7,6 +7,6 @@ use Rattle.pm_planread.proofs.tree.key_faults.unknown_key.Given as goal
 
 abbrev pub invariant-loop-key : goal.invariant-loop-key
 invariant-loop-key l = record {
-  rest : first_place (is_unknown_key l.section) l.at (map string_bytes l.key-iterator) ≡ first_place (is_unknown_key l.section) 0 (member_keys (table_view l.table));
+  rest : first_place (is_unknown_key l.format l.section) l.at (map string_bytes l.key-iterator) ≡ first_place (is_unknown_key l.format l.section) 0 (member_keys (table_view l.table));
   count : l.at ≡ length l.yielded;
 }

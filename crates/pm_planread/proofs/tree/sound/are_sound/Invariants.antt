@@ -7,6 +7,6 @@ use Rattle.pm_planread.proofs.tree.sound.are_sound.Given as goal
 
 abbrev pub invariant-loop-i : goal.invariant-loop-i
 invariant-loop-i l = record {
-  keys : first_fault (item_key_fault l.section) l.i (map view (drop l.i l.items)) ≡ first_fault (item_key_fault l.section) 0 (map view l.items);
-  kinds : first_fault (item_kind_fault l.section) l.i (map view (drop l.i l.items)) ≡ first_fault (item_kind_fault l.section) 0 (map view l.items);
+  keys : first_fault (item_key_fault l.format l.section) l.i (map view (drop l.i l.items)) ≡ first_fault (item_key_fault l.format l.section) 0 (map view l.items);
+  kinds : first_fault (item_kind_fault l.format l.section) l.i (map view (drop l.i l.items)) ≡ first_fault (item_kind_fault l.format l.section) 0 (map view l.items);
 }

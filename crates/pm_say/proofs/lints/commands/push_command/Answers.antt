@@ -9,6 +9,10 @@ pub lacks_autosuspend-lacks-requires-clause-lawful : goal.lacks_autosuspend-lack
 lacks_autosuspend-lacks-requires-clause-lawful c =
     all_get (is_command _) c.args.script.now c.args.place c.args.command.now c.requires.lawful c.requires.in_script
 
+pub keeps_autosuspend-keeps-requires-clause-lawful : goal.keeps_autosuspend-keeps-requires-clause-lawful
+keeps_autosuspend-keeps-requires-clause-lawful c =
+    all_get (is_command _) c.args.script.now c.args.place c.args.command.now c.requires.lawful c.requires.in_script
+
 pub returns : goal.returns
 unfolding of_command
 returns c =

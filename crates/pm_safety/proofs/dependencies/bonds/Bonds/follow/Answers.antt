@@ -7,7 +7,7 @@ use Rattle.pm_safety.specs.dependencies.Kept.{IsKept, Kept, consumers, suppliers
 use Rattle.pm_device.specs.Children.{parents}
 use Rattle.pm_safety.proofs.dependencies.BrokenBy.{none_broken}
 use Rattle.pm_safety.proofs.dependencies.KeptLemmas.{broken_told, consumers_long, group_below, kept_still, kept_turned, noted, parents_long, suppliers_long, told_by}
-use Rattle.pm_safety.proofs.dependencies.ReplayLemmas.{device_of}
+use Rattle.pm_safety.proofs.dependencies.LineLemmas.{device_of}
 use Rattle.pm_safety.proofs.dependencies.bonds.Bonds.follow.Goals as goal
 
 pub returns-in_default-clause-kept : goal.returns-in_default-clause-kept

@@ -1,4 +1,5 @@
-use Rattle.pm_lanes.proofs.WalkLemmas.{line_at, no_line}
+use Rattle.pm_book.proofs.InOrder.{line_at}
+use Rattle.pm_lanes.proofs.ShowLemmas.{no_line}
 use Rattle.pm_sheet.proofs.scene.run.Run.line.Goals as goal
 
 pub returns-then-place-self : goal.returns-then-place-self

@@ -1,0 +1,9 @@
+pub mod RowLemmas
+pub mod CallerLemmas
+pub mod ProgramLemmas
+pub mod WrittenLemmas
+pub mod ScriptLaw
+pub mod WordLemmas
+pub mod LineLemmas
+pub mod NameLemmas
+pub mod PlainLemmas

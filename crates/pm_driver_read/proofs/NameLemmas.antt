@@ -1,0 +1,15 @@
+-- Names that aren't refused are few.
+use Rattle.std.proofs.Common.{◌≡◌, ◌≤◌, None, length, arith}
+use Rattle.std.proofs.lemmas.Bool.Decides.{nat_tests}
+use Rattle.pm_driver_read.specs.Programs.{few_names}
+use Rattle.pm_driver_script.specs.Calls.{FewNames}
+use Rattle.pm_driver_script.specs.declared.names.ScriptNames.{ScriptNames}
+
+pub few_of : (names : ScriptNames) → names.devices ≤ 1024 → length names.callers ≤ 16 → few_names names ≡ None → FewNames names
+few_of names devices callers none = record {
+  devices = devices;
+  flags = grind (arith, nat_tests);
+  marks = grind (arith, nat_tests);
+  locks = grind (arith, nat_tests);
+  callers = callers;
+}

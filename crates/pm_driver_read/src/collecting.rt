@@ -1,0 +1,74 @@
+//! The names of all scripts.
+
+ghost use Rattle.std.specs.Prelude.{◌≡◌, ◌≤◌, [], IfOk, map};
+ghost use Rattle.pm_driver_read.specs.Programs.{collected, few_names, names_of};
+
+use crate::refusal::ProgramWhy;
+use crate::scripts::CallerSteps;
+use pm_base::{MAX_DEVICES, NoMemory};
+use pm_driver_script::{NameKind, ScriptNames, names_in};
+use pm_model::Items;
+use pm_script::ScriptWord;
+use std::alloc::Global;
+
+/// The names of a kind in all scripts.
+fn collected<'a>(
+    alloc: Global,
+    kind: NameKind,
+    scripts: &[CallerSteps<'a>],
+) -> Result<Items<ScriptWord<'a>>, NoMemory>
+    ensures { IfOk result (λ names. names ≡ collected kind [] scripts.now) }
+{
+    let mut names = Vec::new(alloc);
+    for caller in scripts {
+        names_in(&mut names, kind, caller.steps.as_slice())?;
+    }
+    Ok(Items::new(names))
+}
+
+/// The names of callers.
+fn caller_names<'a>(
+    alloc: Global,
+    callers: &[CallerSteps<'a>],
+) -> Result<Items<ScriptWord<'a>>, NoMemory>
+    ensures { IfOk result (λ names. names ≡ map (λ c. c.name) callers.now) }
+{
+    let mut names = Vec::with_capacity(alloc, callers.len())?;
+    for caller in callers {
+        names.push(ScriptWord::new(caller.name.as_slice()))?;
+    }
+    Ok(Items::new(names))
+}
+
+/// The names of all scripts and callers.
+pub(crate) fn names_of<'a>(
+    alloc: Global,
+    devices: u32,
+    scripts: &[CallerSteps<'a>],
+) -> Result<ScriptNames<'a>, NoMemory>
+    ensures { IfOk result (λ names. names ≡ names_of devices scripts.now) }
+{
+    Ok(ScriptNames {
+        devices,
+        flags: collected(alloc, NameKind::Flag, scripts)?,
+        marks: collected(alloc, NameKind::Mark, scripts)?,
+        locks: collected(alloc, NameKind::Lock, scripts)?,
+        callers: caller_names(alloc, scripts)?,
+    })
+}
+
+/// Why there are too many names.
+pub(crate) fn few_names(names: &ScriptNames) -> Option<ProgramWhy>
+    requires { names.now.devices ≤ 1024 }
+    ensures { result ≡ few_names names.now }
+{
+    if names.flags.as_slice().len() > MAX_DEVICES - names.devices as usize {
+        Some(ProgramWhy::ManyFlags)
+    } else if names.marks.as_slice().len() > 64 {
+        Some(ProgramWhy::ManyMarks)
+    } else if names.locks.as_slice().len() > 64 {
+        Some(ProgramWhy::ManyLocks)
+    } else {
+        None
+    }
+}

@@ -1,0 +1,12 @@
+pub mod Among
+pub mod Exactly
+pub mod ListLemmas
+pub mod SteadyLemmas
+pub mod MomentLemmas
+pub mod RoomLemmas
+pub mod StepLemmas
+pub mod FoundLemmas
+pub mod Actors
+pub mod PoseLemmas
+pub mod TakeLemmas
+pub mod NextLemmas

@@ -1,5 +1,0 @@
-use Rattle.pm_explore.proofs.schedule.Ways.{lawful}
-use Rattle.pm_explore.proofs.schedule.orders_are_lawful.Goals as goal
-
-pub returns : goal.returns
-returns c = λ pace plan h o le. lawful pace plan h o le
