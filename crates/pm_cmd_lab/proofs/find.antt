@@ -1,2 +1,3 @@
 pub mod CheckLemmas
 pub mod FindLemmas
+pub mod DriverLemmas

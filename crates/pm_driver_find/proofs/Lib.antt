@@ -1,2 +1,4 @@
 pub mod ToldLemmas
 pub mod PushLemmas
+pub mod BeforeLemmas
+pub mod FewLemmas

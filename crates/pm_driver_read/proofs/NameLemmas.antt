@@ -1,7 +1,9 @@
 -- Names that aren't refused are few.
-use Rattle.std.proofs.Common.{◌≡◌, ◌≤◌, None, length, arith}
+use Rattle.std.proofs.Common.{◌≡◌, ◌≤◌, List, None, length, arith}
 use Rattle.std.proofs.lemmas.Bool.Decides.{nat_tests}
+use Rattle.pm_driver_read.specs.Managed.{few_managed}
 use Rattle.pm_driver_read.specs.Programs.{few_names}
+use Rattle.pm_driver_read.specs.declared.managed.ManagedStep.{ManagedStep}
 use Rattle.pm_driver_script.specs.Calls.{FewNames}
 use Rattle.pm_driver_script.specs.declared.names.ScriptNames.{ScriptNames}
 
@@ -13,3 +15,6 @@ few_of names devices callers none = record {
   locks = grind (arith, nat_tests);
   callers = callers;
 }
+
+pub managed_few : (managed : List ManagedStep) → few_managed managed ≡ None → length managed ≤ 64
+managed_few managed none = grind (arith, nat_tests)

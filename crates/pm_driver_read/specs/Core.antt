@@ -1,5 +1,5 @@
 -- The driver core's own calls around a script (this project's own). A label of spaces is none that a file can write.
-use Rattle.std.specs.Prelude.{ℕ, ◌++◌, false, List, [], ◌∷◌, Option, Some, None, codes, length, map, pos}
+use Rattle.std.specs.Prelude.{ℕ, ◌++◌, false, List, [], ◌∷◌, Option, Some, None, codes, filter, length, map, pos}
 use Rattle.pm_base.specs.declared.DevId.{DevId}
 use Rattle.pm_model.specs.declared.event.Helper.{Helper}
 use Rattle.pm_model.specs.declared.event.Helper.TheVariants as helper
@@ -8,6 +8,8 @@ use Rattle.pm_driver_read.specs.declared.around.Bus.TheVariants as bus
 use Rattle.pm_driver_read.specs.declared.around.Core.{Core}
 use Rattle.pm_driver_read.specs.declared.driver.Role.{Role}
 use Rattle.pm_driver_read.specs.declared.driver.Role.TheVariants as role
+use Rattle.pm_driver_read.specs.Managed.{flag_of, is_undone_as, undone}
+use Rattle.pm_driver_read.specs.declared.managed.ManagedStep.{ManagedStep}
 use Rattle.pm_driver_script.specs.Calls.{call_of}
 use Rattle.pm_driver_text.specs.declared.steps.ScriptStep.{ScriptStep}
 use Rattle.pm_driver_text.specs.declared.verbs.CodeTest.TheVariants as test
@@ -28,6 +30,10 @@ to_settled = codes "   "
 
 abbrev pub to_undone : List ℕ
 to_undone = codes "    "
+
+-- and behind each step that is undone
+abbrev pub to_next : List ℕ
+to_next = codes "     "
 
 abbrev pub ended : Option (List ℕ) → StepWhat → ScriptStep
 ended label w = record { label = label; devm = false; what = w; exits = [] }
@@ -93,30 +99,52 @@ abbrev pub label_left : List ℕ → List Helper → Option (List ℕ)
 label_left label [] = Some label
 label_left label helpers = None
 
-abbrev pub closing : List ℕ → List ℕ → DevId → List Helper → List ScriptStep
-closing label skip dev helpers = calling_all (Some label) dev helpers ++ reinit (label_left label helpers) skip dev
+-- where its flag is set, it is cleared, and what undoes the step is done
+abbrev pub asking_flag : Option (List ℕ) → List ℕ → ScriptStep
+asking_flag label flag = record { label = label; devm = false; what = what.AskFlag flag; exits = record { test = test.Is (pos 0); label = to_next } ∷ [] }
+
+abbrev pub undo_one : List ℕ → Option (List ℕ) → StepWhat → List ScriptStep
+undo_one flag label w = asking_flag label flag ∷ ended None (what.Clear flag) ∷ map (ended None) (undone w)
+
+-- the label that is left behind these
+abbrev pub label_behind : Option (List ℕ) → List ManagedStep → Option (List ℕ)
+label_behind label [] = label
+label_behind label (m ∷ undos) = Some to_next
+
+-- the last comes first
+abbrev pub undo_all : List ManagedStep → Option (List ℕ) → List ManagedStep → List ScriptStep
+undo_all managed label [] = []
+undo_all managed label (m ∷ undos) = undo_all managed label undos ++ undo_one (flag_of managed m.caller m.step) (label_behind label undos) m.what
+
+-- what the bus calls, what undoes steps, and reinit
+abbrev pub closing : List ManagedStep → List ManagedStep → List ℕ → List ℕ → DevId → List Helper → List ScriptStep
+closing managed undos label skip dev helpers =
+    calling_all (Some label) dev helpers ++ undo_all managed (label_left label helpers) undos ++ reinit (label_behind (label_left label helpers) undos) skip dev
 
 abbrev pub put_upper : List ℕ → Core → List ScriptStep
 put_upper label core =
     calling (Some label) helper.RequestIdle core.dev ∷ calling_each helper.Put (parent_list core.parent) ++ calling_each helper.Put core.suppliers
 
 -- where the driver returned
-abbrev pub returned_of : Role → Core → List ScriptStep
-returned_of role.Probe core = put_upper to_returned core ++ ended None what.Return ∷ []
-returned_of role.Remove core = closing to_returned to_settled core.dev (behind_helpers core.bus) ++ ended (Some to_settled) what.Return ∷ []
-returned_of role.Shutdown core = ended (Some to_returned) what.Return ∷ []
+abbrev pub returned_of : List ManagedStep → List ManagedStep → Role → Core → List ScriptStep
+returned_of managed undos role.Probe core = put_upper to_returned core ++ ended None what.Return ∷ []
+returned_of managed undos role.Remove core = closing managed undos to_returned to_settled core.dev (behind_helpers core.bus) ++ ended (Some to_settled) what.Return ∷ []
+returned_of managed undos role.Shutdown core = ended (Some to_returned) what.Return ∷ []
 
-abbrev pub returned_tail : Core → List ScriptStep
-returned_tail core = returned_of core.role core
+abbrev pub undos_of : List ManagedStep → ℕ → Core → List ManagedStep
+undos_of managed caller core = filter (is_undone_as core.role caller core.dev) managed
+
+abbrev pub returned_tail : List ManagedStep → ℕ → Core → List ScriptStep
+returned_tail managed caller core = returned_of managed (undos_of managed caller core) core.role core
 
 -- where it failed
-abbrev pub failed_of : Role → Core → List ScriptStep
-failed_of role.Probe core = closing to_failed to_undone core.dev (failing_helpers core.bus) ++ put_upper to_undone core ++ ended None what.Fail ∷ []
-failed_of role.Remove core = closing to_failed to_undone core.dev (behind_helpers core.bus) ++ ended (Some to_undone) what.Fail ∷ []
-failed_of role.Shutdown core = ended (Some to_failed) what.Fail ∷ []
+abbrev pub failed_of : List ManagedStep → List ManagedStep → Role → Core → List ScriptStep
+failed_of managed undos role.Probe core = closing managed undos to_failed to_undone core.dev (failing_helpers core.bus) ++ put_upper to_undone core ++ ended None what.Fail ∷ []
+failed_of managed undos role.Remove core = closing managed undos to_failed to_undone core.dev (behind_helpers core.bus) ++ ended (Some to_undone) what.Fail ∷ []
+failed_of managed undos role.Shutdown core = ended (Some to_failed) what.Fail ∷ []
 
-abbrev pub failed_tail : Core → List ScriptStep
-failed_tail core = failed_of core.role core
+abbrev pub failed_tail : List ManagedStep → ℕ → Core → List ScriptStep
+failed_tail managed caller core = failed_of managed (undos_of managed caller core) core.role core
 
 -- how many suppliers there are
 abbrev pub core_suppliers : Option Core → ℕ

@@ -9,6 +9,7 @@ use Rattle.pm_model.specs.declared.rows.LinkRow.{LinkRow}
 use Rattle.pm_driver_read.specs.After.{all_needs, circle_fault, marks_fault, need_of}
 use Rattle.pm_driver_read.specs.Fails.{codes_fault, fails_fault}
 use Rattle.pm_driver_read.specs.Keys.{bound_to, keys_fault, role_in}
+use Rattle.pm_driver_read.specs.Managed.{all_managed, devm_fault, few_managed}
 use Rattle.pm_driver_read.specs.Plans.{bare_plan, flagged_plan, of_plan, scripted, scripts_fault}
 use Rattle.pm_driver_read.specs.Programs.{fault_from, few_names, names_of, programs_from, scripts_from}
 use Rattle.pm_driver_read.specs.Refusals.{plan_refused, refused, unless}
@@ -16,6 +17,7 @@ use Rattle.pm_driver_read.specs.Straight.{straight}
 use Rattle.pm_driver_read.specs.Words.{all_fails, all_words}
 use Rattle.pm_driver_read.specs.declared.driver.Driver.{Driver}
 use Rattle.pm_driver_read.specs.declared.driver.DriverCaller.{DriverCaller}
+use Rattle.pm_driver_read.specs.declared.managed.ManagedStep.{ManagedStep}
 use Rattle.pm_driver_read.specs.declared.reading.LocatedProgram.{LocatedProgram}
 use Rattle.pm_driver_read.specs.declared.refusal.DriverRefusal.{DriverRefusal}
 use Rattle.pm_driver_read.specs.declared.refusal.DriverRefusal.TheVariants as refusal
@@ -91,19 +93,26 @@ made_driver tree callers names programs =
     unless (scripts_fault (length contents.devices) 0 programs) (Ok (driver_over callers names programs contents))))
 
 -- the refusals of scripts, and of what callers begin after
-unfoldable pub named_driver : Members → List CallerWords → ScriptNames → List CallerSteps → Result DriverContents DriverRefusal
-named_driver tree callers names scripts =
+unfoldable pub named_driver : Members → List CallerWords → ScriptNames → List ManagedStep → List CallerSteps → Result DriverContents DriverRefusal
+named_driver tree callers names managed scripts =
     unless (option_map (refused 0 0) (few_names names))
     (unless (fault_from names 0 scripts)
     (unless (option_map refusal.Key (marks_fault (map (λ c. c.name) callers) scripts 0 callers))
     (unless (option_map refusal.Key (circle_fault (all_needs names.marks callers)))
-    (programs_from names 0 scripts >>= λ programs. made_driver tree callers names programs))))
+    (programs_from names managed 0 scripts >>= λ programs. made_driver tree callers names programs))))
+
+-- the refusals of steps that are to be undone
+unfoldable pub managed_driver : Members → ℕ → List CallerWords → List CallerSteps → Result DriverContents DriverRefusal
+managed_driver tree devices callers scripts =
+    unless (devm_fault 0 scripts)
+    (unless (option_map (refused 0 0) (few_managed (all_managed 0 scripts)))
+    (named_driver tree callers (names_of devices scripts) (all_managed 0 scripts) scripts))
 
 -- the refusals of the callers' words, and of steps
 unfoldable pub based_driver : Members → List DeviceRow → List LinkRow → List CallerWords → Result DriverContents DriverRefusal
 based_driver tree devices links callers =
     unless (option_map refusal.Key (keys_fault (map (λ row. row.name) devices) (map (λ c. c.name) callers) 0 callers))
-    (scripts_from devices links 0 callers >>= λ scripts. named_driver tree callers (names_of (length devices) scripts) scripts)
+    (scripts_from devices links 0 callers >>= λ scripts. managed_driver tree (length devices) callers scripts)
 
 -- a plan's refusals, but for its scripts
 unfoldable pub tree_driver : Members → Result DriverContents DriverRefusal

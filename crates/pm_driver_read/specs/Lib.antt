@@ -1,6 +1,8 @@
 -- The definitions, in the order in which to read them.
 pub mod Refusals
 pub mod Words
+pub mod Straight
+pub mod Managed
 pub mod Core
 pub mod Written
 pub mod Keys
@@ -8,5 +10,4 @@ pub mod Programs
 pub mod After
 pub mod Fails
 pub mod Plans
-pub mod Straight
 pub mod Drivers

@@ -1,12 +1,14 @@
 -- The programs of a driver's callers, or the first refusal of their scripts (this project's own).
-use Rattle.std.specs.Prelude.{ℕ, ◌+◌, ◌-◌, ◌<◌, ◌≤◌, ◌^◌, List, [], ◌∷◌, Option, Some, None, Result, Ok, Err, length, map, nat_lt, option_map, if◌then◌else◌}
+use Rattle.std.specs.Prelude.{ℕ, ◌+◌, ◌-◌, ◌<◌, ◌≤◌, ◌^◌, List, [], ◌∷◌, ◌++◌, Option, Some, None, Result, Ok, Err, length, map, nat_lt, option_map, if◌then◌else◌}
 use Rattle.std.specs.Option.{option_or}
 use Rattle.pm_model.specs.declared.rows.DeviceRow.{DeviceRow}
 use Rattle.pm_model.specs.declared.rows.LinkRow.{LinkRow}
 use Rattle.pm_driver_read.specs.Keys.{core_of, turns_of}
 use Rattle.pm_driver_read.specs.Core.{core_suppliers}
+use Rattle.pm_driver_read.specs.Managed.{all_managed, flag_names}
 use Rattle.pm_driver_read.specs.Refusals.{refused}
 use Rattle.pm_driver_read.specs.Written.{written_lines, written_steps}
+use Rattle.pm_driver_read.specs.declared.managed.ManagedStep.{ManagedStep}
 use Rattle.pm_driver_read.specs.declared.reading.LocatedProgram.{LocatedProgram}
 use Rattle.pm_driver_read.specs.declared.refusal.DriverRefusal.{DriverRefusal}
 use Rattle.pm_driver_read.specs.declared.refusal.ProgramWhy.{ProgramWhy}
@@ -57,7 +59,7 @@ collected k names (c ∷ scripts) = collected k (names_from k names c.steps) scr
 abbrev pub names_of : ℕ → List CallerSteps → ScriptNames
 names_of devices scripts = record {
   devices = devices;
-  flags = collected kind.Flag [] scripts;
+  flags = collected kind.Flag [] scripts ++ flag_names (length (all_managed 0 scripts));
   marks = collected kind.Mark [] scripts;
   locks = collected kind.Lock [] scripts;
   callers = map (λ c. c.name) scripts;
@@ -79,21 +81,23 @@ abbrev pub fault_from : ScriptNames → ℕ → List CallerSteps → Option Driv
 fault_from names caller [] = None
 fault_from names caller (c ∷ scripts) = option_or (option_map (refused_in caller) (script_fault names c.steps)) (fault_from names (caller + 1) scripts)
 
--- the program of a script with the driver core's calls written out
-abbrev pub located_program : CallerSteps → Program → LocatedProgram
-located_program c program = record { program = program; lines = written_lines c.core c.steps }
+-- the program of a script as it is written out
+abbrev pub located_program : List ManagedStep → ℕ → CallerSteps → Program → LocatedProgram
+located_program managed caller c program = record { program = program; lines = written_lines managed caller c.core c.steps }
 
 abbrev pub made_or : ℕ → Option Program → Result Program DriverRefusal
 made_or caller (Some program) = Ok program
 made_or caller None = Err (refused caller 0 why.ManyPlaces)
 
-abbrev pub program_or : ScriptNames → ℕ → CallerSteps → Result LocatedProgram DriverRefusal
-program_or names caller c = made_or caller (program_of (written_steps c.core c.steps) names c.turns) >>= λ program. Ok (located_program c program)
+abbrev pub program_or : ScriptNames → List ManagedStep → ℕ → CallerSteps → Result LocatedProgram DriverRefusal
+program_or names managed caller c =
+    made_or caller (program_of (written_steps managed caller c.core c.steps) names c.turns) >>= λ program. Ok (located_program managed caller c program)
 
 -- of callers, the first of which has this number
-abbrev pub programs_from : ScriptNames → ℕ → List CallerSteps → Result (List LocatedProgram) DriverRefusal
-programs_from names caller [] = Ok []
-programs_from names caller (c ∷ scripts) = program_or names caller c >>= λ program. programs_from names (caller + 1) scripts >>= λ more. Ok (program ∷ more)
+abbrev pub programs_from : ScriptNames → List ManagedStep → ℕ → List CallerSteps → Result (List LocatedProgram) DriverRefusal
+programs_from names managed caller [] = Ok []
+programs_from names managed caller (c ∷ scripts) =
+    program_or names managed caller c >>= λ program. programs_from names managed (caller + 1) scripts >>= λ more. Ok (program ∷ more)
 
 -- scripts that aren't too long, and whose steps don't have too many exits
 pub record AreFewSteps (c : CallerSteps) : Type 0 where

@@ -1,10 +1,12 @@
 //! The driver core's own calls around a script.
 
-ghost use Rattle.std.specs.Prelude.{◌≡◌, ◌++◌, ◌∷◌, [], IfOk, OnOk};
+ghost use Rattle.std.specs.Prelude.{◌≡◌, ◌≤◌, ◌++◌, ◌∷◌, [], IfOk, OnOk, filter, length, map};
 ghost use Rattle.std.specs.Option.{option_copied};
-ghost use Rattle.pm_driver_read.specs.Core.{asking, behind_helpers, before_of, bus_start, calling, calling_all, calling_each, closing, ended, failed_tail, failing_helpers, front_helpers, label_left, parent_list, put_upper, reinit, returned_tail};
+ghost use Rattle.pm_driver_read.specs.Core.{asking, asking_flag, behind_helpers, before_of, bus_start, calling, calling_all, calling_each, closing, ended, failed_tail, failing_helpers, front_helpers, label_behind, label_left, parent_list, put_upper, reinit, returned_tail, undo_all, undo_one, undos_of};
+ghost use Rattle.pm_driver_read.specs.Managed.{is_undone_as, undone};
 
 use crate::driver::Role;
+use crate::managed::{ManagedStep, flag_of, is_undone_as, same_what};
 use pm_base::{DevId, NoMemory};
 use pm_driver_text::{CodeTest, Question, ScriptStep, StepExit, StepWhat};
 use pm_model::{Command, Helper, Items};
@@ -21,6 +23,9 @@ pub(crate) const FAILED: &[u8] = b"  ";
 const SETTLED: &[u8] = b"   ";
 
 const UNDONE: &[u8] = b"    ";
+
+/// Behind a step that is undone.
+const NEXT: &[u8] = b"     ";
 
 /// A bus whose own calls stand around a driver's (`drivers/amba/bus.c`, `drivers/pci/pci-driver.c`).
 #[derive(Clone, Copy)]
@@ -250,24 +255,132 @@ fn label_left<'a>(label: &'a [u8], helpers: &[Helper]) -> Option<&'a [u8]>
     }
 }
 
-/// Appends what is called of a device that a driver gives back: what the bus calls, and where it is disabled and active
-/// then, that it is suspended (`pm_runtime_reinit`).
+/// A step that goes on behind those that undo something, where the flag of this isn't set.
+fn asking_flag<'a>(
+    alloc: Global,
+    label: Option<&'a [u8]>,
+    flag: &'a [u8],
+) -> Result<ScriptStep<'a>, NoMemory>
+    ensures { IfOk result (λ step. step ≡ asking_flag (option_copied label.entry) flag.now) }
+{
+    let mut exits = Vec::new(alloc);
+    exits.push(StepExit {
+        test: CodeTest::Is { code: 0 },
+        label: ScriptWord::new(NEXT),
+    })?;
+    Ok(ScriptStep {
+        label: word_of(label),
+        devm: false,
+        what: StepWhat::AskFlag {
+            flag: ScriptWord::new(flag),
+        },
+        exits: Items::new(exits),
+    })
+}
+
+/// Appends what undoes a step.
+fn push_undone<'a>(
+    alloc: Global,
+    out: &mut Vec<ScriptStep<'a>>,
+    what: &StepWhat<'a>,
+) -> Result<(), NoMemory>
+    ensures { OnOk result (out.new.items ≡ out.old.items ++ map (ended None) (undone what.now)) }
+{
+    match what {
+        StepWhat::DevmEnable { dev } => {
+            out.push(calling(alloc, None, Helper::DontUseAutosuspend, *dev))?;
+            out.push(calling(alloc, None, Helper::Disable, *dev))?;
+        }
+        what => {
+            out.push(step_of(alloc, None, same_what(what)))?;
+        }
+    }
+    Ok(())
+}
+
+/// Appends what undoes a step where its flag is set, which is cleared.
+fn push_undo<'a>(
+    alloc: Global,
+    out: &mut Vec<ScriptStep<'a>>,
+    label: Option<&'a [u8]>,
+    flag: &'a [u8],
+    what: &StepWhat<'a>,
+) -> Result<(), NoMemory>
+    ensures { OnOk result (out.new.items ≡ out.old.items ++ undo_one flag.now (option_copied label.entry) what.now) }
+{
+    out.push(asking_flag(alloc, label, flag)?)?;
+    let clear = StepWhat::Clear {
+        flag: ScriptWord::new(flag),
+    };
+    out.push(step_of(alloc, None, clear))?;
+    push_undone(alloc, out, what)
+}
+
+/// The steps of all scripts that are undone, and the number of the caller that undoes its own.
+#[derive(Clone, Copy)]
+pub(crate) struct Undo<'a, 'b> {
+    pub managed: &'b [ManagedStep<'a>],
+    pub caller: usize,
+}
+
+/// Appends what undoes those of these steps that a caller undoes, the last first. Gives the label that is left.
+fn push_undos<'a>(
+    alloc: Global,
+    out: &mut Vec<ScriptStep<'a>>,
+    label: Option<&'a [u8]>,
+    core: &Core,
+    undo: &Undo<'a, '_>,
+    steps: &[ManagedStep<'a>],
+) -> Result<Option<&'a [u8]>, NoMemory>
+    requires { length undo.now.managed.now ≤ 64 }
+    ensures steps { OnOk result (out.new.items ≡ out.old.items ++ undo_all undo.now.managed.now (option_copied label.entry) (filter (is_undone_as core.now.role undo.now.caller core.now.dev) steps.now)) }
+    ensures left { IfOk result (λ left. option_copied left ≡ label_behind (option_copied label.entry) (filter (is_undone_as core.now.role undo.now.caller core.now.dev) steps.now)) }
+{
+    let [step, behind @ ..] = steps else {
+        return Ok(label);
+    };
+    let label = push_undos(alloc, out, label, core, undo, behind)?;
+    if !is_undone_as(core.role, undo.caller, core.dev, step) {
+        return Ok(label);
+    }
+    let flag = flag_of(undo.managed, step.caller, step.step);
+    push_undo(alloc, out, label, flag, &step.what)?;
+    Ok(Some(NEXT))
+}
+
+/// Appends that a device is suspended where it is disabled and active (`pm_runtime_reinit`).
+fn push_reinit<'a>(
+    alloc: Global,
+    out: &mut Vec<ScriptStep<'a>>,
+    label: Option<&'a [u8]>,
+    skip: &'a [u8],
+    dev: DevId,
+) -> Result<(), NoMemory>
+    ensures { OnOk result (out.new.items ≡ out.old.items ++ reinit (option_copied label.entry) skip.now dev) }
+{
+    out.push(asking(alloc, label, Question::Enabled, dev, skip)?)?;
+    out.push(asking(alloc, None, Question::StatusSuspended, dev, skip)?)?;
+    out.push(calling(alloc, None, Helper::SetSuspended, dev))?;
+    Ok(())
+}
+
+/// Appends what is called of a device that a driver gives back: what the bus calls, what undoes `devm` steps, and reinit.
 fn push_closing<'a>(
     alloc: Global,
     out: &mut Vec<ScriptStep<'a>>,
     label: &'a [u8],
     skip: &'a [u8],
-    dev: DevId,
+    core: &Core,
+    undo: &Undo<'a, '_>,
     helpers: &[Helper],
 ) -> Result<(), NoMemory>
-    ensures { OnOk result (out.new.items ≡ out.old.items ++ closing label.now skip.now dev helpers.now) }
+    requires { length undo.now.managed.now ≤ 64 }
+    ensures { OnOk result (out.new.items ≡ out.old.items ++ closing undo.now.managed.now (undos_of undo.now.managed.now undo.now.caller core.now) label.now skip.now core.now.dev helpers.now) }
 {
-    push_calls(alloc, out, Some(label), dev, helpers)?;
+    push_calls(alloc, out, Some(label), core.dev, helpers)?;
     let left = label_left(label, helpers);
-    out.push(asking(alloc, left, Question::Enabled, dev, skip)?)?;
-    out.push(asking(alloc, None, Question::StatusSuspended, dev, skip)?)?;
-    out.push(calling(alloc, None, Helper::SetSuspended, dev))?;
-    Ok(())
+    let left = push_undos(alloc, out, left, core, undo, undo.managed)?;
+    push_reinit(alloc, out, left, skip, core.dev)
 }
 
 /// Appends what follows a probe: the device may go idle, and what it hangs on is let go.
@@ -289,8 +402,10 @@ pub(crate) fn push_returned<'a>(
     alloc: Global,
     out: &mut Vec<ScriptStep<'a>>,
     core: &Core,
+    undo: &Undo<'a, '_>,
 ) -> Result<(), NoMemory>
-    ensures { OnOk result (out.new.items ≡ out.old.items ++ returned_tail core.now) }
+    requires { length undo.now.managed.now ≤ 64 }
+    ensures { OnOk result (out.new.items ≡ out.old.items ++ returned_tail undo.now.managed.now undo.now.caller core.now) }
 {
     let label = match core.role {
         Role::Probe => {
@@ -298,14 +413,8 @@ pub(crate) fn push_returned<'a>(
             None
         }
         Role::Remove => {
-            push_closing(
-                alloc,
-                out,
-                RETURNED,
-                SETTLED,
-                core.dev,
-                behind_helpers(core.bus),
-            )?;
+            let helpers = behind_helpers(core.bus);
+            push_closing(alloc, out, RETURNED, SETTLED, core, undo, helpers)?;
             Some(SETTLED)
         }
         Role::Shutdown => Some(RETURNED),
@@ -319,19 +428,21 @@ pub(crate) fn push_failed<'a>(
     alloc: Global,
     out: &mut Vec<ScriptStep<'a>>,
     core: &Core,
+    undo: &Undo<'a, '_>,
 ) -> Result<(), NoMemory>
-    ensures { OnOk result (out.new.items ≡ out.old.items ++ failed_tail core.now) }
+    requires { length undo.now.managed.now ≤ 64 }
+    ensures { OnOk result (out.new.items ≡ out.old.items ++ failed_tail undo.now.managed.now undo.now.caller core.now) }
 {
     let label = match core.role {
         Role::Probe => {
             let helpers = failing_helpers(core.bus);
-            push_closing(alloc, out, FAILED, UNDONE, core.dev, helpers)?;
+            push_closing(alloc, out, FAILED, UNDONE, core, undo, helpers)?;
             push_put_upper(alloc, out, UNDONE, core)?;
             None
         }
         Role::Remove => {
             let helpers = behind_helpers(core.bus);
-            push_closing(alloc, out, FAILED, UNDONE, core.dev, helpers)?;
+            push_closing(alloc, out, FAILED, UNDONE, core, undo, helpers)?;
             Some(UNDONE)
         }
         Role::Shutdown => Some(FAILED),

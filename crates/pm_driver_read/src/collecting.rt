@@ -1,8 +1,10 @@
 //! The names of all scripts.
 
-ghost use Rattle.std.specs.Prelude.{◌≡◌, ◌≤◌, [], IfOk, map};
+ghost use Rattle.std.specs.Prelude.{◌≡◌, ◌≤◌, ◌++◌, [], IfOk, OnOk, length, map};
+ghost use Rattle.pm_driver_read.specs.Managed.{all_managed, flag_names};
 ghost use Rattle.pm_driver_read.specs.Programs.{collected, few_names, names_of};
 
+use crate::managed::flag_name;
 use crate::refusal::ProgramWhy;
 use crate::scripts::CallerSteps;
 use pm_base::{MAX_DEVICES, NoMemory};
@@ -26,6 +28,32 @@ fn collected<'a>(
     Ok(Items::new(names))
 }
 
+/// Appends the flags of so many steps that are undone.
+#[tactic(auto, using(crate::proofs::LineLemmas::flags_more))]
+fn push_flag_names(names: &mut Vec<ScriptWord>, count: usize) -> Result<(), NoMemory>
+    requires { count ≤ 64 }
+    ensures { OnOk result (names.new.items ≡ names.old.items ++ flag_names count) }
+{
+    for place in 0..count {
+        names.push(ScriptWord::new(flag_name(place)))?;
+    }
+    Ok(())
+}
+
+/// The flags of all scripts.
+fn flags_of<'a>(
+    alloc: Global,
+    scripts: &[CallerSteps<'a>],
+    managed: usize,
+) -> Result<Items<ScriptWord<'a>>, NoMemory>
+    requires { managed ≤ 64 }
+    ensures { IfOk result (λ names. names ≡ collected NameKind.Flag [] scripts.now ++ flag_names managed) }
+{
+    let mut names = collected(alloc, NameKind::Flag, scripts)?.into_vec();
+    push_flag_names(&mut names, managed)?;
+    Ok(Items::new(names))
+}
+
 /// The names of callers.
 fn caller_names<'a>(
     alloc: Global,
@@ -45,12 +73,15 @@ pub(crate) fn names_of<'a>(
     alloc: Global,
     devices: u32,
     scripts: &[CallerSteps<'a>],
+    managed: usize,
 ) -> Result<ScriptNames<'a>, NoMemory>
+    requires all { managed ≡ length (all_managed 0 scripts.now) }
+    requires few { managed ≤ 64 }
     ensures { IfOk result (λ names. names ≡ names_of devices scripts.now) }
 {
     Ok(ScriptNames {
         devices,
-        flags: collected(alloc, NameKind::Flag, scripts)?,
+        flags: flags_of(alloc, scripts, managed)?,
         marks: collected(alloc, NameKind::Mark, scripts)?,
         locks: collected(alloc, NameKind::Lock, scripts)?,
         callers: caller_names(alloc, scripts)?,

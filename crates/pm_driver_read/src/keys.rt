@@ -212,7 +212,7 @@ fn names_fault(callers: &[CallerWords], words: &CallerWords) -> Option<KeyFault>
 
 /// What is wrong with the words of a caller.
 #[tactic(auto, unfolding(crate::specs::Keys::words_fault))]
-fn words_fault(
+pub(crate) fn words_fault(
     devices: &DeviceList,
     callers: &[CallerWords],
     words: &CallerWords,

@@ -9,8 +9,10 @@ mod around;
 mod collecting;
 mod driver;
 mod fails;
+mod further;
 mod keys;
 mod laws;
+mod managed;
 mod plans;
 mod read;
 mod reading;
@@ -22,6 +24,7 @@ mod written;
 
 pub use around::{Bus, Core};
 pub use driver::{CallerNeed, Driver, DriverCaller, Role};
+pub use further::further_refusals;
 pub use keys::MAX_TURNS;
 pub use laws::plans_are_drivers;
 pub use read::read_driver;

@@ -3,7 +3,7 @@
 ghost use Rattle.std.specs.Prelude.{◌≡◌, ◌≤◌, All, None, Ok, IfErr, IfOk, OnOk, length, map, nat_le, option_map, true};
 ghost use Rattle.std.specs.List.{list_all};
 ghost use Rattle.toml.specs.View.{table_view};
-ghost use Rattle.pm_driver_read.specs.Drivers.{adopted, based_driver, caller_of, callers_of, contents_in, driver_of, file_driver, made_driver, named_driver, plain_caller, plain_driver, plain_of, tree_driver};
+ghost use Rattle.pm_driver_read.specs.Drivers.{adopted, based_driver, caller_of, callers_of, contents_in, driver_of, file_driver, made_driver, managed_driver, named_driver, plain_caller, plain_driver, plain_of, tree_driver};
 ghost use Rattle.pm_driver_read.specs.Programs.{AreFewSteps};
 ghost use Rattle.pm_driver_read.specs.Refusals.{IsFaultOf, plan_refused, stopped};
 ghost use Rattle.pm_driver_read.specs.declared.refusal.DriverRefusal.TheVariants.{Device, Key};
@@ -14,6 +14,7 @@ use crate::collecting::{few_names, names_of};
 use crate::driver::{Driver, DriverCaller};
 use crate::fails::{codes_fault, fails_fault};
 use crate::keys::{bound_to, caller_named, keys_fault, role_in};
+use crate::managed::{ManagedStep, all_managed, devm_fault, few_managed};
 use crate::plans::{based, flagged, scripted, scripts_fault};
 use crate::reading::{LocatedProgram, first_fault, programs_of};
 use crate::refusal::{
@@ -186,13 +187,15 @@ fn named_driver(
     tree: &Table,
     callers: &[CallerWords],
     names: &ScriptNames,
+    managed: &[ManagedStep],
     scripts: Vec<CallerSteps>,
 ) -> Result<Driver, DriverFault>
+    requires managed { length managed.now ≤ 64 }
     requires devices { names.now.devices ≤ 1024 }
     requires callers { length names.now.callers ≤ 16 }
     requires few { All AreFewSteps scripts.items }
-    ensures ok { IfOk result (λ driver. named_driver (table_view tree.now) callers.now names.now scripts.entry.items ≡ Ok (contents_in driver)) }
-    ensures fault { IfErr result (IsFaultOf (named_driver (table_view tree.now) callers.now names.now scripts.entry.items)) }
+    ensures ok { IfOk result (λ driver. named_driver (table_view tree.now) callers.now names.now managed.now scripts.entry.items ≡ Ok (contents_in driver)) }
+    ensures fault { IfErr result (IsFaultOf (named_driver (table_view tree.now) callers.now names.now managed.now scripts.entry.items)) }
 {
     if let Some(why) = few_names(names) {
         return Err(DriverFault::Refused {
@@ -203,8 +206,34 @@ fn named_driver(
     go_on_keys(marks_fault(callers, scripts.as_slice()))?;
     let needs = all_needs(alloc, callers, names.marks.as_slice())?;
     go_on_keys(circle_fault(alloc, needs.as_slice())?)?;
-    let programs = programs_of(alloc, names, scripts)?;
+    let programs = programs_of(alloc, names, managed, scripts)?;
     made_driver(alloc, tree, callers, names, programs)
+}
+
+/// The driver of scripts, some of whose steps are undone.
+#[tactic(auto, unfolding(crate::specs::Drivers::managed_driver), using(crate::proofs::CallerLemmas::names_few, crate::proofs::NameLemmas::managed_few))]
+fn managed_driver(
+    alloc: Global,
+    tree: &Table,
+    devices: u32,
+    callers: &[CallerWords],
+    scripts: Vec<CallerSteps>,
+) -> Result<Driver, DriverFault>
+    requires devices { devices ≤ 1024 }
+    requires callers { length scripts.items ≤ 16 }
+    requires few { All AreFewSteps scripts.items }
+    ensures ok { IfOk result (λ driver. managed_driver (table_view tree.now) devices callers.now scripts.entry.items ≡ Ok (contents_in driver)) }
+    ensures fault { IfErr result (IsFaultOf (managed_driver (table_view tree.now) devices callers.now scripts.entry.items)) }
+{
+    go_on_scripts(devm_fault(scripts.as_slice()))?;
+    let managed = all_managed(alloc, scripts.as_slice())?;
+    if let Some(why) = few_managed(managed.as_slice()) {
+        return Err(DriverFault::Refused {
+            refusal: refused(0, 0, why),
+        });
+    }
+    let names = names_of(alloc, devices, scripts.as_slice(), managed.len())?;
+    named_driver(alloc, tree, callers, &names, managed.as_slice(), scripts)
 }
 
 /// The driver of a plan's rows and the words of its callers.
@@ -222,8 +251,7 @@ fn based_driver(
 {
     go_on_keys(keys_fault(&base.devices, callers))?;
     let scripts = scripts_in(alloc, base, callers)?;
-    let names = names_of(alloc, base.devices.len() as u32, scripts.as_slice())?;
-    named_driver(alloc, tree, callers, &names, scripts)
+    managed_driver(alloc, tree, base.devices.len() as u32, callers, scripts)
 }
 
 /// The driver of a tree.

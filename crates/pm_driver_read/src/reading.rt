@@ -7,6 +7,8 @@ ghost use Rattle.pm_driver_script.specs.Fits.{HasFewExits};
 ghost use Rattle.pm_driver_script.specs.Programs.{program_of};
 ghost use Rattle.pm_driver_read.specs.Refusals.{IsFaultOf};
 
+use crate::around::Undo;
+use crate::managed::ManagedStep;
 use crate::refusal::{DriverFault, DriverRefusal, ProgramWhy, refused};
 use crate::scripts::CallerSteps;
 use crate::written::written;
@@ -69,12 +71,14 @@ fn program_or(
     alloc: Global,
     names: &ScriptNames,
     number: usize,
+    managed: &[ManagedStep],
     caller: CallerSteps,
 ) -> Result<LocatedProgram, DriverFault>
     requires names { FewNames names.now }
+    requires managed { length managed.now ≤ 64 }
     requires few { AreFewSteps caller }
-    ensures ok { IfOk result (λ made. program_or names.now number caller.entry ≡ Ok made) }
-    ensures fault { IfErr result (IsFaultOf (program_or names.now number caller.entry)) }
+    ensures ok { IfOk result (λ made. program_or names.now managed.now number caller.entry ≡ Ok made) }
+    ensures fault { IfErr result (IsFaultOf (program_or names.now managed.now number caller.entry)) }
 {
     let CallerSteps {
         name: _,
@@ -82,7 +86,11 @@ fn program_or(
         turns,
         core,
     } = caller;
-    let made = written(alloc, &core, steps.into_vec())?;
+    let undo = Undo {
+        managed,
+        caller: number,
+    };
+    let made = written(alloc, &core, &undo, steps.into_vec())?;
     let program = made_or(alloc, names, number, made.steps.as_slice(), turns)?;
     Ok(LocatedProgram {
         program,
@@ -95,17 +103,19 @@ fn program_or(
 pub(crate) fn programs_of(
     alloc: Global,
     names: &ScriptNames,
+    managed: &[ManagedStep],
     scripts: Vec<CallerSteps>,
 ) -> Result<Vec<LocatedProgram>, DriverFault>
     requires names { FewNames names.now }
+    requires managed { length managed.now ≤ 64 }
     requires few { All AreFewSteps scripts.items }
-    ensures ok { IfOk result (λ v. programs_from names.now 0 scripts.entry.items ≡ Ok v.items) }
-    ensures fault { IfErr result (IsFaultOf (programs_from names.now 0 scripts.entry.items)) }
+    ensures ok { IfOk result (λ v. programs_from names.now managed.now 0 scripts.entry.items ≡ Ok v.items) }
+    ensures fault { IfErr result (IsFaultOf (programs_from names.now managed.now 0 scripts.entry.items)) }
 {
     let mut programs = Vec::with_capacity(alloc, scripts.len())?;
     for caller in scripts {
         let number = programs.len();
-        programs.push(program_or(alloc, names, number, caller)?)?;
+        programs.push(program_or(alloc, names, number, managed, caller)?)?;
     }
     Ok(programs)
 }

@@ -53,6 +53,10 @@ pub struct KeyRefusal {
 pub enum ProgramWhy {
     /// A step is none.
     Step { fault: StepFault },
+    /// A step that is undone stands in the script of no probe that binds a device, or is a jump or an end.
+    Devm,
+    /// More than 64 steps are undone.
+    ManyDevm,
     /// There are more flags than devices may be left.
     ManyFlags,
     /// There are more than 64 marks.

@@ -27,7 +27,7 @@ pub struct CallerSteps<'a> {
 }
 
 /// The step of a string of a caller's script.
-fn located<'a>(
+pub(crate) fn located<'a>(
     alloc: Global,
     devices: &DeviceList,
     caller: usize,

@@ -60,7 +60,7 @@ fn straight_places(alloc: Global, commands: &[Command]) -> Result<Vec<ProgramPla
 
 /// The steps of a script that its steps are of: each its own.
 #[tactic(auto, using(crate::proofs::LineLemmas::own_more))]
-fn straight_lines(alloc: Global, count: usize) -> Result<Vec<Option<u32>>, NoMemory>
+pub(crate) fn straight_lines(alloc: Global, count: usize) -> Result<Vec<Option<u32>>, NoMemory>
     requires { count < 2 ^ 31 }
     ensures { IfOk result (λ lines. lines.items ≡ straight_lines count) }
 {

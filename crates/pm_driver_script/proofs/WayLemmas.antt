@@ -1,5 +1,5 @@
 -- The exits of a get, one after the other.
-use Rattle.std.proofs.Common.{◌≡◌, ℕ, ◌+◌, Bool, true, false, List, [], ◌∷◌, ◌++◌, Some, refl, ap, sym, ◌∙◌, append_assoc}
+use Rattle.std.proofs.Common.{◌≡◌, ℕ, ◌+◌, true, false, List, [], ◌∷◌, ◌++◌, Some, ap, sym, ◌∙◌, append_assoc}
 use Rattle.std.specs.Prelude.{if◌then◌else◌}
 use Rattle.pm_driver_script.specs.Ways.{found_exit, get_exits, get_test, part_goal, takes_all}
 use Rattle.pm_driver_script.specs.declared.ways.GoalExit.{GoalExit}

@@ -1,5 +1,5 @@
 -- What a caller calls at a part of a step, what it asks there, and when it may begin (this project's own).
-use Rattle.std.specs.Prelude.{ℕ, ℤ, ◌+◌, ◌<◌, ◌^◌, ◌≤◌, List, Option, Some, None, length, nat_eq, pos, unwrap_or, if◌then◌else◌}
+use Rattle.std.specs.Prelude.{ℕ, ℤ, ◌+◌, ◌≤◌, List, Option, Some, None, length, nat_eq, pos, unwrap_or, if◌then◌else◌}
 use Rattle.pm_base.specs.declared.DevId.{DevId}
 use Rattle.pm_model.specs.NamedList.{place_named}
 use Rattle.pm_model.specs.declared.event.Command.{Command}

@@ -1,10 +1,10 @@
 -- Why a script has no program (this project's own): a label that stands twice, a step that isn't read yet, a caller that isn't
--- there, a label that isn't there or isn't further on.
-use Rattle.std.specs.Prelude.{ℕ, ◌+◌, Bool, true, false, List, [], ◌∷◌, Option, Some, None, drop, is_none, option_map, take, if◌then◌else◌}
+-- there, a label that isn't there or isn't further on. Whoever reads a file writes its `devm` steps out first.
+use Rattle.std.specs.Prelude.{ℕ, ◌+◌, Bool, true, false, List, [], ◌∷◌, Option, Some, None, is_none, option_map, take, if◌then◌else◌}
 use Rattle.std.specs.List.{list_any, slice_split}
 use Rattle.std.specs.Option.{option_map_or, option_or}
 use Rattle.pm_model.specs.NamedList.{place_named}
-use Rattle.pm_driver_script.specs.Goals.{goto_label, has_label}
+use Rattle.pm_driver_script.specs.Goals.{has_label}
 use Rattle.pm_driver_script.specs.Marks.{is_comma}
 use Rattle.pm_driver_script.specs.declared.faults.ScriptRefusal.{ScriptRefusal}
 use Rattle.pm_driver_script.specs.declared.faults.ScriptWhy.{ScriptWhy}
@@ -33,15 +33,11 @@ abbrev pub lacks_caller : List (List ℕ) → List (List ℕ) → Bool
 lacks_caller callers [] = false
 lacks_caller callers (name ∷ names) = if is_none (place_named name callers) then true else lacks_caller callers names
 
-abbrev pub stop_fault : ScriptNames → StepWhat → Option ScriptWhy
-stop_fault names (what.Stop callers) = if lacks_caller names.callers (slice_split is_comma callers) then Some why.NoCaller else None
-stop_fault names (what.DevmEnable dev) = Some why.NotYet
-stop_fault names (what.ForceResume dev) = Some why.NotYet
-stop_fault names w = None
-
 -- NotYet: the step isn't read yet
-abbrev pub what_fault : ScriptNames → ScriptStep → Option ScriptWhy
-what_fault names step = if step.devm then Some why.NotYet else stop_fault names step.what
+abbrev pub what_fault : ScriptNames → StepWhat → Option ScriptWhy
+what_fault names (what.Stop callers) = if lacks_caller names.callers (slice_split is_comma callers) then Some why.NoCaller else None
+what_fault names (what.ForceResume dev) = Some why.NotYet
+what_fault names w = None
 
 -- Twice: the label stands earlier
 abbrev pub is_twice : List ScriptStep → ScriptStep → Bool
@@ -50,7 +46,7 @@ is_twice before step = option_map_or (λ label. list_any (has_label label) befor
 abbrev pub step_fault : ScriptNames → List ScriptStep → List ScriptStep → ScriptStep → List ScriptStep → Option ScriptWhy
 step_fault names steps before step behind =
     if is_twice before step then Some why.Twice
-    else option_or (what_fault names step) (option_or (goto_fault steps behind step.what) (exits_fault steps behind step.exits))
+    else option_or (what_fault names step.what) (option_or (goto_fault steps behind step.what) (exits_fault steps behind step.exits))
 
 -- the first refusal of steps that are counted on from a number
 abbrev pub refused_at : ℕ → ScriptWhy → ScriptRefusal

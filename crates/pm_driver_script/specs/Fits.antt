@@ -1,5 +1,5 @@
 -- Scripts that fit (this project's own).
-use Rattle.std.specs.Prelude.{ℕ, ◌<◌, ◌≤◌, ◌^◌, All, List, length}
+use Rattle.std.specs.Prelude.{◌<◌, ◌≤◌, ◌^◌, All, List, length}
 use Rattle.pm_driver_script.specs.Calls.{FewNames}
 use Rattle.pm_driver_script.specs.declared.program.Numbered.{Numbered}
 use Rattle.pm_driver_script.specs.declared.program.Script.{Script}

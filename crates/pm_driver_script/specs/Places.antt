@@ -1,13 +1,11 @@
 -- The places of a program: where a caller may stand in its script, in which of its turns, and how far it has come (this
 -- project's own).
-use Rattle.std.specs.Prelude.{ℕ, ◌+◌, Bool, true, false, ◌&&◌, List, [], ◌∷◌, ◌++◌, Option, Some, None, drop, is_some, length, map, nat_eq, nat_lt, position, slice_get, if◌then◌else◌}
+use Rattle.std.specs.Prelude.{ℕ, ◌+◌, Bool, true, false, ◌&&◌, List, [], ◌∷◌, ◌++◌, Option, None, is_some, map, nat_eq, nat_lt, position, if◌then◌else◌}
 use Rattle.pm_driver_script.specs.Goals.{goal_from}
-use Rattle.pm_driver_script.specs.Marks.{passed}
 use Rattle.pm_driver_script.specs.Ways.{exits_at, otherwise_at}
 use Rattle.pm_driver_script.specs.declared.goals.Goal.{Goal}
 use Rattle.pm_driver_script.specs.declared.goals.Goal.TheVariants as goal
 use Rattle.pm_driver_script.specs.declared.marks.Past.{Past}
-use Rattle.pm_driver_script.specs.declared.names.ScriptNames.{ScriptNames}
 use Rattle.pm_driver_script.specs.declared.places.Standing.{Standing}
 use Rattle.pm_driver_text.specs.declared.steps.ScriptStep.{ScriptStep}
 

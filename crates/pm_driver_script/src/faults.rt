@@ -17,7 +17,7 @@ use pm_script::ScriptWord;
 pub enum ScriptWhy {
     /// Its label stands earlier.
     Twice,
-    /// It is one that isn't read yet: `devm`, `devm_enable`, `force_resume`.
+    /// It is one that isn't read yet: `force_resume`.
     NotYet,
     /// A caller that it stops isn't there.
     NoCaller,
@@ -92,14 +92,11 @@ fn lacks_caller(callers: &[ScriptWord], list: &[u8]) -> bool
 }
 
 /// Why a step can't do what it says.
-fn what_fault(names: &ScriptNames, step: &ScriptStep) -> Option<ScriptWhy>
-    ensures { result ≡ what_fault names.now step.now }
+fn what_fault(names: &ScriptNames, what: &StepWhat) -> Option<ScriptWhy>
+    ensures { result ≡ what_fault names.now what.now }
 {
-    if step.devm {
-        return Some(ScriptWhy::NotYet);
-    }
-    match &step.what {
-        StepWhat::DevmEnable { .. } | StepWhat::ForceResume { .. } => Some(ScriptWhy::NotYet),
+    match what {
+        StepWhat::ForceResume { .. } => Some(ScriptWhy::NotYet),
         StepWhat::Stop { callers } => {
             if lacks_caller(names.callers.as_slice(), callers.as_slice()) {
                 Some(ScriptWhy::NoCaller)
@@ -134,7 +131,7 @@ fn step_fault(
     if is_twice(step, before) {
         return Some(ScriptWhy::Twice);
     }
-    let fault = what_fault(names, step);
+    let fault = what_fault(names, &step.what);
     if fault.is_some() {
         return fault;
     }

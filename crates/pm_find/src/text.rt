@@ -15,7 +15,8 @@ use kinds::push_kind;
 pub use pieces::{push, push_actor, push_code, push_device, push_number};
 use pm_base::NoMemory;
 use pm_model::Plan;
-use words::{kind_word, weight_word};
+use words::kind_word;
+pub use words::weight_word;
 
 // Appends what is told of a place, and a newline.
 fn push_line_end(text: &mut Vec<u8>, place: &[u8]) -> Result<(), NoMemory>

@@ -26,7 +26,9 @@ name_of word =
     else if bytes_eq word (codes "--expect") then Some name.Expect
     else if bytes_eq word (codes "--json") then Some name.Json
     else if bytes_eq word (codes "--late") then Some name.Late
+    else if bytes_eq word (codes "--eager") then Some name.Eager
     else if bytes_eq word (codes "--most") then Some name.Most
+    else if bytes_eq word (codes "--fail") then Some name.Fail
     else if bytes_eq word (codes "--states") || bytes_eq word (codes "--spots") then Some name.States
     else if bytes_eq word (codes "--differ") then Some name.Differ
     else if bytes_eq word (codes "--seen") then Some name.Seen
@@ -36,6 +38,7 @@ name_of word =
 abbrev pub has_value : Name → Bool
 has_value name.Expect = true
 has_value name.Most = true
+has_value name.Fail = true
 has_value name.States = true
 has_value name.Seen = true
 has_value _ = false
@@ -45,6 +48,11 @@ abbrev pub takes : Command → Name → Bool
 takes command.Find name.Expect = true
 takes command.Find name.Ktap = true
 takes command.Find name.Notes = true
+takes command.Find name.Late = true
+takes command.Find name.Eager = true
+takes command.Find name.Most = true
+takes command.Find name.Fail = true
+takes command.Find name.States = true
 takes command.Picture name.Json = true
 takes command.Orders name.Late = true
 takes command.Orders name.Most = true
@@ -71,9 +79,10 @@ abbrev pub joined : List ℕ → Option Valued
 joined word =
     joined_by word (codes "--expect=") name.Expect
     (joined_by word (codes "--most=") name.Most
+    (joined_by word (codes "--fail=") name.Fail
     (joined_by word (codes "--states=") name.States
     (joined_by word (codes "--spots=") name.States
-    (joined_by word (codes "--seen=") name.Seen None))))
+    (joined_by word (codes "--seen=") name.Seen None)))))
 
 -- the options that were given
 pub record Options : Type 0 where
@@ -81,14 +90,16 @@ pub record Options : Type 0 where
   pub ktap : Bool
   pub json : Bool
   pub late : Bool
+  pub eager : Bool
   pub differ : Bool
   pub expect : Option (List ℕ)
   pub most : Option (List ℕ)
+  pub fail : Option (List ℕ)
   pub states : Option (List ℕ)
   pub seen : Option (List ℕ)
 
 abbrev pub none_given : Options
-none_given = record { notes = false; ktap = false; json = false; late = false; differ = false; expect = None; most = None; states = None; seen = None }
+none_given = record { notes = false; ktap = false; json = false; late = false; eager = false; differ = false; expect = None; most = None; fail = None; states = None; seen = None }
 
 -- an option was given
 abbrev pub has : Options → Name → Bool
@@ -97,7 +108,9 @@ has o name.Ktap = o.ktap
 has o name.Expect = not (is_none o.expect)
 has o name.Json = o.json
 has o name.Late = o.late
+has o name.Eager = o.eager
 has o name.Most = not (is_none o.most)
+has o name.Fail = not (is_none o.fail)
 has o name.States = not (is_none o.states)
 has o name.Differ = o.differ
 has o name.Seen = not (is_none o.seen)
@@ -109,7 +122,9 @@ with_one o name.Ktap value = record o { ktap = true }
 with_one o name.Expect value = record o { expect = Some value }
 with_one o name.Json value = record o { json = true }
 with_one o name.Late value = record o { late = true }
+with_one o name.Eager value = record o { eager = true }
 with_one o name.Most value = record o { most = Some value }
+with_one o name.Fail value = record o { fail = Some value }
 with_one o name.States value = record o { states = Some value }
 with_one o name.Differ value = record o { differ = true }
 with_one o name.Seen value = record o { seen = Some value }

@@ -12,9 +12,11 @@ options_of o = record {
   ktap = o.ktap;
   json = o.json;
   late = o.late;
+  eager = o.eager;
   differ = o.differ;
   expect = option_map (λ word. word.now) o.expect;
   most = option_map (λ word. word.now) o.most;
+  fail = option_map (λ word. word.now) o.fail;
   states = option_map (λ word. word.now) o.states;
   seen = option_map (λ word. word.now) o.seen;
 }

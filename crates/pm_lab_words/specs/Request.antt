@@ -1,7 +1,8 @@
 -- Which words of the command line are a command of pm_lab, and which (this project's own).
-use Rattle.std.specs.Prelude.{ℕ, ℤ, ◌-◌, ◌^◌, Bool, true, false, List, [], ◌∷◌, Option, Some, None, codes, option_and_then, option_map, if◌then◌else◌}
+use Rattle.std.specs.Prelude.{ℕ, ℤ, ◌-◌, ◌^◌, Bool, true, false, ◌||◌, List, [], ◌∷◌, Option, Some, None, codes, option_and_then, option_map, if◌then◌else◌}
 use Rattle.std.specs.Str.{bytes_eq}
 use Rattle.pm_base.specs.declared.Status.{Status}
+use Rattle.pm_lab_words.specs.declared.driver.DriverBounds.{DriverBounds}
 use Rattle.pm_lab_words.specs.declared.names.Command.{Command}
 use Rattle.pm_lab_words.specs.declared.names.Command.TheVariants as command
 use Rattle.pm_lab_words.specs.declared.request.Bounds.{Bounds}
@@ -9,6 +10,7 @@ use Rattle.pm_lab_words.specs.declared.request.Request.{Request}
 use Rattle.pm_lab_words.specs.declared.request.Request.TheVariants as request
 use Rattle.pm_lab_words.specs.declared.request.Sought.{Sought as ReadSought}
 use Rattle.pm_lab_words.specs.declared.request.Sought.TheVariants as sought
+use Rattle.pm_lab_words.specs.Driver.{driver_bounds_of, has_no_trace, is_of_trace}
 use Rattle.pm_lab_words.specs.Given.{given_by}
 use Rattle.pm_lab_words.specs.Numbers.{code_in, number_between, number_or, status_in}
 use Rattle.pm_lab_words.specs.Options.{Options, command_of}
@@ -20,11 +22,12 @@ pub data Sought : Type 0 where
 
 -- a command with what its words name
 pub data Asked : Type 0 where
-  Help : Asked
+  Help Version : Asked
   HelpOn : Command → Asked
   Say Kernel : (plan : List ℕ) → Asked
   Find : (plan trace : List ℕ) (notes : Bool) → Asked
   Check : (plan trace expect : List ℕ) (ktap notes : Bool) → Asked
+  FindDriver : (file : List ℕ) (bounds : DriverBounds) (notes : Bool) → Asked
   Picture : (plan trace : List ℕ) (json : Bool) → Asked
   Orders : (plan : List ℕ) (bounds : Bounds) (differ : Bool) (seen : Option (List ℕ)) → Asked
   OrdersExpected : (plan expect : List ℕ) (bounds : Bounds) (differ : Bool) → Asked
@@ -39,14 +42,18 @@ abbrev pub bounds_of : Options → Option Bounds
 bounds_of o =
     option_and_then (λ most. option_map (λ states. bounds_with o.late most states) (number_or 1 10000000 1000000 o.states)) (number_or 0 99 2 o.most)
 
--- of find: --ktap stands beside --expect alone
+-- of find PLAN TRACE: what is of a search alone is refused, and --ktap stands beside --expect alone
 abbrev pub find_with : List ℕ → List ℕ → Bool → Option (List ℕ) → Bool → Option Asked
 find_with plan trace notes (Some expect) ktap = Some (Check plan trace expect ktap notes)
 find_with plan trace notes None false = Some (Find plan trace notes)
 find_with plan trace notes None true = None
 
 abbrev pub find_of : List ℕ → List ℕ → Options → Option Asked
-find_of plan trace o = find_with plan trace o.notes o.expect o.ktap
+find_of plan trace o = if is_of_trace o then find_with plan trace o.notes o.expect o.ktap else None
+
+-- of find FILE: what is of a trace alone is refused
+abbrev pub find_driver_of : List ℕ → Options → Option Asked
+find_driver_of file o = if has_no_trace o then option_map (λ bounds. FindDriver file bounds o.notes) (driver_bounds_of o) else None
 
 -- of schedules: --expect doesn't stand beside --seen
 abbrev pub orders_with : List ℕ → Bounds → Bool → Option (List ℕ) → Option (List ℕ) → Option Asked
@@ -94,6 +101,7 @@ order_of (plan ∷ words) o = option_and_then (λ bounds. order_with plan words 
 abbrev pub asked_of : Command → List (List ℕ) → Options → Option Asked
 asked_of command.Say (plan ∷ []) o = Some (Say plan)
 asked_of command.Find (plan ∷ trace ∷ []) o = find_of plan trace o
+asked_of command.Find (file ∷ []) o = find_driver_of file o
 asked_of command.Picture (plan ∷ trace ∷ []) o = Some (Picture plan trace o.json)
 asked_of command.Orders (plan ∷ []) o = schedules_of plan o
 asked_of command.Order words o = order_of words o
@@ -109,10 +117,25 @@ help_on _ = None
 abbrev pub asked_with : List (List ℕ) → Command → Option Asked
 asked_with words c = option_and_then (λ given. asked_of c given.plain given.options) (given_by c words)
 
+-- or --help alone
+abbrev pub is_help : List (List ℕ) → Bool
+is_help (word ∷ []) = bytes_eq word (codes "--help")
+is_help _ = false
+
+abbrev pub asked_or_help : List (List ℕ) → Command → Option Asked
+asked_or_help words c = if is_help words then Some (HelpOn c) else asked_with words c
+
+abbrev pub version_of : List (List ℕ) → Option Asked
+version_of [] = Some Version
+version_of _ = None
+
 -- the command that the words name, or none where they are none of the commands
 unfoldable pub asked_by : List (List ℕ) → Option Asked
 asked_by [] = None
-asked_by (word ∷ words) = if bytes_eq word (codes "help") then help_on words else option_and_then (asked_with words) (command_of word)
+asked_by (word ∷ words) =
+    if bytes_eq word (codes "help") || bytes_eq word (codes "--help") then help_on words
+    else if bytes_eq word (codes "--version") then version_of words
+    else option_and_then (asked_or_help words) (command_of word)
 
 -- what is sought, in bytes
 abbrev pub sought_in : ReadSought → Sought
@@ -122,10 +145,12 @@ sought_in (sought.End device status usage error) = End device.now status usage e
 -- what is read from the words, in bytes
 abbrev pub asked : Request → Asked
 asked request.Help = Help
+asked request.Version = Version
 asked (request.HelpOn c) = HelpOn c
 asked (request.Say plan) = Say plan.now
 asked (request.Find plan trace notes) = Find plan.now trace.now notes
 asked (request.Check plan trace expect ktap notes) = Check plan.now trace.now expect.now ktap notes
+asked (request.FindDriver file bounds notes) = FindDriver file.now bounds notes
 asked (request.Picture plan trace json) = Picture plan.now trace.now json
 asked (request.Orders plan bounds differ seen) = Orders plan.now bounds differ (option_map (λ word. word.now) seen)
 asked (request.OrdersExpected plan expect bounds differ) = OrdersExpected plan.now expect.now bounds differ

@@ -6,12 +6,14 @@
 //! number is positional.
 #![tactic(auto)]
 
+mod driver;
 mod given;
 mod names;
 mod numbers;
 mod options;
 mod request;
 
+pub use driver::{DriverBounds, Paces};
 pub use names::Command;
 pub use numbers::{code_in, number_between, status_in};
 pub use request::{Bounds, Request, Sought, read_words};

@@ -22,7 +22,9 @@ pub enum Name {
     Expect,
     Json,
     Late,
+    Eager,
     Most,
+    Fail,
     States,
     Differ,
     Seen,
@@ -53,7 +55,9 @@ pub fn name_of(word: &str) -> Option<Name>
         "--expect" => Some(Name::Expect),
         "--json" => Some(Name::Json),
         "--late" => Some(Name::Late),
+        "--eager" => Some(Name::Eager),
         "--most" => Some(Name::Most),
+        "--fail" => Some(Name::Fail),
         "--states" | "--spots" => Some(Name::States),
         "--differ" => Some(Name::Differ),
         "--seen" => Some(Name::Seen),
@@ -65,7 +69,10 @@ pub fn name_of(word: &str) -> Option<Name>
 pub fn has_value(name: Name) -> bool
     ensures { result ≡ has_value name }
 {
-    matches!(name, Name::Expect | Name::Most | Name::States | Name::Seen)
+    matches!(
+        name,
+        Name::Expect | Name::Most | Name::Fail | Name::States | Name::Seen
+    )
 }
 
 /// Whether a command takes an option.
@@ -73,7 +80,17 @@ pub fn takes(command: Command, name: Name) -> bool
     ensures { result ≡ takes command name }
 {
     match command {
-        Command::Find => matches!(name, Name::Expect | Name::Ktap | Name::Notes),
+        Command::Find => matches!(
+            name,
+            Name::Expect
+                | Name::Ktap
+                | Name::Notes
+                | Name::Late
+                | Name::Eager
+                | Name::Most
+                | Name::Fail
+                | Name::States
+        ),
         Command::Picture => matches!(name, Name::Json),
         Command::Orders => matches!(
             name,

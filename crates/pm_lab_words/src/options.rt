@@ -14,9 +14,11 @@ pub struct Options<'a> {
     pub ktap: bool,
     pub json: bool,
     pub late: bool,
+    pub eager: bool,
     pub differ: bool,
     pub expect: Option<&'a str>,
     pub most: Option<&'a str>,
+    pub fail: Option<&'a str>,
     pub states: Option<&'a str>,
     pub seen: Option<&'a str>,
 }
@@ -38,9 +40,11 @@ impl<'a> Options<'a> {
             ktap: false,
             json: false,
             late: false,
+            eager: false,
             differ: false,
             expect: None,
             most: None,
+            fail: None,
             states: None,
             seen: None,
         }
@@ -56,7 +60,9 @@ impl<'a> Options<'a> {
             Name::Expect => self.expect.is_some(),
             Name::Json => self.json,
             Name::Late => self.late,
+            Name::Eager => self.eager,
             Name::Most => self.most.is_some(),
+            Name::Fail => self.fail.is_some(),
             Name::States => self.states.is_some(),
             Name::Differ => self.differ,
             Name::Seen => self.seen.is_some(),
@@ -81,7 +87,9 @@ impl<'a> Options<'a> {
             Name::Expect => more.expect = Some(value),
             Name::Json => more.json = true,
             Name::Late => more.late = true,
+            Name::Eager => more.eager = true,
             Name::Most => more.most = Some(value),
+            Name::Fail => more.fail = Some(value),
             Name::States => more.states = Some(value),
             Name::Differ => more.differ = true,
             Name::Seen => more.seen = Some(value),
@@ -121,6 +129,7 @@ pub fn joined(word: &str) -> Option<Valued<'_>>
     let seen = joined_by(word, "--seen=", Name::Seen, None);
     let spots = joined_by(word, "--spots=", Name::States, seen);
     let states = joined_by(word, "--states=", Name::States, spots);
-    let most = joined_by(word, "--most=", Name::Most, states);
+    let fail = joined_by(word, "--fail=", Name::Fail, states);
+    let most = joined_by(word, "--most=", Name::Most, fail);
     joined_by(word, "--expect=", Name::Expect, most)
 }

@@ -2,8 +2,9 @@
 
 ghost use Rattle.std.specs.Prelude.{◌≡◌, map, option_map, string_bytes};
 ghost use Rattle.pm_lab_words.specs.Read.{given_of, options_of};
-ghost use Rattle.pm_lab_words.specs.Request.{asked, asked_by, asked_of, asked_with, bounds_of, end_behind, end_of, failing_of, fails_behind, find_of, help_on, order_of, order_with, schedules_of, orders_with, return_of, sought_in, sought_of};
+ghost use Rattle.pm_lab_words.specs.Request.{asked, asked_by, asked_of, asked_or_help, asked_with, bounds_of, end_behind, end_of, failing_of, fails_behind, find_driver_of, find_of, find_with, help_on, is_help, order_of, order_with, schedules_of, orders_with, return_of, sought_in, sought_of, version_of};
 
+use crate::driver::{DriverBounds, driver_bounds_of, has_no_trace, is_of_trace};
 use crate::given::given_by;
 use crate::names::{Command, command_of};
 use crate::numbers::{code_in, number_between, number_or, status_in};
@@ -42,10 +43,12 @@ pub enum Sought<'a> {
 /// A command, with what its words name. Files are named by their paths.
 #[derive(Clone, Copy, PartialEq, Eq)]
 pub enum Request<'a> {
-    /// `help`: the usage and a line for each command.
+    /// `help` or `--help`: the usage and a line for each command.
     Help,
-    /// `help COMMAND`: the page of a command.
+    /// `help COMMAND` or `COMMAND --help`: the page of a command.
     HelpOn(Command),
+    /// `--version`: the program's name and number.
+    Version,
     /// `say PLAN`: tells what is wrong with the plan.
     Say {
         plan: &'a str,
@@ -62,6 +65,12 @@ pub enum Request<'a> {
         trace: &'a str,
         expect: &'a str,
         ktap: bool,
+        notes: bool,
+    },
+    /// `find FILE`: tells what is wrong in the schedules of a driver.
+    FindDriver {
+        file: &'a str,
+        bounds: DriverBounds,
         notes: bool,
     },
     /// `picture PLAN TRACE`: draws the run, or writes it for a viewer of traces, with `--json`.
@@ -119,24 +128,52 @@ fn bounds_of(options: &Options<'_>) -> Option<Bounds>
 }
 
 /// The command `find` of a plan and a trace. `--ktap` is of no use without a file of expectations, and refused.
-fn find_of<'a>(plan: &'a str, trace: &'a str, options: &Options<'a>) -> Option<Request<'a>>
-    ensures { option_map asked result ≡ find_of plan.now trace.now (options_of options.now) }
+fn find_with<'a>(
+    plan: &'a str,
+    trace: &'a str,
+    notes: bool,
+    expect: Option<&'a str>,
+    ktap: bool,
+) -> Option<Request<'a>>
+    ensures { option_map asked result ≡ find_with plan.now trace.now notes (option_map (λ w. w.now) expect.entry) ktap }
 {
-    match (options.expect, options.ktap) {
+    match (expect, ktap) {
         (Some(expect), ktap) => Some(Request::Check {
             plan,
             trace,
             expect,
             ktap,
-            notes: options.notes,
+            notes,
         }),
-        (None, false) => Some(Request::Find {
-            plan,
-            trace,
-            notes: options.notes,
-        }),
+        (None, false) => Some(Request::Find { plan, trace, notes }),
         (None, true) => None,
     }
+}
+
+/// The command `find` of a plan and a trace. What is of a search alone is refused.
+fn find_of<'a>(plan: &'a str, trace: &'a str, options: &Options<'a>) -> Option<Request<'a>>
+    ensures { option_map asked result ≡ find_of plan.now trace.now (options_of options.now) }
+{
+    if is_of_trace(options) {
+        find_with(plan, trace, options.notes, options.expect, options.ktap)
+    } else {
+        None
+    }
+}
+
+/// The command `find` of a driver's file. What is of a trace alone is refused.
+fn find_driver_of<'a>(file: &'a str, options: &Options<'a>) -> Option<Request<'a>>
+    ensures { option_map asked result ≡ find_driver_of file.now (options_of options.now) }
+{
+    if !has_no_trace(options) {
+        return None;
+    }
+    let bounds = driver_bounds_of(options)?;
+    Some(Request::FindDriver {
+        file,
+        bounds,
+        notes: options.notes,
+    })
 }
 
 /// The command `orders` of a plan, with these options.
@@ -299,6 +336,7 @@ fn asked_of<'a>(command: Command, words: &[&'a str], options: &Options<'a>) -> O
     match (command, words) {
         (Command::Say, [plan]) => Some(Request::Say { plan }),
         (Command::Find, [plan, trace]) => find_of(plan, trace, options),
+        (Command::Find, [file]) => find_driver_of(file, options),
         (Command::Picture, [plan, trace]) => Some(Request::Picture {
             plan,
             trace,
@@ -322,6 +360,37 @@ fn help_on(words: &[String]) -> Option<Request<'_>>
     }
 }
 
+/// `--version`, with nothing behind it.
+fn version_of(words: &[String]) -> Option<Request<'_>>
+    ensures { option_map asked result ≡ version_of (map string_bytes words.now) }
+{
+    match words {
+        [] => Some(Request::Version),
+        _ => None,
+    }
+}
+
+/// Whether these words are `--help` alone.
+fn is_help(words: &[String]) -> bool
+    ensures { result ≡ is_help (map string_bytes words.now) }
+{
+    match words {
+        [word] => word.as_str() == "--help",
+        _ => false,
+    }
+}
+
+/// The command of a word with the words behind it, or its page, where that is `--help`.
+fn asked_or_help(words: &[String], command: Command) -> Option<Request<'_>>
+    ensures { option_map asked result ≡ asked_or_help (map string_bytes words.now) command }
+{
+    if is_help(words) {
+        Some(Request::HelpOn(command))
+    } else {
+        asked_with(words, command)
+    }
+}
+
 /// The command of a word with the words behind it.
 fn asked_with(words: &[String], command: Command) -> Option<Request<'_>>
     ensures { option_map asked result ≡ asked_with (map string_bytes words.now) command }
@@ -339,9 +408,13 @@ pub fn read_words(words: &[String]) -> Option<Request<'_>>
     let [word, words @ ..] = words else {
         return None;
     };
-    if word.as_str() == "help" {
+    let word = word.as_str();
+    if word == "help" || word == "--help" {
         return help_on(words);
     }
-    let command = command_of(word.as_str())?;
-    asked_with(words, command)
+    if word == "--version" {
+        return version_of(words);
+    }
+    let command = command_of(word)?;
+    asked_or_help(words, command)
 }

@@ -1,5 +1,5 @@
 -- What is told, put together.
-use Rattle.std.proofs.Common.{◌≡◌, ◌∙◌, ◌≤◌, ℕ, true, false, List, [], ◌∷◌, ◌++◌, All, IfOk, Result, Ok, Err, ap, codes, flat_map, length, map, refl, sym}
+use Rattle.std.proofs.Common.{◌≡◌, ◌∙◌, ◌≤◌, ℕ, true, false, List, [], ◌∷◌, ◌++◌, All, IfOk, Result, Ok, Err, Vec, Global, ap, codes, flat_map, length, map, refl, sym}
 use Rattle.std.proofs.lemmas.List.{length-map}
 use Rattle.std.proofs.lemmas.List.Elements.{All-map, All-weaker}
 use Rattle.std.proofs.lemmas.List.Folds.{flat_map-map}
@@ -12,7 +12,7 @@ use Rattle.pm_messages.specs.declared.located.located.Located.{Located}
 use Rattle.pm_say.specs.Faults.{IsIn}
 use Rattle.pm_say.specs.Says.{Says}
 use Rattle.pm_say.specs.declared.told.Said.{Said}
-use Rattle.pm_say_driver.specs.Refused.{TellsDriver, refusal_line}
+use Rattle.pm_say_driver.specs.Refused.{TellsDriver, refused_told, refusal_line}
 use Rattle.pm_say_driver.specs.Told.{SaysFile, TellsOwn, TellsRefusal, kind_told, warned_told, of_driver, of_other, of_plan, of_refusal}
 
 -- a token that is within the text stands in it
@@ -24,9 +24,19 @@ tokens_in text all within =
     All-map (IsIn text) token_of all
     (All-weaker (λ located. located.span.end ≤ length text) (λ located. IsIn text (token_of located)) (token_in text) all within)
 
-pub tells_refusal : (file text : List ℕ) (r : DriverRefusal) (located : Located) (told : List ℕ) → located.span.end ≤ length text
-    → told ≡ told_of file text (codes "error") (token_of located) ++ refusal_line r → TellsDriver file text r told
-tells_refusal file text r located told within is = record { token = token_of located; token_in = token_in text located within; is = is }
+pub tells_refusal : (file text : List ℕ) (r : DriverRefusal) (located : Located) (others seen : List Located) (work : Result (Vec ℕ Global) NoMemory) → located.span.end ≤ length text
+    → All (λ located. located.span.end ≤ length text) others → length others ≤ 19 → seen ≡ others
+    → IfOk work (λ told. told.items ≡ refused_told file text r located seen) → IfOk work (λ told. TellsDriver file text r told.items)
+tells_refusal file text r located others seen (Ok told) within all few same is =
+    record {
+      token = token_of located;
+      token_in = token_in text located within;
+      others = map token_of others;
+      others_in = tokens_in text others all;
+      few = rw (length-map others token_of) few;
+      is = rw (flat_map-map (told_of file text (codes "error")) token_of others) (is ∙ ap (refused_told file text r located) same);
+    }
+tells_refusal file text r located others seen (Err e) within all few same is = tt
 
 same_kind : (all : List Located) → kind_told (map token_of all) ≡ kind_told all
 same_kind [] = refl

@@ -1,5 +1,5 @@
 -- What is told of a driver that is refused (this project's own).
-use Rattle.std.specs.Prelude.{◌≡◌, ℕ, ◌++◌, List, codes, decimal}
+use Rattle.std.specs.Prelude.{◌≡◌, ℕ, ◌≤◌, ◌++◌, All, List, codes, decimal, flat_map, length}
 use Rattle.pm_driver_read.specs.declared.refusal.DeviceWhy.{DeviceWhy}
 use Rattle.pm_driver_read.specs.declared.refusal.DeviceWhy.TheVariants as device
 use Rattle.pm_driver_read.specs.declared.refusal.DriverRefusal.{DriverRefusal}
@@ -10,7 +10,8 @@ use Rattle.pm_driver_read.specs.declared.refusal.ProgramWhy.{ProgramWhy}
 use Rattle.pm_driver_read.specs.declared.refusal.ProgramWhy.TheVariants as program
 use Rattle.pm_driver_script.specs.declared.faults.ScriptWhy.{ScriptWhy}
 use Rattle.pm_driver_script.specs.declared.faults.ScriptWhy.TheVariants as script
-use Rattle.pm_messages.specs.located.Told.{Token, told_of}
+use Rattle.pm_messages.specs.located.Told.{Token, token_of, told_of}
+use Rattle.pm_messages.specs.declared.located.located.Located.{Located}
 use Rattle.pm_model.specs.Spelling.{newline, space}
 use Rattle.pm_planread.specs.Messages.{refusal_text}
 use Rattle.pm_say.specs.Faults.{IsIn}
@@ -36,6 +37,8 @@ script_word script.Behind = codes "behind"
 
 abbrev pub program_word : ProgramWhy → List ℕ
 program_word (program.Step fault) = codes "step"
+program_word program.Devm = codes "devm"
+program_word program.ManyDevm = codes "many_devm"
 program_word program.ManyFlags = codes "many_flags"
 program_word program.ManyMarks = codes "many_marks"
 program_word program.ManyLocks = codes "many_locks"
@@ -56,8 +59,17 @@ refusal_line (refusal.Key r) = numbered (key_word r.why) r.caller r.part
 refusal_line (refusal.Program r) = numbered (program_word r.why) r.caller r.step
 refusal_line (refusal.Device r) = numbered (device_word r.why) r.device r.part
 
--- The refusal is told: a token of the text, and as the last line the refusal's own. Which words are said and which token is shown is left open.
+-- the text of a refusal and of others, with these tokens
+abbrev pub refused_told : List ℕ → List ℕ → DriverRefusal → Located → List Located → List ℕ
+refused_told file text r located others =
+    told_of file text (codes "error") (token_of located) ++ flat_map (λ (other : Located). told_of file text (codes "error") (token_of other)) others ++ refusal_line r
+
+-- The refusal is told: a token of the text that is its own, at most 19 that are of other refusals, and as the last line the refusal's own.
+-- Which words are said, which tokens are shown and which other refusals are told is left open.
 pub record TellsDriver (file text : List ℕ) (r : DriverRefusal) (told : List ℕ) : Type 0 where
   pub token : Token
   pub token_in : IsIn text token
-  pub is : told ≡ told_of file text (codes "error") token ++ refusal_line r
+  pub others : List Token
+  pub others_in : All (IsIn text) others
+  pub few : length others ≤ 19
+  pub is : told ≡ told_of file text (codes "error") token ++ flat_map (told_of file text (codes "error")) others ++ refusal_line r

@@ -15,13 +15,15 @@ struct Amount {
     guards: usize,
 }
 
-/// The steps of the file.
+/// The steps of the file. What is written of one stands together.
 fn own_steps(lines: &[Option<u32>]) -> usize {
     let mut count = 0usize;
+    let mut last = None;
     for line in lines {
-        if line.is_some() {
+        if line.is_some() && *line != last {
             count = count.saturating_add(1);
         }
+        last = *line;
     }
     count
 }

@@ -1,5 +1,7 @@
 //! What looks wrong in a driver that is one.
 
+ghost use Rattle.std.specs.Prelude.{◌≤◌};
+
 use crate::steps::note_at;
 use crate::tree_words::{step_text, word_at, words_before};
 use pm_base::NoMemory;
@@ -21,6 +23,10 @@ pub enum StepLint {
     Held,
     /// Nothing goes to its label.
     Unused,
+    /// An exit of `resume_and_get` by 1, which it never answers.
+    NeverOne,
+    /// A mark that stands before a step that may fail: others may begin though it does.
+    Early,
 }
 
 /// The step of the file that a step of the program is of.
@@ -130,6 +136,40 @@ fn is_label_unused(tree: &Table, caller: usize, text: &str) -> bool {
     }
 }
 
+/// The word of this number behind what stands before a step's verb.
+fn word_behind(text: &str, number: usize) -> Option<&str>
+    requires { number ≤ 64 }
+{
+    word_at(text, words_before(text) + number)
+}
+
+/// Words of a step's string that are looked at, at most.
+const MOST_WORDS: usize = 40;
+
+/// Whether a step has an exit by 1.
+fn has_one(text: &str) -> bool {
+    for number in 2..MOST_WORDS {
+        if word_behind(text, number) == Some("on") && word_behind(text, number + 1) == Some("1") {
+            return true;
+        }
+    }
+    false
+}
+
+/// Whether a step is one of the driver's own that may fail.
+fn may_fail(text: &str) -> bool {
+    verb_of_text(text) == "do" && word_behind(text, 2).is_some()
+}
+
+/// What looks wrong with the words of a step, behind which another stands.
+fn words_lint(text: &str, next: &str) -> Option<StepLint> {
+    match verb_of_text(text) {
+        "resume_and_get" if has_one(text) => Some(StepLint::NeverOne),
+        "mark" if may_fail(next) => Some(StepLint::Early),
+        _ => None,
+    }
+}
+
 /// What looks wrong with a step.
 fn lint_of(
     tree: &Table,
@@ -137,6 +177,7 @@ fn lint_of(
     made: &DriverCaller,
     step: u32,
     text: &str,
+    next: &str,
 ) -> Option<StepLint> {
     if is_label_unused(tree, caller, text) {
         return Some(StepLint::Unused);
@@ -150,7 +191,7 @@ fn lint_of(
     match verb_of_text(text) {
         "unlock" if is_unheld(made, step) => Some(StepLint::Unheld),
         "lock" if ends_holding(made) => Some(StepLint::Held),
-        _ => None,
+        _ => words_lint(text, next),
     }
 }
 
@@ -160,6 +201,8 @@ fn words_of_lint(lint: StepLint) -> &'static str {
         StepLint::Unheld => "the lock isn't held on a way that comes to it",
         StepLint::Held => "the script may end with a lock held",
         StepLint::Unused => "nothing goes to its label",
+        StepLint::NeverOne => "resume_and_get answers 0 or a code below 0, never 1",
+        StepLint::Early => "it stands before a step that may fail: others may begin though it does",
     }
 }
 
@@ -174,7 +217,9 @@ fn push_lints<'a>(
     let count = texts_of(tree, caller).len();
     for step in 0..count {
         let text = step_text(tree, caller, step).unwrap_or("");
-        if let Some(lint) = lint_of(tree, caller, made, step.min(u32::MAX as usize) as u32, text) {
+        let next = step_text(tree, caller, step.saturating_add(1)).unwrap_or("");
+        let number = step.min(u32::MAX as usize) as u32;
+        if let Some(lint) = lint_of(tree, caller, made, number, text, next) {
             notes.push(note_at(alloc, tree, caller, step, words_of_lint(lint))?)?;
         }
     }

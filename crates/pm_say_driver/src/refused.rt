@@ -1,18 +1,19 @@
 //! The text of a refusal.
 
-ghost use Rattle.std.specs.Prelude.{◌≡◌, ◌≤◌, ◌++◌, IfOk, OnOk, length};
-ghost use Rattle.pm_say_driver.specs.Refused.{TellsDriver, device_word, key_word, numbered, program_word, refusal_line, script_word};
+ghost use Rattle.std.specs.Prelude.{◌≡◌, ◌≤◌, ◌++◌, All, IfOk, OnOk, length};
+ghost use Rattle.pm_say_driver.specs.Refused.{TellsDriver, refused_told, device_word, key_word, numbered, program_word, refusal_line, script_word};
 
 use crate::devices::device_note;
 use crate::keys::{own_key_note, own_kind_note, words_note};
-use crate::scripts::{flag_note, script_note};
+use crate::scripts::{devm_note, flag_note, script_note};
 use crate::steps::step_note;
 use pm_base::NoMemory;
 use pm_driver_read::{
     DeviceRefusal, DeviceWhy, DriverRefusal, KeyRefusal, KeyWhy, ProgramRefusal, ProgramWhy,
+    further_refusals,
 };
 use pm_driver_script::ScriptWhy;
-use pm_messages::located::{Located, of_long_text, of_no_toml, of_note, push_located};
+use pm_messages::located::{Located, of_long_text, of_no_toml, of_note, push_each, push_located};
 use pm_messages::notes::{Note, item_path, list};
 use pm_planread::tree::{Section, document};
 use pm_planread::{PlanWhy, refusal_message};
@@ -84,6 +85,8 @@ fn program_note<'a>(
     let message = match refusal.why {
         ProgramWhy::Step { fault } => return step_note(alloc, tree, caller, step, fault),
         ProgramWhy::Script { why } => return script_note(alloc, tree, caller, step, why),
+        ProgramWhy::Devm => return devm_note(alloc, tree, caller, step),
+        ProgramWhy::ManyDevm => format!(in alloc; "more than 64 steps that are undone by devm")?,
         ProgramWhy::ManyFlags => format!(in alloc; "more flags than devices may be left of 1024")?,
         ProgramWhy::ManyMarks => format!(in alloc; "more than 64 marks")?,
         ProgramWhy::ManyLocks => format!(in alloc; "more than 64 locks")?,
@@ -136,6 +139,52 @@ fn locate(alloc: Global, bytes: &[u8], refusal: DriverRefusal) -> Result<Located
     }
 }
 
+/// Refusals that are told besides the first, at most.
+const MOST: usize = 19;
+
+/// What is told of refusals of these bytes besides the one that is told already, in the order of the text.
+fn others(alloc: Global, bytes: &[u8], told: DriverRefusal) -> Result<Vec<Located>, NoMemory>
+    ensures in_text { IfOk result (λ all. All (λ located. located.span.end ≤ length bytes.now) all.items) }
+    ensures few { IfOk result (λ all. length all.items ≤ 19) }
+{
+    let mut all = all_others(alloc, bytes, told)?;
+    all.sort_by_key(|located| located.span.start)?;
+    all.truncate(MOST);
+    Ok(all)
+}
+
+fn all_others(alloc: Global, bytes: &[u8], told: DriverRefusal) -> Result<Vec<Located>, NoMemory>
+    ensures { IfOk result (λ all. All (λ located. located.span.end ≤ length bytes.now) all.items) }
+{
+    if let DriverRefusal::Plan { .. } = told {
+        return Ok(Vec::new(alloc));
+    }
+    match document(alloc, bytes)? {
+        Some(tree) => {
+            let refusals = further_refusals(alloc, &tree, told)?;
+            located_in(alloc, bytes, &tree, refusals.as_slice())
+        }
+        None => Ok(Vec::new(alloc)),
+    }
+}
+
+/// What is told of refusals of a tree, one after the other.
+fn located_in(
+    alloc: Global,
+    bytes: &[u8],
+    tree: &Table,
+    refusals: &[DriverRefusal],
+) -> Result<Vec<Located>, NoMemory>
+    ensures { IfOk result (λ all. All (λ located. located.span.end ≤ length bytes.now) all.items) }
+{
+    let mut all = Vec::new(alloc);
+    for refusal in refusals {
+        let note = driver_note(alloc, tree, *refusal)?;
+        all.push(of_note(alloc, bytes, note)?)?;
+    }
+    Ok(all)
+}
+
 /// Appends a line of a word and two numbers.
 fn push_line(out: &mut Vec<u8>, word: &[u8], item: usize, part: usize) -> Result<(), NoMemory>
     ensures { OnOk result (out.new.items ≡ out.old.items ++ numbered word.now item part) }
@@ -182,6 +231,8 @@ fn program_word(why: ProgramWhy) -> &'static [u8]
 {
     match why {
         ProgramWhy::Step { .. } => b"step",
+        ProgramWhy::Devm => b"devm",
+        ProgramWhy::ManyDevm => b"many_devm",
         ProgramWhy::ManyFlags => b"many_flags",
         ProgramWhy::ManyMarks => b"many_marks",
         ProgramWhy::ManyLocks => b"many_locks",
@@ -222,9 +273,29 @@ fn push_refusal(out: &mut Vec<u8>, refusal: DriverRefusal) -> Result<(), NoMemor
     }
 }
 
+/// The text of a refusal and of others, each with its token, and as the last line the refusal's own.
+fn text_of(
+    alloc: Global,
+    file: &[u8],
+    bytes: &[u8],
+    refusal: DriverRefusal,
+    located: &Located,
+    others: &[Located],
+) -> Result<Vec<u8>, NoMemory>
+    requires own { located.now.span.end ≤ length bytes.now }
+    requires others { All (λ located. located.span.end ≤ length bytes.now) others.now }
+    ensures { IfOk result (λ text. text.items ≡ refused_told file.now bytes.now refusal located.now others.now) }
+{
+    let mut out = Vec::new(alloc);
+    push_located(alloc, &mut out, file, bytes, "error", located)?;
+    push_each(alloc, &mut out, file, bytes, "error", others)?;
+    push_refusal(&mut out, refusal)?;
+    Ok(out)
+}
+
 /// The text that is told of a refusal of these bytes: its place as `FILE:LINE:COLUMN: error:`, a message, the line with
-/// the token underlined and lines that help; and as the last line a word and two numbers. `file` is how the file is
-/// called. Fails where memory runs out.
+/// the token underlined and lines that help; the same of other refusals; and as the last line a word and two numbers.
+/// `file` is how the file is called. Fails where memory runs out.
 #[tactic(auto, using(crate::proofs::TellsLemmas::tells_refusal))]
 pub fn driver_refused_text(
     alloc: Global,
@@ -235,8 +306,7 @@ pub fn driver_refused_text(
     ensures { IfOk result (λ text. TellsDriver file.now bytes.now refusal text.items) }
 {
     let located = locate(alloc, bytes, refusal)?;
-    let mut out = Vec::new(alloc);
-    push_located(alloc, &mut out, file, bytes, "error", &located)?;
-    push_refusal(&mut out, refusal)?;
-    Ok(out)
+    let others = others(alloc, bytes, refusal)?;
+    let seen = others.as_slice();
+    text_of(alloc, file, bytes, refusal, &located, seen)
 }

@@ -103,11 +103,40 @@ pub fn script_note<'a>(
         ScriptWhy::Twice => twice_note(alloc, tree, caller, step, text),
         ScriptWhy::NotYet => {
             let note = note_at(alloc, tree, caller, step, "it isn't read yet")?;
-            note.with_hint(format!(in alloc; "write its calls out, where the driver goes too")?)
+            note.with_hint(format!(in alloc;
+                "write its calls out: set_active where the device was in use, and enable"
+            )?)
         }
         ScriptWhy::NoCaller => stranger_note(alloc, tree, caller, step, text),
         ScriptWhy::NoLabel => lost_note(alloc, tree, caller, step, text),
         ScriptWhy::Behind => behind_note(alloc, tree, caller, step, text),
+    }
+}
+
+/// The note on a step that nothing can undo. Fails where memory runs out.
+pub fn devm_note<'a>(
+    alloc: Global,
+    tree: &'a Table,
+    caller: usize,
+    step: usize,
+) -> Result<Note<'a>, NoMemory> {
+    let text = step_text(tree, caller, step).unwrap_or("");
+    match word_at(text, words_before(text)) {
+        Some("goto" | "return" | "fail") => {
+            note_at(
+                alloc,
+                tree,
+                caller,
+                step,
+                "devm of a step that can't undo anything",
+            )
+        }
+        _ => {
+            let note = note_at(alloc, tree, caller, step, "nothing undoes it")?;
+            note.with_hint(format!(in alloc;
+                "devm is of a probe: give its caller role = \"probe\" and binds, or write out what undoes it"
+            )?)
+        }
     }
 }
 
@@ -253,11 +282,11 @@ fn flag_in(text: &str) -> Option<&str> {
     }
 }
 
-/// The first step of a caller whose flag has the name of a device.
+/// The first step of a caller whose flag has the name of a device, or of the flag of a `devm` step.
 fn flag_step(tree: &Table, caller: usize) -> Option<usize> {
     for (step, value) in steps_of(tree, caller).iter().enumerate() {
         if let Some(flag) = flag_in(value.as_str().unwrap_or("")) {
-            if place_of(list(tree, Section::Device), flag).is_some() {
+            if place_of(list(tree, Section::Device), flag).is_some() || flag.starts_with("devm-") {
                 return Some(step);
             }
         }
@@ -265,14 +294,15 @@ fn flag_step(tree: &Table, caller: usize) -> Option<usize> {
     None
 }
 
-/// The note on a flag that has the name of a device. Fails where memory runs out.
+/// The note on a flag whose name is taken. Fails where memory runs out.
 pub fn flag_note<'a>(alloc: Global, tree: &'a Table) -> Result<Note<'a>, NoMemory> {
+    let what = "a flag has the name of a device, or of a devm step's flag";
     let count = list(tree, Section::Caller).len();
     for caller in 0..count {
         if let Some(step) = flag_step(tree, caller) {
-            return note_at(alloc, tree, caller, step, "a flag has the name of a device");
+            return note_at(alloc, tree, caller, step, what);
         }
     }
-    let message = format!(in alloc; "a flag has the name of a device")?;
+    let message = format!(in alloc; "{what}")?;
     Ok(Note::on_text(alloc, message))
 }

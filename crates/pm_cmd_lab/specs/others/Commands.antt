@@ -12,17 +12,18 @@ use Rattle.pm_say.specs.declared.told.Kind.{Kind}
 use Rattle.pm_say.specs.declared.told.Kind.TheVariants as kind
 use Rattle.pm_say.specs.declared.told.Said.{Said}
 use Rattle.pm_cmd_lab.specs.find.Check.{CheckEnds, CheckUnread, OfExpectations}
+use Rattle.pm_cmd_lab.specs.find.Driver.{DriverEnds}
 use Rattle.pm_cmd_lab.specs.find.Find.{FindUnread, OfFind}
 use Rattle.pm_cmd_lab.specs.order.Failing.{FailingEnds}
 use Rattle.pm_cmd_lab.specs.order.Order.{OrderEnds}
 use Rattle.pm_cmd_lab.specs.orders.Expect.{ExpectEnds, ExpectUnread}
 use Rattle.pm_cmd_lab.specs.orders.Orders.{OrdersEnds}
 use Rattle.pm_cmd_lab.specs.picture.Picture.{OfPicture, PictureUnread}
-use Rattle.pm_lab_words.specs.Request.{Asked, Help, HelpOn, Say, Find, Check, Picture, Orders, OrdersExpected, Order, OrderFailing, Kernel}
+use Rattle.pm_lab_words.specs.Request.{Asked, Help, HelpOn, Version, Say, Find, Check, FindDriver, Picture, Orders, OrdersExpected, Order, OrderFailing, Kernel}
 use Rattle.pm_cmd_lab.specs.orders.Seen.{OfSeen, SeenUnread}
 use Rattle.pm_lab_words.specs.declared.names.Command.{Command}
 use Rattle.pm_lab_words.specs.declared.names.Command.TheVariants as command
-use Rattle.pm_cmd_lab.specs.declared.others.help.TheConstants.{HELP, SAY_PAGE, FIND_PAGE, PICTURE_PAGE, ORDERS_PAGE, ORDER_PAGE, KERNEL_PAGE}
+use Rattle.pm_cmd_lab.specs.declared.others.help.TheConstants.{HELP, VERSION, SAY_PAGE, FIND_PAGE, PICTURE_PAGE, ORDERS_PAGE, ORDER_PAGE, KERNEL_PAGE}
 
 -- what the command told, by what the plan came to
 abbrev pub outcome_of : Kind → Outcome
@@ -57,9 +58,11 @@ page_of command.Kernel = KERNEL_PAGE.now
 abbrev pub AskedEnds : Bool → (List ℕ → Option (List ℕ)) → Asked → Ending → Type 0
 AskedEnds all known Help = Writes outcome.Done HELP.now
 AskedEnds all known (HelpOn c) = Writes outcome.Done (page_of c)
+AskedEnds all known Version = Writes outcome.Done VERSION.now
 AskedEnds all known (Say plan) = SayEnds all (known plan) plan
 AskedEnds all known (Find plan trace notes) = OfPlan all (known plan) plan (OfFind all (known trace) plan trace notes)
 AskedEnds all known (Check plan trace expect ktap notes) = OfPlan all (known plan) plan (CheckEnds all known plan expect trace ktap notes)
+AskedEnds all known (FindDriver file bounds notes) = DriverEnds all (known file) file bounds notes
 AskedEnds all known (Picture plan trace json) = OfPlan all (known plan) plan (OfPicture all (known trace) trace json)
 AskedEnds all known (Orders plan bounds differ None) = OfPlan all (known plan) plan (OrdersEnds bounds differ)
 AskedEnds all known (Orders plan bounds differ (Some log)) = OfPlan all (known plan) plan (OfSeen all (known log) bounds differ)
@@ -73,6 +76,7 @@ abbrev pub AskedUnread : Bool → (List ℕ → Option (List ℕ)) → Asked →
 AskedUnread all known (Say plan) Alone Failed = OfThis plan Failed
 AskedUnread all known (Find plan trace notes) Alone Failed = FindUnread all (known plan) plan trace (Alone plan) Failed
 AskedUnread all known (Check plan trace expect ktap notes) Alone Failed = CheckUnread all known plan expect trace (Alone plan) Failed
+AskedUnread all known (FindDriver file bounds notes) Alone Failed = OfThis file Failed
 AskedUnread all known (Picture plan trace json) Alone Failed = PictureUnread all (known plan) plan trace (Alone plan) Failed
 AskedUnread all known (Orders plan bounds differ None) Alone Failed = OfThis plan Failed
 AskedUnread all known (Orders plan bounds differ (Some log)) Alone Failed = SeenUnread all (known plan) plan log (Alone plan) Failed

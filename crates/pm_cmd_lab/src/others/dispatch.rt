@@ -9,10 +9,10 @@ ghost use Rattle.pm_cmd_lab.specs.ends.Ending.{Answered, usage};
 ghost use Rattle.pm_lab_words.specs.Request.{asked, asked_by};
 
 use crate::ends::refuse_words;
-use crate::find::{check_top, find_top};
+use crate::find::{check_top, find_driver_top, find_top};
 use crate::order::{failing_top, order_top};
 use crate::orders::{expect_top, orders_top, seen_top};
-use crate::others::help::{help_top, page_top};
+use crate::others::help::{help_top, page_top, version_top};
 use crate::others::kernel::kernel_top;
 use crate::others::say::say_top;
 use crate::picture::picture_top;
@@ -37,10 +37,11 @@ fn answer<F: Files, O: Sink, E: Sink>(
     match request {
         Request::Help => help_top(out, err),
         Request::HelpOn(command) => page_top(command, out, err),
+        Request::Version => version_top(out, err),
         Request::Say { plan } => say_top(alloc, plan, files, out, err),
-        Request::Find { plan, trace, notes } => {
-            find_top(alloc, plan, trace, notes, files, out, err)
-        }
+        Request::Find { plan, trace, notes } => find_top(
+            alloc, plan, trace, notes, files, out, err,
+        ),
         Request::Check {
             plan,
             trace,
@@ -48,6 +49,11 @@ fn answer<F: Files, O: Sink, E: Sink>(
             ktap,
             notes,
         } => check_top(alloc, plan, trace, expect, ktap, notes, files, out, err),
+        Request::FindDriver {
+            file,
+            bounds,
+            notes,
+        } => find_driver_top(alloc, file, bounds, notes, files, out, err),
         Request::Picture { plan, trace, json } => {
             picture_top(alloc, plan, trace, json, files, out, err)
         }

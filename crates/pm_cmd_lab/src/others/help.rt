@@ -10,12 +10,17 @@ use crate::ends::{Outcome, finish, write_text};
 use pm_io::Sink;
 use pm_lab_words::Command;
 
+/// The answer of `--version`: the program's name and its number.
+pub const VERSION: &[u8] = b"pm_lab 1.34\n";
+
 /// The answer of `help`.
 pub const HELP: &[u8] =
-    b"usage: pm_lab say PLAN | find PLAN TRACE [--expect FILE] [--ktap] [--notes] | picture PLAN TRACE [--json] | orders PLAN [--late] [--most K] [--states N] [--differ] [--expect FILE|--seen LOG] | order PLAN [--late] [--most K] [--states N] CALLER N CODE|end DEVICE STATUS USAGE ERROR|--expect FILE fails INDEX | kernel PLAN
+    b"usage: pm_lab say PLAN | find PLAN TRACE [--expect FILE] [--ktap] [--notes] | find FILE [--eager|--late] [--most K] [--fail F] [--states N] [--notes] | picture PLAN TRACE [--json] | orders PLAN [--late] [--most K] [--states N] [--differ] [--expect FILE|--seen LOG] | order PLAN [--late] [--most K] [--states N] CALLER N CODE|end DEVICE STATUS USAGE ERROR|--expect FILE fails INDEX | kernel PLAN | help [COMMAND] | --version
 
 say PLAN            what is wrong with a plan, and where
 find PLAN TRACE     what stands out in a run, and whether what is expected holds
+find FILE           what is wrong in a driver, in every order of its calls and with
+                    callbacks that fail
 picture PLAN TRACE  a run as a picture, or as a timeline for a viewer
 orders PLAN         what each call may return, and how each device may end, and
                     whether what is expected holds in every order
@@ -52,7 +57,7 @@ form, and then how much the plan has:
 All this goes to the output; a file that can't be read is named on standard
 error.
 
-A driver file (docs/DRIVER-FORMAT.md) is told of so too, its first refusal alone:
+A driver file (docs/DRIVER-FORMAT.md) is told of so too:
 
     hi846.toml: devices 1 flags 0 callers 4 steps 22 places 18 ways 24 guards 4
 
@@ -114,6 +119,50 @@ or the trace isn't lawful; with --ktap the expectations alone decide. 2: wrong
 words. 3: the plan or the expectations are refused, or a file is too long. 4:
 one couldn't be read; its name is on standard error. 5: writing failed.
 7: no memory.
+
+pm_lab find FILE [--eager|--late] [--most K] [--fail F] [--states N] [--notes]
+
+Goes through the schedules of a driver file (docs/DRIVER-FORMAT.md), each with at
+most F failing callbacks, 0 to 3, one where --fail isn't given, and tells what is
+wrong in them at its step or its device, how it shows first, and which calls have
+returned before:
+
+    hi846.toml:24:3: error: disabled: stream: get_sync hi846 answers -13 (EACCES)
+        |
+     24 |   \"get_sync hi846 or err\",
+        |   ^^^^^^^^^^^^^^^^^^^^^^^
+        = eager, 1 preemption, no failing callback
+        = calls: probe do power_on or out, probe do init or out
+    1 finding; gone through with at most 1 failing callback: all eager schedules, all late schedules (88370 states)
+
+First come the eager schedules, then the late ones, those with 0, 1, 2 ..
+preemptions one after another, up to K where --most is given, until N states are
+looked at, 1 to 10,000,000, 200,000 where --states isn't given; the last line
+says what was gone through. --eager or --late: that pace alone. Paces and
+preemptions are those of `help orders`. A plan without lists of codes is a driver
+too.
+
+    error    disabled      a get or resume answers -13 for a disabled device; a
+                           warning where its step has another exit
+             unread        a get or resume fails, its step has no exit for that,
+                           and the device is used behind it
+             touched off   a device is used while it, or its domain, is off
+             refused put   a put finds no count to give back
+             leak          at the end a count isn't given back; what a probe
+                           keeps is to be given back by a remove
+             hangs         a caller waits, and nothing more comes
+    warning  refused status  a set_active or set_suspended answers -11 or -16,
+                           and its step has no exit
+             left on       at the end a device is active and enabled, and nobody
+                           holds it
+             left enabled, left forbidden   behind a probe that failed, or a
+                           remove, what the probe set up stands
+    note     autosuspend left in use   the same
+
+Status 0: nothing is wrong in what was gone through. 1: something is, but for
+notes. 2: wrong words. 3: the file is refused, or too long. 4: it couldn't be
+read. 5: writing failed. 6: not even the schedules without preemption were gone
+through, and nothing is wrong in the part that was. 7: no memory.
 ";
 
 /// The answer of `help picture`.
@@ -283,6 +332,14 @@ pub(crate) fn page_top<O: Sink, E: Sink>(command: Command, out: &mut O, err: &mu
         (taking O.taken O.faults out.old out.new) (taking E.taken E.faults err.old err.new) }
 {
     tell(page_of(command), out, err)
+}
+
+/// `--version`: the program's name and its number.
+pub(crate) fn version_top<O: Sink, E: Sink>(out: &mut O, err: &mut E) -> u8
+    ensures { Answered (Writes Outcome.Done VERSION.now) result (OfThis [] ⊥)
+        (taking O.taken O.faults out.old out.new) (taking E.taken E.faults err.old err.new) }
+{
+    tell(VERSION, out, err)
 }
 
 /// Answers a text.

@@ -8,7 +8,7 @@ use crate::findings::{Bond, Kind, Weight};
 use pm_base::Cb;
 
 /// The word of a weight.
-pub(crate) fn weight_word(weight: Weight) -> &'static [u8]
+pub fn weight_word(weight: Weight) -> &'static [u8]
     ensures { result.now ≡ weight_word weight }
 {
     match weight {

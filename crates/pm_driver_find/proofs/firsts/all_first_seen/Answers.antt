@@ -9,9 +9,9 @@ loop-sight-preserved c =
     let snapshots = map driver_snapshot_of c.args.tree.now.nodes.keys in
     elim c.match-first_seen.branch [
       | in-Some+in_ok-push w ↦
-          let told = seen_more snapshots c.args.sights.now c.loop-sight.sight-index _ c.loop-sight.told.items w.push.new.self.items w.in-Some.place c.loop-sight-test.true c.loop-sight.invariant w.in-Some.ensures.some w.in_ok-push.ensures.items in
+          let told = seen_more c.args.examined.now snapshots c.args.sights.now c.loop-sight.sight-index _ c.loop-sight.told.items w.push.new.self.items w.in-Some.place c.loop-sight-test.true c.loop-sight.invariant w.in-Some.ensures.some w.in_ok-push.ensures.items in
           rw w.told-is told
       | in_default w ↦
-          let told = unseen_next snapshots c.args.sights.now c.loop-sight.sight-index _ c.loop-sight.told.items c.loop-sight-test.true c.loop-sight.invariant (w.in_default.ensures.none refl) in
+          let told = unseen_next c.args.examined.now snapshots c.args.sights.now c.loop-sight.sight-index _ c.loop-sight.told.items c.loop-sight-test.true c.loop-sight.invariant (w.in_default.ensures.none refl) in
           rw w.told-is told
     ]

@@ -4,4 +4,4 @@ use Rattle.pm_driver_find.specs.Told.{AreFirstSeen}
 use Rattle.pm_driver_find.proofs.firsts.all_first_seen.Given as goal
 
 abbrev pub invariant-loop-sight : goal.invariant-loop-sight
-invariant-loop-sight l = AreFirstSeen (map driver_snapshot_of l.tree.nodes.keys) l.sights l.sight-index l.told.items
+invariant-loop-sight l = AreFirstSeen l.examined (map driver_snapshot_of l.tree.nodes.keys) l.sights l.sight-index l.told.items

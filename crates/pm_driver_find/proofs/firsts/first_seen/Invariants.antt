@@ -4,4 +4,4 @@ use Rattle.pm_driver_find.specs.Told.{IsUnseen}
 use Rattle.pm_driver_find.proofs.firsts.first_seen.Given as goal
 
 abbrev pub invariant-loop-place : goal.invariant-loop-place
-invariant-loop-place l = IsUnseen (map driver_snapshot_of l.tree.nodes.keys) l.place l.sight
+invariant-loop-place l = IsUnseen l.examined (map driver_snapshot_of l.tree.nodes.keys) l.place l.sight

@@ -6,6 +6,6 @@ use Rattle.pm_driver_read.proofs.reading.programs_of.Given as goal
 
 abbrev pub invariant-loop-caller : goal.invariant-loop-caller
 invariant-loop-caller l = record {
-  rest : programs_from l.names 0 l.fn.scripts.items ≡ behind l.programs.items (programs_from l.names (length l.programs.items) (into_iter_items l.caller-iterator));
+  rest : programs_from l.names l.managed 0 l.fn.scripts.items ≡ behind l.programs.items (programs_from l.names l.managed (length l.programs.items) (into_iter_items l.caller-iterator));
   few : All AreFewSteps (into_iter_items l.caller-iterator);
 }

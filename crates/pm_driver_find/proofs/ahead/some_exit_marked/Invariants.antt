@@ -1,0 +1,8 @@
+use Rattle.std.proofs.Common.{◌≡◌, false, take}
+use Rattle.std.specs.List.{list_any}
+use Rattle.pm_driver_script.specs.declared.program.PlaceExit.{PlaceExit}
+use Rattle.pm_driver_find.specs.Ahead.{is_marked}
+use Rattle.pm_driver_find.proofs.ahead.some_exit_marked.Given as goal
+
+abbrev pub invariant-loop-exit : goal.invariant-loop-exit
+invariant-loop-exit l = list_any (λ (x : PlaceExit). is_marked l.marks x.to) (take l.exit-index l.exits) ≡ false

@@ -1,0 +1,4 @@
+pub mod PassLemmas
+pub mod RuleLemmas
+pub mod ReportLemmas
+pub mod FollowLemmas
