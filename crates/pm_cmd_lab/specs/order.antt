@@ -2,3 +2,4 @@ pub mod Showing
 pub mod Order
 pub mod Work
 pub mod Failing
+pub mod Finding

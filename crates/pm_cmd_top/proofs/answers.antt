@@ -4,3 +4,4 @@ pub mod AskedStatuses
 pub mod FileCases
 pub mod AuditLemmas
 pub mod PageLemmas
+pub mod OnceLemmas

@@ -16,4 +16,4 @@ pub use examined::{CallerOrigin, ExaminedDriver};
 pub use finding::{DriverFindings, all_driver_findings};
 pub use firsts::DriverFinding;
 pub use following::shown_before;
-pub use sights::{DriverSight, ProbeSetting};
+pub use sights::{DriverSight, ProbeSetting, is_seen};

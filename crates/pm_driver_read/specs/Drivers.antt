@@ -11,7 +11,7 @@ use Rattle.pm_driver_read.specs.Fails.{codes_fault, fails_fault}
 use Rattle.pm_driver_read.specs.Keys.{bound_to, keys_fault, role_in}
 use Rattle.pm_driver_read.specs.Managed.{all_managed, devm_fault, few_managed}
 use Rattle.pm_driver_read.specs.Plans.{bare_plan, flagged_plan, of_plan, scripted, scripts_fault}
-use Rattle.pm_driver_read.specs.Programs.{fault_from, few_names, names_of, programs_from, scripts_from}
+use Rattle.pm_driver_read.specs.Programs.{all_forced, fault_from, few_forced, few_names, names_of, programs_from, scripts_from}
 use Rattle.pm_driver_read.specs.Refusals.{plan_refused, refused, unless}
 use Rattle.pm_driver_read.specs.Straight.{straight}
 use Rattle.pm_driver_read.specs.Words.{all_fails, all_words}
@@ -89,7 +89,7 @@ unfoldable pub made_driver : Members → List CallerWords → ScriptNames → Li
 made_driver tree callers names programs =
     unless (option_map refusal.Device (fails_fault 0 (all_fails (list_at (codes "device") tree))))
     (unless (option_map refusal.Device (codes_fault 0 (raw_plan tree).devices))
-    (of_plan (named_plan (flagged_plan (all_fails (list_at (codes "device") tree)) names.flags (raw_plan tree))) >>= λ contents.
+    (of_plan (named_plan (flagged_plan (all_fails (list_at (codes "device") tree)) (list_at (codes "device") tree) names (raw_plan tree))) >>= λ contents.
     unless (scripts_fault (length contents.devices) 0 programs) (Ok (driver_over callers names programs contents))))
 
 -- the refusals of scripts, and of what callers begin after
@@ -101,12 +101,13 @@ named_driver tree callers names managed scripts =
     (unless (option_map refusal.Key (circle_fault (all_needs names.marks callers)))
     (programs_from names managed 0 scripts >>= λ programs. made_driver tree callers names programs))))
 
--- the refusals of steps that are to be undone
+-- the refusals of steps that are to be undone, and of devices that are resumed by force
 unfoldable pub managed_driver : Members → ℕ → List CallerWords → List CallerSteps → Result DriverContents DriverRefusal
 managed_driver tree devices callers scripts =
     unless (devm_fault 0 scripts)
     (unless (option_map (refused 0 0) (few_managed (all_managed 0 scripts)))
-    (named_driver tree callers (names_of devices scripts) (all_managed 0 scripts) scripts))
+    (unless (option_map (refused 0 0) (few_forced (all_forced [] scripts)))
+    (named_driver tree callers (names_of devices scripts) (all_managed 0 scripts) scripts)))
 
 -- the refusals of the callers' words, and of steps
 unfoldable pub based_driver : Members → List DeviceRow → List LinkRow → List CallerWords → Result DriverContents DriverRefusal

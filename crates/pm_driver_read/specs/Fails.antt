@@ -4,6 +4,9 @@ use Rattle.std.specs.Option.{option_map_or}
 use Rattle.std.specs.Ordering.{int_eq}
 use Rattle.std.specs.Str.{bytes_eq}
 use Rattle.pm_base.specs.declared.codes.TheConstants.{EACCES}
+use Rattle.toml.specs.Data.{Data}
+use Rattle.pm_base.specs.declared.DevId.{DevId}
+use Rattle.pm_driver_read.specs.Words.{parent_in}
 use Rattle.pm_driver_read.specs.declared.fails.DeviceFails.{DeviceFails}
 use Rattle.pm_driver_read.specs.declared.fails.FailsRead.{FailsRead}
 use Rattle.pm_driver_read.specs.declared.fails.FailsRead.TheVariants as read
@@ -97,10 +100,10 @@ with_all_fails said device [] = []
 with_all_fails said device (row ∷ rows) = with_fails (said_at said device) row ∷ with_all_fails said (device + 1) rows
 
 -- a flag is a device of its name
-abbrev pub flag_row : List ℕ → RawDevice
-flag_row flag = record {
+abbrev pub flag_row : Option (List ℕ) → List ℕ → RawDevice
+flag_row upper flag = record {
   name = flag;
-  parent = None;
+  parent = upper;
   domain = None;
   ignore_children = false;
   no_callbacks = false;
@@ -112,3 +115,13 @@ flag_row flag = record {
   suspend_ms = pos 0;
   resume_ms = pos 0;
 }
+
+-- the flag of a device that is resumed by force has its parent: while it is set, that parent has a child that counts, as the kernel
+-- keeps its count of children for a device that has to come up again (pm_runtime_force_suspend)
+abbrev pub flag_parent : List Data → List DevId → ℕ → Option (List ℕ)
+flag_parent items forced place = option_and_then (parent_in items) (slice_get forced place)
+
+-- flags as devices, the first of which has this number
+abbrev pub flags_from : List Data → List DevId → ℕ → List (List ℕ) → List RawDevice
+flags_from items forced place [] = []
+flags_from items forced place (flag ∷ flags) = flag_row (flag_parent items forced place) flag ∷ flags_from items forced (place + 1) flags

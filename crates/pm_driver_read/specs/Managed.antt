@@ -82,6 +82,17 @@ flag_name place = take 7 (drop (7 * place) flag_words)
 abbrev pub flag_names : ℕ → List (List ℕ)
 flag_names count = map flag_name (range_with_len 0 count)
 
+-- and those of the devices that are resumed by force: force-00, force-01 and so on
+abbrev pub force_words : List ℕ
+force_words =
+    codes "force-00force-01force-02force-03force-04force-05force-06force-07force-08force-09force-10force-11force-12force-13force-14force-15force-16force-17force-18force-19force-20force-21force-22force-23force-24force-25force-26force-27force-28force-29force-30force-31force-32force-33force-34force-35force-36force-37force-38force-39force-40force-41force-42force-43force-44force-45force-46force-47force-48force-49force-50force-51force-52force-53force-54force-55force-56force-57force-58force-59force-60force-61force-62force-63"
+
+unfoldable pub force_name : ℕ → List ℕ
+force_name place = take 8 (drop (8 * place) force_words)
+
+abbrev pub force_names : ℕ → List (List ℕ)
+force_names count = map force_name (range_with_len 0 count)
+
 -- the flag of a step
 abbrev pub is_step_of : ℕ → ℕ → ManagedStep → Bool
 is_step_of caller step m = nat_eq m.caller caller && nat_eq m.step step

@@ -5,7 +5,8 @@ use Rattle.std.specs.Option.{option_map_or}
 use Rattle.pm_model.specs.IsPlan.{is_command}
 use Rattle.pm_model.specs.declared.event.Command.{Command}
 use Rattle.pm_model.specs.declared.rows.CallerRow.{CallerRow}
-use Rattle.pm_driver_read.specs.Fails.{flag_row, with_all_fails}
+use Rattle.toml.specs.Data.{Data}
+use Rattle.pm_driver_read.specs.Fails.{flags_from, with_all_fails}
 use Rattle.pm_driver_read.specs.Refusals.{refused}
 use Rattle.pm_driver_read.specs.declared.reading.LocatedProgram.{LocatedProgram}
 use Rattle.pm_driver_read.specs.declared.refusal.DriverFault.{DriverFault}
@@ -13,6 +14,7 @@ use Rattle.pm_driver_read.specs.declared.refusal.DriverFault.TheVariants as faul
 use Rattle.pm_driver_read.specs.declared.refusal.DriverRefusal.{DriverRefusal}
 use Rattle.pm_driver_read.specs.declared.refusal.DriverRefusal.TheVariants as refusal
 use Rattle.pm_driver_read.specs.declared.refusal.ProgramWhy.TheVariants as why
+use Rattle.pm_driver_script.specs.declared.names.ScriptNames.{ScriptNames}
 use Rattle.pm_driver_script.specs.declared.program.ProgramPlace.{ProgramPlace}
 use Rattle.pm_planread.specs.PlanOf.{Contents}
 use Rattle.pm_planread.specs.declared.refusal.PlanFault.{PlanFault}
@@ -33,8 +35,9 @@ abbrev pub bare_plan : RawPlan → RawPlan
 bare_plan raw = record raw { callers = bare_callers raw.callers }
 
 -- and with what may fail, and the flags as devices behind those of the file
-abbrev pub flagged_plan : List (Option (List (List ℕ))) → List (List ℕ) → RawPlan → RawPlan
-flagged_plan said flags raw = record raw { devices = with_all_fails said 0 raw.devices ++ map flag_row flags; callers = bare_callers raw.callers }
+abbrev pub flagged_plan : List (Option (List (List ℕ))) → List Data → ScriptNames → RawPlan → RawPlan
+flagged_plan said items names raw =
+    record raw { devices = with_all_fails said 0 raw.devices ++ flags_from items names.forced 0 names.flags; callers = bare_callers raw.callers }
 
 -- what pm_planread refuses; want of memory is no refusal, and no reading comes to it
 abbrev pub of_fault : PlanFault → DriverRefusal

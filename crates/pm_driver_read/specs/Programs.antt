@@ -1,11 +1,12 @@
 -- The programs of a driver's callers, or the first refusal of their scripts (this project's own).
 use Rattle.std.specs.Prelude.{ℕ, ◌+◌, ◌-◌, ◌<◌, ◌≤◌, ◌^◌, List, [], ◌∷◌, ◌++◌, Option, Some, None, Result, Ok, Err, length, map, nat_lt, option_map, if◌then◌else◌}
 use Rattle.std.specs.Option.{option_or}
+use Rattle.pm_base.specs.declared.DevId.{DevId}
 use Rattle.pm_model.specs.declared.rows.DeviceRow.{DeviceRow}
 use Rattle.pm_model.specs.declared.rows.LinkRow.{LinkRow}
 use Rattle.pm_driver_read.specs.Keys.{core_of, turns_of}
 use Rattle.pm_driver_read.specs.Core.{core_suppliers}
-use Rattle.pm_driver_read.specs.Managed.{all_managed, flag_names}
+use Rattle.pm_driver_read.specs.Managed.{all_managed, flag_names, force_names}
 use Rattle.pm_driver_read.specs.Refusals.{refused}
 use Rattle.pm_driver_read.specs.Written.{written_lines, written_steps}
 use Rattle.pm_driver_read.specs.declared.managed.ManagedStep.{ManagedStep}
@@ -17,7 +18,7 @@ use Rattle.pm_driver_read.specs.declared.scripts.CallerSteps.{CallerSteps}
 use Rattle.pm_driver_read.specs.declared.words.CallerWords.{CallerWords}
 use Rattle.pm_driver_script.specs.Faults.{script_fault}
 use Rattle.pm_driver_script.specs.Fits.{HasFewExits}
-use Rattle.pm_driver_script.specs.Names.{names_from}
+use Rattle.pm_driver_script.specs.Names.{forced_from, names_from}
 use Rattle.pm_driver_script.specs.Programs.{program_of}
 use Rattle.pm_driver_script.specs.declared.faults.ScriptRefusal.{ScriptRefusal}
 use Rattle.pm_driver_script.specs.declared.names.NameKind.{NameKind}
@@ -56,10 +57,21 @@ abbrev pub collected : NameKind → List (List ℕ) → List CallerSteps → Lis
 collected k names [] = names
 collected k names (c ∷ scripts) = collected k (names_from k names c.steps) scripts
 
+-- the devices that all scripts resume by force, behind others
+abbrev pub all_forced : List DevId → List CallerSteps → List DevId
+all_forced forced [] = forced
+all_forced forced (c ∷ scripts) = all_forced (forced_from forced c.steps) scripts
+
+-- ManyForced: more than 64
+abbrev pub few_forced : List DevId → Option ProgramWhy
+few_forced forced = if nat_lt 64 (length forced) then Some why.ManyForced else None
+
+-- flags are those of devices that are resumed by force, those of the file, and those of steps that are undone
 abbrev pub names_of : ℕ → List CallerSteps → ScriptNames
 names_of devices scripts = record {
   devices = devices;
-  flags = collected kind.Flag [] scripts ++ flag_names (length (all_managed 0 scripts));
+  forced = all_forced [] scripts;
+  flags = force_names (length (all_forced [] scripts)) ++ collected kind.Flag [] scripts ++ flag_names (length (all_managed 0 scripts));
   marks = collected kind.Mark [] scripts;
   locks = collected kind.Lock [] scripts;
   callers = map (λ c. c.name) scripts;

@@ -1,6 +1,7 @@
 -- What a driver's tables say beside a plan's (this project's own).
-use Rattle.std.specs.Prelude.{ℕ, false, List, [], Option, codes, option_and_then, option_map, unwrap_or}
-use Rattle.toml.specs.Data.{Data, Members, as_array, get_member}
+use Rattle.std.specs.Prelude.{ℕ, false, List, [], Option, codes, option_and_then, option_map, slice_get, unwrap_or}
+use Rattle.toml.specs.Data.{Data, Members, as_array, as_table, get_member}
+use Rattle.pm_base.specs.declared.DevId.{DevId}
 use Rattle.pm_planread.specs.tree.Raw.{number_at, rows_in, switch_at, text_at, texts_in}
 use Rattle.pm_planread.specs.tree.Tree.{items_list, list_at}
 use Rattle.pm_driver_read.specs.declared.words.CallerWords.{CallerWords}
@@ -32,3 +33,7 @@ device_fails members = option_map (λ items. texts_in (items_list items)) (optio
 -- of the devices' tables
 abbrev pub all_fails : List Data → List (Option (List (List ℕ)))
 all_fails items = rows_in device_fails items
+
+-- the parent that the table of a device names
+abbrev pub parent_in : List Data → DevId → Option (List ℕ)
+parent_in items dev = option_and_then (text_at (codes "parent")) (option_and_then as_table (slice_get items dev.0))

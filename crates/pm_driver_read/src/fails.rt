@@ -1,14 +1,17 @@
 //! Which callbacks of devices may fail.
 
 ghost use Rattle.std.specs.Prelude.{◌≡◌, ◌+◌, ◌<◌, ◌^◌, ◌++◌, IfOk, OnOk, length, map};
-ghost use Rattle.pm_driver_read.specs.Fails.{codes_fault, fail_code, fails_fault, fails_of, fails_read, fails_said, failure_code, flag_row, has_codes, is_long, list_of, said_at, unsaid, with_all_fails, with_fail, with_fails};
+ghost use Rattle.toml.specs.View.{view};
+ghost use Rattle.pm_driver_read.specs.Fails.{codes_fault, fail_code, fails_fault, fails_of, fails_read, fails_said, failure_code, flag_parent, flag_row, flags_from, has_codes, is_long, list_of, said_at, unsaid, with_all_fails, with_fail, with_fails};
 
 use crate::refusal::{DeviceRefusal, DeviceWhy};
-use pm_base::{EACCES, MIN_CODE, NoMemory};
+use crate::words::parent_in;
+use pm_base::{DevId, EACCES, MIN_CODE, NoMemory};
 use pm_model::{Items, Name};
 use pm_planread::tree::{Codes64, RawDevice, Text};
 use pm_script::{ScriptWord, number_in, words_in};
 use std::alloc::Global;
+use toml::Value;
 
 /// The code of a callback of which no code is said: `-EIO`.
 const USUAL: i64 = -5;
@@ -246,13 +249,17 @@ pub(crate) fn with_all_fails<'a>(
 }
 
 /// A flag as a device.
-fn flag_row<'a>(alloc: Global, flag: &ScriptWord) -> Result<RawDevice<'a>, NoMemory>
-    ensures { IfOk result (λ row. row ≡ flag_row flag.now) }
+fn flag_row<'a>(
+    alloc: Global,
+    upper: Option<Text<'a>>,
+    flag: &ScriptWord,
+) -> Result<RawDevice<'a>, NoMemory>
+    ensures { IfOk result (λ row. row ≡ flag_row upper.entry flag.now) }
 {
     let name: Name = Items::new(Vec::from_slice(alloc, flag.as_slice())?);
     Ok(RawDevice {
         name,
-        parent: None,
+        parent: upper,
         domain: None,
         ignore_children: false,
         no_callbacks: false,
@@ -266,16 +273,34 @@ fn flag_row<'a>(alloc: Global, flag: &ScriptWord) -> Result<RawDevice<'a>, NoMem
     })
 }
 
+/// The parent of the flag of this number: that of the device that is resumed by force, where it is such a device's.
+fn flag_parent<'a>(
+    alloc: Global,
+    values: &'a [Value],
+    forced: &[DevId],
+    place: usize,
+) -> Result<Option<Text<'a>>, NoMemory>
+    ensures { IfOk result (λ upper. upper ≡ flag_parent (map view values.now) forced.now place) }
+{
+    match forced.get(place) {
+        Some(dev) => parent_in(alloc, values, *dev),
+        None => Ok(None),
+    }
+}
+
 /// Appends flags as devices.
 pub(crate) fn push_flags<'a>(
     alloc: Global,
     rows: &mut Vec<RawDevice<'a>>,
+    values: &'a [Value],
+    forced: &[DevId],
     flags: &[ScriptWord],
 ) -> Result<(), NoMemory>
-    ensures { OnOk result (rows.new.items ≡ rows.old.items ++ map flag_row flags.now) }
+    ensures { OnOk result (rows.new.items ≡ rows.old.items ++ flags_from (map view values.now) forced.now 0 flags.now) }
 {
-    for flag in flags {
-        rows.push(flag_row(alloc, flag)?)?;
+    for (place, flag) in flags.iter().enumerate() {
+        let upper = flag_parent(alloc, values, forced, place)?;
+        rows.push(flag_row(alloc, upper, flag)?)?;
     }
     Ok(())
 }

@@ -122,6 +122,7 @@ fn bare_names<'a>(alloc: Global, callers: &[CallerWords<'a>]) -> Result<ScriptNa
     }
     Ok(ScriptNames {
         devices: 0,
+        forced: Items::new(Vec::new(alloc)),
         flags: Items::new(Vec::new(alloc)),
         marks: Items::new(Vec::new(alloc)),
         locks: Items::new(Vec::new(alloc)),

@@ -1,7 +1,7 @@
 //! The `devm` steps of probes.
 
 ghost use Rattle.std.specs.Prelude.{◌≡◌, ◌<◌, ◌≤◌, ◌++◌, IfOk, IfSome, OnOk, length, map, option_map, position};
-ghost use Rattle.pm_driver_read.specs.Managed.{all_managed, devm_fault, enables, few_managed, flag_name, flag_of, is_bound_probe, is_jump, is_lost_devm, is_managed, is_probe_role, is_step_of, is_undone_as, managed_by, managed_from, managed_if};
+ghost use Rattle.pm_driver_read.specs.Managed.{all_managed, devm_fault, enables, few_managed, flag_name, flag_of, force_name, is_bound_probe, is_jump, is_lost_devm, is_managed, is_probe_role, is_step_of, is_undone_as, managed_by, managed_from, managed_if};
 
 use crate::around::Core;
 use crate::driver::Role;
@@ -18,6 +18,10 @@ pub const MAX_MANAGED: usize = 64;
 /// The names of their flags, one behind the other.
 const FLAGS: &[u8] =
     b"devm-00devm-01devm-02devm-03devm-04devm-05devm-06devm-07devm-08devm-09devm-10devm-11devm-12devm-13devm-14devm-15devm-16devm-17devm-18devm-19devm-20devm-21devm-22devm-23devm-24devm-25devm-26devm-27devm-28devm-29devm-30devm-31devm-32devm-33devm-34devm-35devm-36devm-37devm-38devm-39devm-40devm-41devm-42devm-43devm-44devm-45devm-46devm-47devm-48devm-49devm-50devm-51devm-52devm-53devm-54devm-55devm-56devm-57devm-58devm-59devm-60devm-61devm-62devm-63";
+
+/// And those of the flags of devices that are resumed by force.
+const FORCE_FLAGS: &[u8] =
+    b"force-00force-01force-02force-03force-04force-05force-06force-07force-08force-09force-10force-11force-12force-13force-14force-15force-16force-17force-18force-19force-20force-21force-22force-23force-24force-25force-26force-27force-28force-29force-30force-31force-32force-33force-34force-35force-36force-37force-38force-39force-40force-41force-42force-43force-44force-45force-46force-47force-48force-49force-50force-51force-52force-53force-54force-55force-56force-57force-58force-59force-60force-61force-62force-63";
 
 /// A step of a probe that is undone where the driver goes: `devm WHAT`, or `devm_enable`.
 #[derive(Drop)]
@@ -221,6 +225,15 @@ pub(crate) fn flag_name(place: usize) -> &'static [u8]
     ensures { result.now ≡ flag_name place }
 {
     FLAGS.split_at(7 * place).1.split_at(7).0
+}
+
+/// The name of the flag of a device that is resumed by force.
+#[tactic(auto, unfolding(crate::specs::Managed::force_name))]
+pub(crate) fn force_name(place: usize) -> &'static [u8]
+    requires { place < 64 }
+    ensures { result.now ≡ force_name place }
+{
+    FORCE_FLAGS.split_at(8 * place).1.split_at(8).0
 }
 
 fn is_step_of(caller: usize, step: usize, managed: &ManagedStep) -> bool

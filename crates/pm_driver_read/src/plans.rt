@@ -1,6 +1,7 @@
 //! The plan of a driver.
 
-ghost use Rattle.std.specs.Prelude.{◌≡◌, IfErr, IfOk, None, Ok, length, nat_eq, nat_le, nat_lt, if◌then◌else◌};
+ghost use Rattle.std.specs.Prelude.{◌≡◌, IfErr, IfOk, None, Ok, length, map, nat_eq, nat_le, nat_lt, if◌then◌else◌};
+ghost use Rattle.toml.specs.View.{view};
 ghost use Rattle.std.specs.List.{list_all};
 ghost use Rattle.pm_model.specs.IsPlan.{is_command, is_operand, least_ms};
 ghost use Rattle.pm_model.specs.Spelling.{operand_of, takes_device};
@@ -12,13 +13,13 @@ use crate::fails::{push_flags, with_all_fails};
 use crate::reading::LocatedProgram;
 use crate::refusal::{DriverFault, DriverRefusal, ProgramWhy, refused};
 use pm_base::{MAX_COMMANDS, MAX_MS, NoMemory};
-use pm_driver_script::ProgramPlace;
+use pm_driver_script::{ProgramPlace, ScriptNames};
 use pm_linetext::{operand_of, takes_device};
 use pm_model::{CallerRow, Command, Helper, Items, NamedList, Operand, Plan};
 use pm_planread::tree::{RawCaller, RawPlan, Text};
 use pm_planread::{PlanFault, named_plan};
-use pm_script::ScriptWord;
 use std::alloc::Global;
+use toml::Value;
 
 /// Callers without their scripts.
 fn bare_callers<'a>(
@@ -58,12 +59,19 @@ fn flagged_plan<'a>(
     alloc: Global,
     raw: RawPlan<'a>,
     said: &[Option<Items<Text>>],
-    flags: &[ScriptWord],
+    values: &'a [Value],
+    names: &ScriptNames,
 ) -> Result<RawPlan<'a>, NoMemory>
-    ensures { IfOk result (λ made. made ≡ flagged_plan said.now flags.now raw.entry) }
+    ensures { IfOk result (λ made. made ≡ flagged_plan said.now (map view values.now) names.now raw.entry) }
 {
     let mut devices = with_all_fails(alloc, said, raw.devices.into_vec())?;
-    push_flags(alloc, &mut devices, flags)?;
+    push_flags(
+        alloc,
+        &mut devices,
+        values,
+        names.forced.as_slice(),
+        names.flags.as_slice(),
+    )?;
     Ok(RawPlan {
         lines: raw.lines,
         lines_at: raw.lines_at,
@@ -114,12 +122,13 @@ pub(crate) fn flagged<'a>(
     alloc: Global,
     raw: RawPlan<'a>,
     said: &[Option<Items<Text>>],
-    flags: &[ScriptWord],
+    values: &'a [Value],
+    names: &ScriptNames,
 ) -> Result<Plan, DriverFault>
-    ensures ok { IfOk result (λ plan. of_plan (named_plan (flagged_plan said.now flags.now raw.entry)) ≡ Ok (contents_of plan)) }
-    ensures fault { IfErr result (IsFaultOf (of_plan (named_plan (flagged_plan said.now flags.now raw.entry)))) }
+    ensures ok { IfOk result (λ plan. of_plan (named_plan (flagged_plan said.now (map view values.now) names.now raw.entry)) ≡ Ok (contents_of plan)) }
+    ensures fault { IfErr result (IsFaultOf (of_plan (named_plan (flagged_plan said.now (map view values.now) names.now raw.entry)))) }
 {
-    match named_plan(alloc, &flagged_plan(alloc, raw, said, flags)?) {
+    match named_plan(alloc, &flagged_plan(alloc, raw, said, values, names)?) {
         Ok(plan) => Ok(plan),
         Err(fault) => Err(of_fault(fault)),
     }

@@ -10,7 +10,7 @@ ghost use Rattle.pm_driver_read.specs.declared.refusal.DriverRefusal.TheVariants
 ghost use Rattle.pm_planread.specs.PlanOf.{contents_of, plan_of};
 
 use crate::after::{all_needs, circle_fault, marks_fault, needs_of};
-use crate::collecting::{few_names, names_of};
+use crate::collecting::{all_forced, few_forced, few_names, names_of};
 use crate::driver::{Driver, DriverCaller};
 use crate::fails::{codes_fault, fails_fault};
 use crate::keys::{bound_to, caller_named, keys_fault, role_in};
@@ -22,7 +22,7 @@ use crate::refusal::{
 };
 use crate::scripts::{CallerSteps, scripts_in};
 use crate::straight::straight;
-use crate::words::{CallerWords, fails_in_tree, words_in_tree};
+use crate::words::{CallerWords, devices_in_tree, fails_in_tree, words_in_tree};
 use pm_base::{NoMemory, PLAN_BYTES};
 use pm_driver_script::ScriptNames;
 use pm_model::{CallerRow, Items, Plan};
@@ -168,7 +168,7 @@ fn made_driver(
     go_on_devices(fails_fault(alloc, said.as_slice())?)?;
     let raw = raw_plan(alloc, tree)?;
     go_on_devices(codes_fault(raw.devices.as_slice()))?;
-    let plan = flagged(alloc, raw, said.as_slice(), names.flags.as_slice())?;
+    let plan = flagged(alloc, raw, said.as_slice(), devices_in_tree(tree), names)?;
     go_on_scripts(scripts_fault(plan.devices.len(), programs.as_slice()))?;
     let plan = scripted(alloc, plan, programs.as_slice())?;
     let made = callers_of(alloc, &plan, callers, names.marks.as_slice(), programs)?;
@@ -192,6 +192,7 @@ fn named_driver(
 ) -> Result<Driver, DriverFault>
     requires managed { length managed.now ≤ 64 }
     requires devices { names.now.devices ≤ 1024 }
+    requires forced { length names.now.forced ≤ 64 }
     requires callers { length names.now.callers ≤ 16 }
     requires few { All AreFewSteps scripts.items }
     ensures ok { IfOk result (λ driver. named_driver (table_view tree.now) callers.now names.now managed.now scripts.entry.items ≡ Ok (contents_in driver)) }
@@ -211,7 +212,7 @@ fn named_driver(
 }
 
 /// The driver of scripts, some of whose steps are undone.
-#[tactic(auto, unfolding(crate::specs::Drivers::managed_driver), using(crate::proofs::CallerLemmas::names_few, crate::proofs::NameLemmas::managed_few))]
+#[tactic(auto, unfolding(crate::specs::Drivers::managed_driver), using(crate::proofs::CallerLemmas::names_few, crate::proofs::NameLemmas::managed_few, crate::proofs::NameLemmas::forced_few))]
 fn managed_driver(
     alloc: Global,
     tree: &Table,
@@ -232,7 +233,13 @@ fn managed_driver(
             refusal: refused(0, 0, why),
         });
     }
-    let names = names_of(alloc, devices, scripts.as_slice(), managed.len())?;
+    let forced = all_forced(alloc, scripts.as_slice())?;
+    if let Some(why) = few_forced(forced.as_slice()) {
+        return Err(DriverFault::Refused {
+            refusal: refused(0, 0, why),
+        });
+    }
+    let names = names_of(alloc, devices, scripts.as_slice(), forced, managed.len())?;
     named_driver(alloc, tree, callers, &names, managed.as_slice(), scripts)
 }
 

@@ -57,6 +57,8 @@ pub enum ProgramWhy {
     Devm,
     /// More than 64 steps are undone.
     ManyDevm,
+    /// More than 64 devices are resumed by force.
+    ManyForced,
     /// There are more flags than devices may be left.
     ManyFlags,
     /// There are more than 64 marks.

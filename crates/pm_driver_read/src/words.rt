@@ -3,9 +3,9 @@
 ghost use Rattle.std.specs.Prelude.{◌≡◌, [], IfOk, codes, map, unwrap_or};
 ghost use Rattle.toml.specs.View.{table_view, view};
 ghost use Rattle.pm_planread.specs.tree.Tree.{entries_view, list_at};
-ghost use Rattle.pm_driver_read.specs.Words.{all_fails, all_words, caller_words, device_fails, texts_at};
+ghost use Rattle.pm_driver_read.specs.Words.{all_fails, all_words, caller_words, device_fails, parent_in, texts_at};
 
-use pm_base::NoMemory;
+use pm_base::{DevId, NoMemory};
 use pm_model::Items;
 use pm_planread::tree::{
     Entry, Text, entries_of, items_in, list_at, list_in, number_at, switch_at, text_at, texts_in,
@@ -126,4 +126,28 @@ pub(crate) fn fails_in_tree<'a>(
     ensures { IfOk result (λ all. all.items ≡ all_fails (list_at (codes "device") (table_view tree.now))) }
 {
     all_fails(alloc, list_at(tree, "device"))
+}
+
+/// The tables of a tree's devices.
+pub(crate) fn devices_in_tree<'a>(tree: &'a Table) -> &'a [Value]
+    ensures { map view result.now ≡ list_at (codes "device") (table_view tree.now) }
+{
+    list_at(tree, "device")
+}
+
+/// The parent that the table of a device names.
+pub(crate) fn parent_in<'a>(
+    alloc: Global,
+    values: &'a [Value],
+    dev: DevId,
+) -> Result<Option<Text<'a>>, NoMemory>
+    ensures { IfOk result (λ upper. upper ≡ parent_in (map view values.now) dev) }
+{
+    let Some(value) = values.get(dev.0 as usize) else {
+        return Ok(None);
+    };
+    match value.as_table() {
+        Some(table) => Ok(text_at(entries_of(alloc, table)?.as_slice(), "parent")),
+        None => Ok(None),
+    }
 }

@@ -20,7 +20,7 @@ weighed_after d E pass line made number told are shown is =
     follows number (subst (λ (l : List DriverFinding). ShowsBefore E (map driver_snapshot_of pass.all.found.tree.nodes.keys) pass.all.found.tree.parents.items l line.place number) are shown) is
 
 -- one more behind
-weighed_behind : (d : Driver) (E : ExaminedDriver) (passes : List DriverPass) (lines weighed : List DriverLine) (line made : DriverLine) → AreWeighed d E passes lines weighed → IsWeighedIn d E (pass_of passes line.pace) line made
+weighed_behind : (d : Driver) (E : ExaminedDriver) (passes : List DriverPass) (lines weighed : List DriverLine) (line made : DriverLine) → AreWeighed d E passes lines weighed → IsWeighedIn d E (pass_of passes line.pace line.allowed) line made
     → AreWeighed d E passes (lines ++ line ∷ []) (weighed ++ made ∷ [])
 weighed_behind d E passes [] [] line made none is = (is, tt)
 weighed_behind d E passes (first ∷ lines) (kept ∷ weighed) line made more is = (more.0, weighed_behind d E passes lines weighed line made more.1 is)
@@ -28,7 +28,7 @@ weighed_behind d E passes [] (kept ∷ weighed) line made none is = absurd none
 weighed_behind d E passes (first ∷ lines) [] line made none is = absurd none
 
 pub weighed_next : (d : Driver) (E : ExaminedDriver) (passes : List DriverPass) (lines out later : List DriverLine) (i : ℕ) (other made : DriverLine) → i < length lines
-    → IsWeighedIn d E (pass_of passes (get_or lines i other).pace) (get_or lines i other) made → later ≡ out ++ made ∷ [] → AreWeighed d E passes (take i lines) out → AreWeighed d E passes (take (i + 1) lines) later
+    → IsWeighedIn d E (pass_of passes (get_or lines i other).pace (get_or lines i other).allowed) (get_or lines i other) made → later ≡ out ++ made ∷ [] → AreWeighed d E passes (take i lines) out → AreWeighed d E passes (take (i + 1) lines) later
 weighed_next d E passes lines out later i other made within weighs pushed before =
     let all = weighed_behind d E passes (take i lines) out (get_or lines i other) made before weighs in
     subst (λ (l : List DriverLine). AreWeighed d E passes (take (i + 1) lines) l) (sym pushed)

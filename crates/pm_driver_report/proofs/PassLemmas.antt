@@ -1,35 +1,38 @@
 -- What was gone through, put together.
-use Rattle.std.proofs.Common.{◌≡◌, ◌∙◌, ◌≤◌, List, [], ◌∷◌, ◌++◌, IfOk, Result, Ok, Err, Vec, Global, ap, length, subst, sym}
+use Rattle.std.proofs.Common.{ℕ, ◌≡◌, ◌∙◌, ◌<◌, ◌≤◌, ◌-◌, drop, get_or, take, arith, List, [], ◌∷◌, ◌++◌, OnOk, IfOk, Result, Ok, Err, ap, append-nil, append_assoc, length, refl, subst, sym}
+use Rattle.std.proofs.lemmas.List.{take_all}
 use Rattle.pm_base.specs.declared.errors.NoMemory.{NoMemory}
 use Rattle.pm_driver_find.specs.declared.examined.ExaminedDriver.{ExaminedDriver}
-use Rattle.pm_explore.specs.declared.schedule.Pace.TheVariants as pace
-use Rattle.pm_lab_words.specs.declared.driver.DriverBounds.{DriverBounds}
-use Rattle.pm_lab_words.specs.declared.driver.Paces.TheVariants as paces
-use Rattle.pm_driver_report.specs.Passes.{ArePassesOf, IsAlone, IsGoneThrough, both, eager, late, most_of, spent}
+use Rattle.pm_driver_report.specs.Passes.{AddsPasses, AreThrough, IsPassOf, eager_part, eager_parts, none_asked, none_left, one_through, states_for}
 use Rattle.pm_driver_report.specs.declared.passes.DriverPass.{DriverPass}
+use Rattle.pm_driver_report.specs.declared.passes.PassAsked.{PassAsked}
 
-pub one_is : (none one : List DriverPass) (pass : DriverPass) → none ≡ [] → one ≡ none ++ pass ∷ [] → one ≡ pass ∷ []
-one_is none one pass empty is = is ∙ ap (λ (l : List DriverPass). l ++ pass ∷ []) empty
+-- nothing is asked for
+pub none_is_asked : (E : ExaminedDriver) (most left : ℕ) (asked : List PassAsked) (passes : List DriverPass) → asked ≡ [] → AddsPasses E most left asked passes passes
+none_is_asked E most left asked passes none = record { added = []; are = sym (append-nil passes); through = subst (λ (l : List PassAsked). AreThrough E most left l []) (sym none) (none_asked left) }
 
-pub two_are : (none one two : List DriverPass) (first next : DriverPass) → none ≡ [] → one ≡ none ++ first ∷ [] → two ≡ one ++ next ∷ [] → two ≡ first ∷ next ∷ []
-two_are none one two first next empty is more = more ∙ ap (λ (l : List DriverPass). l ++ next ∷ []) (one_is none one first empty is)
+-- or nothing is left
+pub none_is_left : (E : ExaminedDriver) (most left : ℕ) (asked : List PassAsked) (passes : List DriverPass) → left ≡ 0 → AddsPasses E most left asked passes passes
+none_is_left E most left asked passes none = record { added = []; are = sym (append-nil passes); through = subst (λ n. AreThrough E most n asked []) (sym none) (none_left asked) }
 
-pub eager_alone : (E : ExaminedDriver) (bounds : DriverBounds) (r : Result (Vec DriverPass Global) NoMemory) → bounds.paces ≡ paces.Eager → IfOk r (λ passes. IsAlone E pace.Eager bounds passes.items)
-    → IfOk r (λ passes. ArePassesOf E bounds passes.items)
-eager_alone E bounds (Ok passes) asked alone = subst (ArePassesOf E bounds) (sym alone.is) (eager alone.pass asked alone.pace alone.through)
-eager_alone E bounds (Err e) asked alone = tt
+-- one pass, and those behind it
+pub one_is_through : (E : ExaminedDriver) (most left rest : ℕ) (first : PassAsked) (asked : List PassAsked) (pass : DriverPass) (old one new : List DriverPass) → 0 < left → IsPassOf E first most (states_for first left) pass → one ≡ old ++ pass ∷ []
+    → rest ≡ left - length pass.all.found.tree.nodes.keys → AddsPasses E most rest asked one new → AddsPasses E most left (first ∷ asked) old new
+one_is_through E most left rest first asked pass old one new some is pushed behind more = record {
+  added = pass ∷ more.added;
+  are = more.are ∙ ap (λ l. l ++ more.added) pushed ∙ append_assoc old (pass ∷ []) more.added;
+  through = one_through left first asked pass more.added some is (subst (λ n. AreThrough E most n asked more.added) behind more.through);
+}
 
-pub late_alone : (E : ExaminedDriver) (bounds : DriverBounds) (r : Result (Vec DriverPass Global) NoMemory) → bounds.paces ≡ paces.Late → IfOk r (λ passes. IsAlone E pace.Late bounds passes.items)
-    → IfOk r (λ passes. ArePassesOf E bounds passes.items)
-late_alone E bounds (Ok passes) asked alone = subst (ArePassesOf E bounds) (sym alone.is) (late alone.pass asked alone.pace alone.through)
-late_alone E bounds (Err e) asked alone = tt
+-- the first of a list, which has some, and those behind it
+pub nil_below : {A : Type 0} (xs : List A) → length xs < 1 → xs ≡ []
+nil_below [] lt = refl
+nil_below (x ∷ xs) lt = absurd (omega (arith, lt))
 
-pub eager_late : (E : ExaminedDriver) (bounds : DriverBounds) (none one two : List DriverPass) (first next : DriverPass) → bounds.paces ≡ paces.Both → first.pace ≡ pace.Eager → next.pace ≡ pace.Late
-    → IsGoneThrough E bounds.failures (most_of bounds.most) first → IsGoneThrough E bounds.failures (most_of bounds.most) next
-    → none ≡ [] → one ≡ none ++ first ∷ [] → two ≡ one ++ next ∷ [] → ArePassesOf E bounds two
-eager_late E bounds none one two first next asked early behind through more empty is next_is =
-    subst (ArePassesOf E bounds) (sym (two_are none one two first next empty is next_is)) (both first next asked early behind through more)
-
-pub eager_spent : (E : ExaminedDriver) (bounds : DriverBounds) (passes : List DriverPass) (first : DriverPass) → bounds.paces ≡ paces.Both → first.pace ≡ pace.Eager
-    → IsGoneThrough E bounds.failures (most_of bounds.most) first → bounds.states ≤ length first.all.found.tree.nodes.keys → passes ≡ first ∷ [] → ArePassesOf E bounds passes
-eager_spent E bounds passes first asked early through used is = subst (ArePassesOf E bounds) (sym is) (spent first asked early through used)
+pub one_behind : (E : ExaminedDriver) (most left rest states : ℕ) (d : PassAsked) (all : List PassAsked) (pass : DriverPass) (old one new : List DriverPass) → 1 ≤ length all → 0 < left → IsPassOf E (get_or all 0 d) most states pass → states ≡ states_for (get_or all 0 d) left
+    → one ≡ old ++ pass ∷ [] → rest ≡ left - length pass.all.found.tree.nodes.keys → AddsPasses E most rest (take (length all - 1) (drop 1 all)) one new → AddsPasses E most left all old new
+one_behind E most left rest states d [] pass old one new many some is by pushed behind more = absurd (omega (arith, many))
+one_behind E most left rest states d (first ∷ asked) pass old one new many some is by pushed behind more =
+    let less : length (first ∷ asked) - 1 ≡ length asked = omega arith in
+    let others : take (length (first ∷ asked) - 1) (drop 1 (first ∷ asked)) ≡ asked = ap (λ n. take n asked) less ∙ take_all (length asked) asked (omega arith) in
+    one_is_through E most left rest first asked pass old one new some (subst (λ n. IsPassOf E first most n pass) by is) pushed behind (subst (λ (l : List PassAsked). AddsPasses E most rest l one new) others more)

@@ -4,3 +4,4 @@ pub mod Lines
 pub mod Texts
 pub mod Report
 pub mod Follows
+pub mod Witnessed

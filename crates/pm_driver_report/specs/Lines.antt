@@ -107,6 +107,7 @@ line_at d pass finding here = record {
   at = here;
   sight = finding.sight;
   pace = pass.pace;
+  allowed = pass.failures;
   preemptions = rounds_before pass.all.found.rounds.items finding.place;
   failures = failures_at pass.all.found.tree.nodes.keys finding.place;
   place = finding.place;

@@ -1,5 +1,6 @@
 -- The text of what is reported of a driver (this project's own).
-use Rattle.std.specs.Prelude.{ℕ, ◌+◌, ◌-◌, ◌^◌, Bool, true, false, List, [], ◌∷◌, ◌++◌, codes, decimal, flat_map, length, min, nat_eq, if◌then◌else◌}
+use Rattle.std.specs.Prelude.{ℕ, ◌+◌, ◌-◌, ◌^◌, Bool, true, false, ◌&&◌, List, [], ◌∷◌, ◌++◌, codes, decimal, length, min, nat_eq, nat_le, if◌then◌else◌}
+use Rattle.std.specs.List.{list_any}
 use Rattle.std.specs.Option.{option_map_or}
 use Rattle.pm_base.specs.declared.DevId.{DevId}
 use Rattle.pm_driver_find.specs.declared.sights.DriverSight.{DriverSight}
@@ -15,6 +16,7 @@ use Rattle.pm_explore.specs.declared.search.found.Ended.TheVariants as ended
 use Rattle.pm_find.specs.text.Texts.{code_text}
 use Rattle.pm_model.specs.Spelling.{caller_name, command_text, device_name}
 use Rattle.pm_model.specs.Text.{names_of}
+use Rattle.pm_driver_report.specs.Follows.{is_same_pace}
 use Rattle.pm_driver_report.specs.Lines.{program_place}
 use Rattle.pm_driver_report.specs.declared.lines.DriverKind.{DriverKind}
 use Rattle.pm_driver_report.specs.declared.lines.DriverKind.TheVariants as kind
@@ -75,9 +77,10 @@ abbrev pub pace_word : Pace → List ℕ
 pace_word pace.Eager = codes "eager"
 pace_word pace.Late = codes "late"
 
--- how it shows first
-abbrev pub shown_text : DriverLine → List ℕ
-shown_text line = pace_word line.pace ++ codes ", " ++ counted line.preemptions (codes "preemption") ++ codes ", " ++ counted line.failures (codes "failing callback")
+-- which finding it is, and how it shows first
+abbrev pub shown_text : ℕ → DriverLine → List ℕ
+shown_text number line =
+    codes "finding " ++ decimal number ++ codes ": " ++ pace_word line.pace ++ codes ", " ++ counted line.preemptions (codes "preemption") ++ codes ", " ++ counted line.failures (codes "failing callback")
 
 -- what was gone through of a pace: all, or rounds of at most 0, 1, .. preemptions
 abbrev pub is_whole : Ended → Bool
@@ -90,17 +93,23 @@ rounds_text word n =
     else if nat_eq n 1 then word ++ codes " schedules with no preemption"
     else word ++ codes " schedules with at most " ++ counted (n - 1) (codes "preemption")
 
+-- with so many failing callbacks
+abbrev pub failing_text : ℕ → List ℕ
+failing_text n = if nat_eq n 0 then codes "no failing callback" else codes "at most " ++ counted n (codes "failing callback")
+
 abbrev pub pass_text : DriverPass → List ℕ
 pass_text pass =
-    if is_whole pass.all.found.ended then codes "all " ++ pace_word pass.pace ++ codes " schedules"
-    else rounds_text (pace_word pass.pace) (length pass.all.found.rounds.items)
+    if is_whole pass.all.found.ended then codes "all " ++ pace_word pass.pace ++ codes " schedules with " ++ failing_text pass.failures
+    else rounds_text (pace_word pass.pace) (length pass.all.found.rounds.items) ++ codes " and " ++ failing_text pass.failures
 
-abbrev pub further_text : DriverPass → List ℕ
-further_text pass = codes ", " ++ pass_text pass
+-- a whole pass of the same pace with as many failing callbacks has all that this one has
+abbrev pub has_all_of : DriverPass → DriverPass → Bool
+has_all_of pass later = is_same_pace pass.pace later.pace && is_whole later.all.found.ended && nat_le pass.failures later.failures
 
-abbrev pub passes_text : List DriverPass → List ℕ
-passes_text [] = []
-passes_text (pass ∷ passes) = pass_text pass ++ flat_map further_text passes
+-- what was gone through, with a text before each that is told but the first
+abbrev pub passes_text : List ℕ → List DriverPass → List ℕ
+passes_text before [] = []
+passes_text before (pass ∷ passes) = if list_any (has_all_of pass) passes then passes_text before passes else before ++ pass_text pass ++ passes_text (codes ", ") passes
 
 -- how many states were looked at, as far as a number goes
 abbrev pub states_in : List DriverPass → ℕ
@@ -108,7 +117,13 @@ states_in [] = 0
 states_in (pass ∷ passes) = min (length pass.all.found.tree.nodes.keys + states_in passes) (2 ^ 64 - 1)
 
 -- the last line: how much is wrong, and what was gone through
-abbrev pub last_text : ℕ → List DriverPass → List DriverLine → List ℕ
-last_text failures passes lines =
-    counted (length lines) (codes "finding") ++ codes "; gone through with at most " ++ counted failures (codes "failing callback") ++ codes ": "
-    ++ passes_text passes ++ codes " (" ++ counted (states_in passes) (codes "state") ++ codes ")\n"
+abbrev pub last_text : List DriverPass → List DriverLine → List ℕ
+last_text passes lines =
+    counted (length lines) (codes "finding") ++ codes "; gone through: " ++ passes_text [] passes ++ codes " (" ++ counted (states_in passes) (codes "state") ++ codes ")\n"
+
+-- what is told where a run isn't written
+abbrev pub no_finding_line : ℕ → ℕ → List ℕ
+no_finding_line number count = codes "order: no finding " ++ decimal number ++ codes ": `find` tells " ++ counted count (codes "finding") ++ codes "\n"
+
+abbrev pub unmade_line : List ℕ
+unmade_line = codes "order: the way there has more lines, calls or codes than a plan may have\n"

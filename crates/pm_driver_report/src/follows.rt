@@ -12,7 +12,8 @@ use pm_explore::schedule::Pace;
 use pm_find::findings::Weight;
 use std::alloc::{AllocError, Global};
 
-fn is_same_pace(one: Pace, other: Pace) -> bool
+/// Whether both are the same pace.
+pub fn is_same_pace(one: Pace, other: Pace) -> bool
     ensures { result ≡ is_same_pace one other }
 {
     match (one, other) {
@@ -21,17 +22,17 @@ fn is_same_pace(one: Pace, other: Pace) -> bool
     }
 }
 
-/// What was gone through of a pace.
-pub fn pass_of(passes: &[DriverPass], pace: Pace) -> Option<&DriverPass>
-    ensures { option_map (λ p. p.now) result ≡ pass_of passes.now pace }
+/// What was gone through of a pace with at most so many failing callbacks.
+pub fn pass_of(passes: &[DriverPass], pace: Pace, failures: u32) -> Option<&DriverPass>
+    ensures { option_map (λ p. p.now) result ≡ pass_of passes.now pace failures }
 {
     let [pass, passes @ ..] = passes else {
         return None;
     };
-    if is_same_pace(pass.pace, pace) {
+    if is_same_pace(pass.pace, pace) && pass.failures == failures {
         Some(pass)
     } else {
-        pass_of(passes, pace)
+        pass_of(passes, pace, failures)
     }
 }
 
@@ -50,7 +51,7 @@ fn is_grave(driver: &Driver, finding: &DriverFinding) -> bool
     matches!(sight_weight(driver, finding.sight), Weight::Error)
 }
 
-// Those of what is told of a pace that are errors.
+// Those of what is told of a pass that are errors.
 fn graves(
     alloc: Global,
     driver: &Driver,
@@ -86,7 +87,7 @@ fn weighed(
     }
 }
 
-// A line, as a note where an error of its pace shows before it on the way.
+// A line, as a note where an error of its pass shows before it on the way.
 fn weighed_in(
     alloc: Global,
     driver: &Driver,
@@ -95,9 +96,9 @@ fn weighed_in(
     line: DriverLine,
 ) -> Result<DriverLine, AllocError>
     requires { length examined.now.rules.now.callers.now < 2 ^ 32 }
-    ensures { IfOk result (IsWeighedIn driver.now examined.now (pass_of passes.now line.pace) line) }
+    ensures { IfOk result (IsWeighedIn driver.now examined.now (pass_of passes.now line.pace line.allowed) line) }
 {
-    match pass_of(passes, line.pace) {
+    match pass_of(passes, line.pace, line.allowed) {
         Some(pass) => weighed(alloc, driver, examined, pass, line),
         None => Ok(line),
     }

@@ -61,11 +61,13 @@ pub struct DriverLine {
     pub at: LineAt,
     pub sight: DriverSight,
     pub pace: Pace,
+    /// Callbacks that might fail in the search that shows it: 0 to 3.
+    pub allowed: u32,
     /// Lines that preempt, at most, on the way to the first snapshot that shows it.
     pub preemptions: usize,
     /// Callbacks that have failed there.
     pub failures: u32,
-    /// The place of that snapshot in the search of the pace.
+    /// The place of that snapshot in that search.
     pub place: usize,
 }
 
@@ -243,6 +245,7 @@ fn line_of(driver: &Driver, pass: &DriverPass, finding: DriverFinding) -> Option
         at,
         sight: finding.sight,
         pace: pass.pace,
+        allowed: pass.failures,
         preemptions: rounds_before(pass.all.found.rounds.as_slice(), finding.place),
         failures: failures_at(&pass.all.found.tree, finding.place),
         place: finding.place,

@@ -1,9 +1,9 @@
 //! What is reported of a driver's file.
 
 ghost use Rattle.std.specs.Prelude.{◌≡◌, ◌<◌, ◌≤◌, [], ◌∷◌, ◌++◌, ◌^◌, All, IfOk, OnOk, codes, flat_map, length, map};
-ghost use Rattle.std.specs.List.{list_all, list_any};
+ghost use Rattle.std.specs.List.{list_all};
 ghost use Rattle.pm_driver_report.specs.Lines.{is_note};
-ghost use Rattle.pm_driver_report.specs.Report.{IsRefusedPlan, IsReport, IsReportOf, ReportsDriver, has_codes, is_unended, kind_reported, placed_text};
+ghost use Rattle.pm_driver_report.specs.Report.{IsRefusedPlan, IsReport, IsReportOf, ReportsDriver, is_unended, kind_reported, placed_text, placed_texts};
 ghost use Rattle.pm_driver_report.specs.Rules.{IsExamined};
 ghost use Rattle.pm_messages.specs.located.Told.{token_told};
 ghost use Rattle.pm_spans.specs.source.Excerpts.{hint_text};
@@ -11,22 +11,21 @@ ghost use Rattle.pm_spans.specs.source.Lines.{place_text};
 ghost use Rattle.pm_spans.specs.source.Visible.{visible};
 ghost use Rattle.pm_driver_report.specs.Texts.{message_text, shown_text};
 
-use crate::follows::all_weighed;
-use crate::lines::{DriverLine, LineAt, all_lines, is_note, told_lines};
-use crate::passes::{DriverPass, all_passes};
+use crate::lines::{DriverLine, LineAt, is_note};
+use crate::passes::DriverPass;
 use crate::rules::{all_begin_needs, all_caller_rules, all_origins};
+use crate::searched::{lists_message, may_be_searched, search_driver};
 use crate::texts::{push_last, push_message, push_shown};
 use crate::ways::way_of;
 use pm_base::NoMemory;
 use pm_driver_find::ExaminedDriver;
 use pm_driver_read::Driver;
-use pm_driver_rules::{DriverRules, has_quiet_idle};
+use pm_driver_rules::DriverRules;
 use pm_find::text::weight_word;
 use pm_lab_words::DriverBounds;
 use pm_linetext::push;
 use pm_messages::located::of_note;
 use pm_messages::notes::{Note, element_path, key_path};
-use pm_model::DeviceRow;
 use pm_planread::tree::{Section, document};
 use pm_spans::source::{Span, push_excerpt, push_hint, push_place, push_visible};
 use std::alloc::Global;
@@ -58,23 +57,6 @@ pub struct PlacedLine {
     pub line: DriverLine,
     pub span: Span,
     pub way: Vec<u8>,
-}
-
-// Whether the callbacks of a device answer codes of lists.
-fn has_codes(row: &DeviceRow) -> bool
-    ensures { result ≡ has_codes row.now }
-{
-    let has_idle = match &row.idle {
-        Some(codes) => codes.as_slice().len() != 0,
-        None => false,
-    };
-    has_idle || row.suspend.as_slice().len() != 0 || row.resume.as_slice().len() != 0
-}
-
-fn some_has_codes(rows: &[DeviceRow]) -> bool
-    ensures { result ≡ list_any has_codes rows.now }
-{
-    rows.iter().any(has_codes)
 }
 
 // The token of what is reported: the string of its step, or the name of its device.
@@ -172,20 +154,21 @@ fn push_token(
     push_hints(text, bytes, span.start, first, second)
 }
 
-// Appends a line with its token, the line of the file, how it shows first and the calls that lead there.
+// Appends a line with its token, the line of the file, which finding it is, how it shows first and the calls that lead there.
 fn push_placed(
     alloc: Global,
     text: &mut Vec<u8>,
     file: &[u8],
     bytes: &[u8],
     driver: &Driver,
+    number: usize,
     placed: &PlacedLine,
 ) -> Result<(), NoMemory>
     requires { placed.now.span.end ≤ length bytes.now }
-    ensures { OnOk result (text.new.items ≡ text.old.items ++ placed_text file.now bytes.now driver.now placed.now) }
+    ensures { OnOk result (text.new.items ≡ text.old.items ++ placed_text file.now bytes.now driver.now number placed.now) }
 {
     let message = message_of(alloc, driver, &placed.line)?;
-    let shown = shown_of(alloc, &placed.line)?;
+    let shown = shown_of(alloc, number, &placed.line)?;
     push_token(
         alloc,
         text,
@@ -207,29 +190,34 @@ fn message_of(alloc: Global, driver: &Driver, line: &DriverLine) -> Result<Vec<u
     Ok(text)
 }
 
-fn shown_of(alloc: Global, line: &DriverLine) -> Result<Vec<u8>, NoMemory>
-    ensures { IfOk result (λ text. text.items ≡ shown_text line.now) }
+fn shown_of(alloc: Global, number: usize, line: &DriverLine) -> Result<Vec<u8>, NoMemory>
+    ensures { IfOk result (λ text. text.items ≡ shown_text number line.now) }
 {
     let mut text = Vec::new(alloc);
-    push_shown(&mut text, line)?;
+    push_shown(&mut text, number, line)?;
     Ok(text)
 }
 
+// Appends these lines, from this number on.
+#[tactic(auto, using(crate::proofs::ReportLemmas::all_in))]
 fn push_all_placed(
     alloc: Global,
     text: &mut Vec<u8>,
     file: &[u8],
     bytes: &[u8],
     driver: &Driver,
+    number: usize,
     all: &[PlacedLine],
 ) -> Result<(), NoMemory>
     requires { All (λ p. p.span.end ≤ length bytes.now) all.now }
-    ensures { OnOk result (text.new.items ≡ text.old.items ++ flat_map (placed_text file.now bytes.now driver.now) all.now) }
+    ensures { OnOk result (text.new.items ≡ text.old.items ++ placed_texts file.now bytes.now driver.now number all.now) }
 {
-    for placed in all {
-        push_placed(alloc, text, file, bytes, driver, placed)?;
-    }
-    Ok(())
+    let [placed, all @ ..] = all else {
+        return Ok(());
+    };
+    push_placed(alloc, text, file, bytes, driver, number, placed)?;
+    let next = number.saturating_add(1);
+    push_all_placed(alloc, text, file, bytes, driver, next, all)
 }
 
 fn is_unended(passes: &[DriverPass]) -> bool
@@ -274,17 +262,16 @@ fn report_lines(
     file: &[u8],
     bytes: &[u8],
     driver: &Driver,
-    failures: u32,
     passes: &[DriverPass],
     lines: &[DriverLine],
 ) -> Result<DriverReport, NoMemory>
-    ensures { IfOk result (IsReportOf file.now bytes.now driver.now failures passes.now lines.now) }
+    ensures { IfOk result (IsReportOf file.now bytes.now driver.now passes.now lines.now) }
 {
     let tree = tree_of(alloc, bytes)?;
     let placed = all_placed(alloc, bytes, driver, &tree, passes, lines)?;
     let mut text = Vec::new(alloc);
-    push_all_placed(alloc, &mut text, file, bytes, driver, placed.as_slice())?;
-    push_last(&mut text, failures, passes, lines)?;
+    push_all_placed(alloc, &mut text, file, bytes, driver, 1, placed.as_slice())?;
+    push_last(&mut text, passes, lines)?;
     Ok(DriverReport {
         text,
         kind: kind_reported(passes, lines),
@@ -306,36 +293,26 @@ fn report_examined(
     requires callers { length examined.now.rules.now.callers.now < 2 ^ 32 }
     ensures { IfOk result (IsReport file.now bytes.now driver.now bounds notes) }
 {
-    let passes = all_passes(alloc, examined, bounds)?;
-    let lines = all_lines(alloc, driver, passes.as_slice())?;
-    let weighed = all_weighed(alloc, driver, examined, passes.as_slice(), lines.as_slice())?;
-    let told = told_lines(alloc, notes, weighed.as_slice())?;
+    let search = search_driver(alloc, driver, examined, bounds, notes)?;
     report_lines(
         alloc,
         file,
         bytes,
         driver,
-        bounds.failures,
-        passes.as_slice(),
-        told.as_slice(),
+        search.passes.as_slice(),
+        search.told.as_slice(),
     )
 }
 
-// The report of a plan with lists of codes.
+/// The report of a plan with lists of codes.
 fn lists_report(alloc: Global, file: &[u8]) -> Result<DriverReport, NoMemory>
     ensures { IfOk result (IsRefusedPlan file.now) }
 {
-    let mut text = Vec::new(alloc);
-    push(&mut text, file)?;
-    push(&mut text, LISTS)?;
     Ok(DriverReport {
-        text,
+        text: lists_message(alloc, file)?,
         kind: ReportKind::Refused,
     })
 }
-
-const LISTS: &[u8] =
-    b": its callbacks answer lists of codes: `orders` goes through such a plan, and `find` through a trace of it; in a driver file `fails` says what may fail\n";
 
 /// Goes through the schedules of a driver, and reports what is wrong in them, by the steps of its file, and what was gone
 /// through; what happens in a driver that is right is told with notes alone. A plan is a driver whose programs run straight on; one
@@ -352,11 +329,7 @@ pub fn report_driver(
 ) -> Result<DriverReport, NoMemory>
     ensures { IfOk result (ReportsDriver file.now bytes.now driver.now bounds notes) }
 {
-    let plan = &driver.plan;
-    if driver.is_plan && some_has_codes(plan.devices.as_slice()) {
-        return Ok(lists_report(alloc, file)?);
-    }
-    if !has_quiet_idle(plan) {
+    if !may_be_searched(driver) {
         return Ok(lists_report(alloc, file)?);
     }
     let callers = driver.callers.as_slice();
@@ -364,7 +337,7 @@ pub fn report_driver(
     let rows = all_caller_rules(alloc, callers, needs.as_slice())?;
     let origins = all_origins(alloc, callers)?;
     let rules = DriverRules {
-        plan,
+        plan: &driver.plan,
         callers: rows.as_slice(),
     };
     let examined = ExaminedDriver {

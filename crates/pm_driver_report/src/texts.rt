@@ -1,9 +1,11 @@
 //! The text of what is reported of a driver.
 
-ghost use Rattle.std.specs.Prelude.{◌≡◌, ◌++◌, OnOk, flat_map};
+ghost use Rattle.std.specs.Prelude.{◌≡◌, ◌++◌, IfOk, OnOk};
+ghost use Rattle.std.specs.List.{list_any};
 ghost use Rattle.pm_driver_find.specs.declared.sights.DriverSight.TheVariants as sight;
-ghost use Rattle.pm_driver_report.specs.Texts.{call_text, counted, further_text, is_whole, kind_word, last_text, message_text, pace_word, pass_text, passes_text, rounds_text, setting_text, shown_text, sight_text, states_in};
+ghost use Rattle.pm_driver_report.specs.Texts.{call_text, counted, failing_text, has_all_of, is_whole, kind_word, last_text, message_text, no_finding_line, pace_word, pass_text, passes_text, rounds_text, setting_text, shown_text, sight_text, states_in, unmade_line};
 
+use crate::follows::is_same_pace;
 use crate::lines::{DriverKind, DriverLine, program_place};
 use crate::passes::DriverPass;
 use pm_base::{DevId, NoMemory};
@@ -13,6 +15,7 @@ use pm_explore::schedule::Pace;
 use pm_explore::search::Ended;
 use pm_find::text::push_code;
 use pm_linetext::{push, push_caller, push_command, push_device, push_number};
+use std::alloc::Global;
 
 fn kind_word(kind: DriverKind) -> &'static [u8]
     ensures { result.now ≡ kind_word kind }
@@ -172,10 +175,13 @@ fn pace_word(pace: Pace) -> &'static [u8]
     }
 }
 
-/// Appends how it shows first, as `eager, 1 preemption, no failing callback`.
-pub fn push_shown(text: &mut Vec<u8>, line: &DriverLine) -> Result<(), NoMemory>
-    ensures { OnOk result (text.new.items ≡ text.old.items ++ shown_text line.now) }
+/// Appends which finding it is and how it shows first, as `finding 1: eager, 1 preemption, no failing callback`.
+pub fn push_shown(text: &mut Vec<u8>, number: usize, line: &DriverLine) -> Result<(), NoMemory>
+    ensures { OnOk result (text.new.items ≡ text.old.items ++ shown_text number line.now) }
 {
+    push(text, b"finding ")?;
+    push_number(text, number as u64)?;
+    push(text, b": ")?;
     push(text, pace_word(line.pace))?;
     push(text, b", ")?;
     push_counted(text, line.preemptions, b"preemption")?;
@@ -211,7 +217,18 @@ fn push_rounds(text: &mut Vec<u8>, word: &[u8], rounds: usize) -> Result<(), NoM
     }
 }
 
-// Appends what was gone through of a pace.
+// Appends that so many callbacks fail, at most.
+fn push_failing(text: &mut Vec<u8>, failures: u32) -> Result<(), NoMemory>
+    ensures { OnOk result (text.new.items ≡ text.old.items ++ failing_text failures) }
+{
+    if failures == 0 {
+        return push(text, b"no failing callback");
+    }
+    push(text, b"at most ")?;
+    push_counted(text, failures as usize, b"failing callback")
+}
+
+// Appends what was gone through of a pace with at most so many failing callbacks.
 fn push_pass(text: &mut Vec<u8>, pass: &DriverPass) -> Result<(), NoMemory>
     ensures { OnOk result (text.new.items ≡ text.old.items ++ pass_text pass.now) }
 {
@@ -219,32 +236,42 @@ fn push_pass(text: &mut Vec<u8>, pass: &DriverPass) -> Result<(), NoMemory>
     if is_whole(pass.all.found.ended) {
         push(text, b"all ")?;
         push(text, word)?;
-        push(text, b" schedules")
+        push(text, b" schedules with ")?;
     } else {
-        push_rounds(text, word, pass.all.found.rounds.len())
+        push_rounds(text, word, pass.all.found.rounds.len())?;
+        push(text, b" and ")?;
     }
+    push_failing(text, pass.failures)
 }
 
-// Appends what was gone through of further paces.
-fn push_further(text: &mut Vec<u8>, passes: &[DriverPass]) -> Result<(), NoMemory>
-    ensures { OnOk result (text.new.items ≡ text.old.items ++ flat_map further_text passes.now) }
+// Whether a pass has all that another one has.
+fn has_all_of(pass: &DriverPass, later: &DriverPass) -> bool
+    ensures { result ≡ has_all_of pass.now later.now }
 {
-    for pass in passes {
-        push(text, b", ")?;
-        push_pass(text, pass)?;
-    }
-    Ok(())
+    is_same_pace(pass.pace, later.pace)
+        && is_whole(later.all.found.ended)
+        && pass.failures <= later.failures
 }
 
-// Appends what was gone through.
-fn push_passes(text: &mut Vec<u8>, passes: &[DriverPass]) -> Result<(), NoMemory>
-    ensures { OnOk result (text.new.items ≡ text.old.items ++ passes_text passes.now) }
+fn some_has_all_of(pass: &DriverPass, later: &[DriverPass]) -> bool
+    ensures { result ≡ list_any (has_all_of pass.now) later.now }
+{
+    later.iter().any(|other| has_all_of(pass, other))
+}
+
+// Appends what was gone through, with a text before each that is told but the first.
+fn push_passes(text: &mut Vec<u8>, before: &[u8], passes: &[DriverPass]) -> Result<(), NoMemory>
+    ensures { OnOk result (text.new.items ≡ text.old.items ++ passes_text before.now passes.now) }
 {
     let [pass, passes @ ..] = passes else {
         return Ok(());
     };
+    if some_has_all_of(pass, passes) {
+        return push_passes(text, before, passes);
+    }
+    push(text, before)?;
     push_pass(text, pass)?;
-    push_further(text, passes)
+    push_passes(text, b", ", passes)
 }
 
 // How many states were looked at, as far as a number goes.
@@ -261,18 +288,39 @@ fn states_in(passes: &[DriverPass]) -> usize
 /// Appends the last line: how much is wrong, and what was gone through.
 pub fn push_last(
     text: &mut Vec<u8>,
-    failures: u32,
     passes: &[DriverPass],
     lines: &[DriverLine],
 ) -> Result<(), NoMemory>
-    ensures { OnOk result (text.new.items ≡ text.old.items ++ last_text failures passes.now lines.now) }
+    ensures { OnOk result (text.new.items ≡ text.old.items ++ last_text passes.now lines.now) }
 {
     push_counted(text, lines.len(), b"finding")?;
-    push(text, b"; gone through with at most ")?;
-    push_counted(text, failures as usize, b"failing callback")?;
-    push(text, b": ")?;
-    push_passes(text, passes)?;
+    push(text, b"; gone through: ")?;
+    push_passes(text, b"", passes)?;
     push(text, b" (")?;
     push_counted(text, states_in(passes), b"state")?;
     push(text, b")\n")
+}
+
+/// The line that says that there is no finding of this number, but so many.
+pub fn no_finding_text(alloc: Global, number: usize, count: usize) -> Result<Vec<u8>, NoMemory>
+    ensures { IfOk result (λ text. text.items ≡ no_finding_line number count) }
+{
+    let mut text = Vec::new(alloc);
+    push(&mut text, b"order: no finding ")?;
+    push_number(&mut text, number as u64)?;
+    push(&mut text, b": `find` tells ")?;
+    push_counted(&mut text, count, b"finding")?;
+    push(&mut text, b"\n")?;
+    Ok(text)
+}
+
+/// The line that says that the run of a finding can't be made.
+pub fn unmade_text(alloc: Global) -> Result<Vec<u8>, NoMemory>
+    ensures { IfOk result (λ text. text.items ≡ unmade_line) }
+{
+    let text = Vec::from_slice(
+        alloc,
+        b"order: the way there has more lines, calls or codes than a plan may have\n",
+    )?;
+    Ok(text)
 }

@@ -146,7 +146,7 @@ pub fn way_of(
 ) -> Result<Vec<u8>, NoMemory> {
     let mut text = Vec::new(alloc);
     push(&mut text, b"calls: ")?;
-    if let Some(pass) = pass_of(passes, line.pace) {
+    if let Some(pass) = pass_of(passes, line.pace, line.allowed) {
         let returns = returns_back(alloc, driver, &pass.all.found.tree, line.place)?;
         push_returns(&mut text, driver, tree, returns.as_slice())?;
     }

@@ -1,11 +1,14 @@
 -- The driver of some rules: where its programs go on (this project's own).
-use Rattle.std.specs.Prelude.{ℤ, ◌≡◌, Bool, true, false, not, ◌&&◌, ◌||◌, List, Option, length, map, nat_eq, pos, if◌then◌else◌}
-use Rattle.std.specs.List.{list_all}
+use Rattle.std.specs.Prelude.{ℕ, ℤ, ◌≡◌, Bool, true, false, not, ◌&&◌, ◌||◌, List, Option, count_by, length, map, nat_eq, nat_lt, pos, slice_index_or, if◌then◌else◌}
+use Rattle.std.specs.List.{list_all, zip}
 use Rattle.std.specs.Option.{option_map_or}
 use Rattle.pm_base.specs.declared.DevId.{DevId}
 use Rattle.pm_base.specs.declared.Status.{Status}
 use Rattle.pm_base.specs.declared.Status.TheVariants as status
+use Rattle.pm_model.specs.Derived.{is_counted_child}
+use Rattle.pm_model.specs.Views.{fresh_device}
 use Rattle.pm_model.specs.declared.plan.Plan.{Plan}
+use Rattle.pm_model.specs.declared.rows.DeviceRow.{DeviceRow}
 use Rattle.pm_model.specs.declared.views.Device.{Device}
 use Rattle.pm_driver_text.specs.declared.verbs.CodeTest.{CodeTest}
 use Rattle.pm_driver_text.specs.declared.verbs.CodeTest.TheVariants as test
@@ -33,26 +36,42 @@ abbrev pub is_suspended_status : Status → Bool
 is_suspended_status status.Suspended = true
 is_suspended_status _ = false
 
+abbrev pub usage_at : List Device → DevId → ℕ
+usage_at devices d = (slice_index_or devices d.0 fresh_device).usage
+
+abbrev pub ignores_at : List Device → DevId → Bool
+ignores_at devices d = (slice_index_or devices d.0 fresh_device).ignores
+
+-- children of d that count, as `children` of pm_model counts them
+abbrev pub has_child_in : List DeviceRow → List Device → DevId → Bool
+has_child_in rows devices d = nat_lt 0 (count_by (λ p. is_counted_child d p.0 p.1) (zip rows devices))
+
+-- d has to come up again where it is forced down: it has more than one count, or children that it doesn't ignore
+-- (pm_runtime_need_not_resume in drivers/base/power/runtime.c)
+abbrev pub needs_resume : List DeviceRow → List Device → DevId → Bool
+needs_resume rows devices d = nat_lt 1 (usage_at devices d) || has_child_in rows devices d && not (ignores_at devices d)
+
 -- what a question of a device is answered (runtime_pm.rst, section 6)
-abbrev pub is_so : List Device → DevId → Question → Bool
-is_so devices d question.Suspended = is_suspended_status (status_at devices d) && nat_eq (depth_at devices d) 0
-is_so devices d question.StatusSuspended = is_suspended_status (status_at devices d)
-is_so devices d question.Active = is_active_status (status_at devices d) || not (nat_eq (depth_at devices d) 0)
-is_so devices d question.Enabled = nat_eq (depth_at devices d) 0
-is_so devices d question.StillActive = is_active_status (status_at devices d)
+abbrev pub is_so : List DeviceRow → List Device → DevId → Question → Bool
+is_so rows devices d question.Suspended = is_suspended_status (status_at devices d) && nat_eq (depth_at devices d) 0
+is_so rows devices d question.StatusSuspended = is_suspended_status (status_at devices d)
+is_so rows devices d question.Active = is_active_status (status_at devices d) || not (nat_eq (depth_at devices d) 0)
+is_so rows devices d question.Enabled = nat_eq (depth_at devices d) 0
+is_so rows devices d question.StillActive = is_active_status (status_at devices d)
+is_so rows devices d question.NeedsResume = needs_resume rows devices d
 
 abbrev pub said : Bool → ℤ
 said b = if b then pos 1 else pos 0
 
 -- what answers a call: the code that it returned, or what its step asks
-abbrev pub answer_of : Option Asked → List Device → ℤ → ℤ
-answer_of asks devices code = option_map_or (λ a. said (is_so devices a.dev a.question)) asks code
+abbrev pub answer_of : Option Asked → List DeviceRow → List Device → ℤ → ℤ
+answer_of asks rows devices code = option_map_or (λ a. said (is_so rows devices a.dev a.question)) asks code
 
-abbrev pub ways_of : ProgramPlace → Ways
-ways_of place = record { answers = λ v code. answer_of place.asks v.devices code; exits = map exit_of place.exits; otherwise = place.otherwise }
+abbrev pub ways_of : Plan → ProgramPlace → Ways
+ways_of plan place = record { answers = λ v code. answer_of place.asks plan.devices v.devices code; exits = map exit_of place.exits; otherwise = place.otherwise }
 
-abbrev pub ways_of_callers : List CallerRules → List (List Ways)
-ways_of_callers callers = map (λ caller. map ways_of caller.program.now.places) callers
+abbrev pub ways_of_callers : Plan → List CallerRules → List (List Ways)
+ways_of_callers plan callers = map (λ caller. map (ways_of plan) caller.program.now.places) callers
 
 -- no idle callback of the plan has codes
 abbrev pub IsIdle : Plan → Type 0
@@ -61,7 +80,7 @@ IsIdle plan = list_all (λ row. option_map_or (λ codes. nat_eq (length codes) 0
 abbrev pub driver_of : DriverRules → Driver
 driver_of rules = record {
   plan = rules.plan.now;
-  ways = ways_of_callers rules.callers.now;
+  ways = ways_of_callers rules.plan.now rules.callers.now;
   may_call = λ ps v c. may_call rules.callers.now ps v.devices c;
   idle = rules.idle;
 }

@@ -1,5 +1,5 @@
--- Why a script has no program (this project's own): a label that stands twice, a step that isn't read yet, a caller that isn't
--- there, a label that isn't there or isn't further on. Whoever reads a file writes its `devm` steps out first.
+-- Why a script has no program (this project's own): a label that stands twice, a caller that isn't there, a label that isn't there
+-- or isn't further on. Whoever reads a file writes its `devm` steps out first.
 use Rattle.std.specs.Prelude.{ℕ, ◌+◌, Bool, true, false, List, [], ◌∷◌, Option, Some, None, is_none, option_map, take, if◌then◌else◌}
 use Rattle.std.specs.List.{list_any, slice_split}
 use Rattle.std.specs.Option.{option_map_or, option_or}
@@ -33,10 +33,8 @@ abbrev pub lacks_caller : List (List ℕ) → List (List ℕ) → Bool
 lacks_caller callers [] = false
 lacks_caller callers (name ∷ names) = if is_none (place_named name callers) then true else lacks_caller callers names
 
--- NotYet: the step isn't read yet
 abbrev pub what_fault : ScriptNames → StepWhat → Option ScriptWhy
 what_fault names (what.Stop callers) = if lacks_caller names.callers (slice_split is_comma callers) then Some why.NoCaller else None
-what_fault names (what.ForceResume dev) = Some why.NotYet
 what_fault names w = None
 
 -- Twice: the label stands earlier

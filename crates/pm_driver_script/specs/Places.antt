@@ -6,6 +6,7 @@ use Rattle.pm_driver_script.specs.Ways.{exits_at, otherwise_at}
 use Rattle.pm_driver_script.specs.declared.goals.Goal.{Goal}
 use Rattle.pm_driver_script.specs.declared.goals.Goal.TheVariants as goal
 use Rattle.pm_driver_script.specs.declared.marks.Past.{Past}
+use Rattle.pm_driver_script.specs.declared.names.ScriptNames.{ScriptNames}
 use Rattle.pm_driver_script.specs.declared.places.Standing.{Standing}
 use Rattle.pm_driver_text.specs.declared.steps.ScriptStep.{ScriptStep}
 
@@ -48,5 +49,5 @@ with_goals steps turns turn past found [] = found
 with_goals steps turns turn past found (g ∷ goals) = with_goals steps turns turn past (with_standing found (settled steps turns turn g past)) goals
 
 -- where a part of a step may go on
-abbrev pub goals_at : ScriptStep → ℕ → List ScriptStep → ℕ → List Goal
-goals_at step number behind part = otherwise_at step number behind part ++ map (λ exit. exit.goal) (exits_at step number behind part)
+abbrev pub goals_at : ScriptNames → ScriptStep → ℕ → List ScriptStep → ℕ → List Goal
+goals_at names step number behind part = otherwise_at step number behind part ++ map (λ exit. exit.goal) (exits_at names step number behind part)

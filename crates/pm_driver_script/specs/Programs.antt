@@ -21,7 +21,7 @@ use Rattle.pm_driver_text.specs.declared.steps.ScriptStep.{ScriptStep}
 abbrev pub followed_from : List ScriptStep → ScriptNames → ℕ → List Standing → Standing → ℕ → ℕ → List ScriptStep → List Standing
 followed_from steps names turns found s number part [] = found
 followed_from steps names turns found s number part (step ∷ behind) =
-    with_goals steps turns s.turn (passed names step.what part s.past) found (goals_at step number behind part)
+    with_goals steps turns s.turn (passed names step.what part s.past) found (goals_at names step number behind part)
 
 abbrev pub followed_at : List ScriptStep → ScriptNames → ℕ → List Standing → Standing → Goal → List Standing
 followed_at steps names turns found s (goal.At number part) = followed_from steps names turns found s number part (drop number steps)
@@ -64,7 +64,7 @@ row_from steps names turns places ends s number part (step ∷ behind) =
       guard = guard_at names step.what part;
       touches = touched_by step.what;
       reads = not (nat_eq (length step.exits) 0);
-      exits = map (place_exit steps turns places ends s.turn past) (exits_at step number behind part);
+      exits = map (place_exit steps turns places ends s.turn past) (exits_at names step number behind part);
       otherwise = map (goal_number steps turns places ends s.turn past) (otherwise_at step number behind part);
     })
 

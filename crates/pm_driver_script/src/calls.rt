@@ -1,10 +1,10 @@
 //! What a caller calls at a place.
 
-ghost use Rattle.std.specs.Prelude.{◌≡◌, ◌+◌, ◌<◌, ◌^◌, length, unwrap_or};
+ghost use Rattle.std.specs.Prelude.{◌≡◌, ◌+◌, ◌<◌, ◌^◌, IfSome, length, unwrap_or};
 ghost use Rattle.pm_model.specs.NamedList.{place_named};
-ghost use Rattle.pm_driver_script.specs.Calls.{FewNames, asks_at, call_of, command_at, delay_of, flag_device, force_command, guard_at, touched_by};
+ghost use Rattle.pm_driver_script.specs.Calls.{FewNames, asks_at, call_of, command_at, delay_of, flag_device, force_flag, force_place, guard_at, resume_asks, resume_command, suspend_asks, suspend_command, touched_by};
 
-use crate::names::{ScriptNames, place_in};
+use crate::names::{ScriptNames, device_in, place_in};
 use pm_base::DevId;
 use pm_driver_text::{Question, StepWhat};
 use pm_model::{Command, Helper};
@@ -59,14 +59,43 @@ fn flag_device(names: &ScriptNames, flag: &[u8]) -> DevId
     DevId(names.devices + place_in(names.flags.as_slice(), flag).unwrap_or(0) as u32)
 }
 
+/// The place of a device among those that are resumed by force.
+pub(crate) fn force_place(names: &ScriptNames, dev: DevId) -> Option<usize>
+    ensures place { result ≡ force_place names.now dev }
+    ensures below { IfSome result (λ place. place < length names.now.forced) }
+{
+    device_in(names.forced.as_slice(), dev)
+}
+
+/// The device that the flag of a device is that is resumed by force.
+fn force_flag(names: &ScriptNames, dev: DevId) -> DevId
+    requires { FewNames names.now }
+    ensures { result ≡ force_flag names.now dev }
+{
+    DevId(names.devices + force_place(names, dev).unwrap_or(0) as u32)
+}
+
 /// What the parts of `force_suspend` call.
-fn force_command(dev: DevId, part: u32) -> Command
-    ensures { result ≡ force_command dev part }
+fn suspend_command(dev: DevId, flag: DevId, part: u32) -> Command
+    ensures { result ≡ suspend_command dev flag part }
 {
     match part {
         0 => call_of(Helper::Disable, dev),
-        1 => delay_of(0),
-        _ => call_of(Helper::SetSuspended, dev),
+        2 => call_of(Helper::SetSuspended, dev),
+        4 => call_of(Helper::SetActive, flag),
+        _ => delay_of(0),
+    }
+}
+
+/// What the parts of `force_resume` call.
+fn resume_command(dev: DevId, flag: DevId, part: u32) -> Command
+    ensures { result ≡ resume_command dev flag part }
+{
+    match part {
+        0 => delay_of(0),
+        1 => call_of(Helper::SetActive, dev),
+        2 => call_of(Helper::SetSuspended, flag),
+        _ => call_of(Helper::Enable, dev),
     }
 }
 
@@ -89,8 +118,39 @@ pub(crate) fn command_at(names: &ScriptNames, what: &StepWhat, part: u32) -> Com
         StepWhat::Clear { flag } => {
             call_of(Helper::SetSuspended, flag_device(names, flag.as_slice()))
         }
-        StepWhat::ForceSuspend { dev } => force_command(*dev, part),
+        StepWhat::ForceSuspend { dev } => suspend_command(*dev, force_flag(names, *dev), part),
+        StepWhat::ForceResume { dev } => resume_command(*dev, force_flag(names, *dev), part),
         _ => delay_of(0),
+    }
+}
+
+/// What the parts of `force_suspend` ask.
+fn suspend_asks(dev: DevId, part: u32) -> Option<Asked>
+    ensures { result ≡ suspend_asks dev part }
+{
+    match part {
+        1 => Some(Asked {
+            question: Question::StillActive,
+            dev,
+        }),
+        3 => Some(Asked {
+            question: Question::NeedsResume,
+            dev,
+        }),
+        _ => None,
+    }
+}
+
+/// What the parts of `force_resume` ask.
+fn resume_asks(flag: DevId, part: u32) -> Option<Asked>
+    ensures { result ≡ resume_asks flag part }
+{
+    match part {
+        0 => Some(Asked {
+            question: Question::StillActive,
+            dev: flag,
+        }),
+        _ => None,
     }
 }
 
@@ -108,10 +168,8 @@ pub(crate) fn asks_at(names: &ScriptNames, what: &StepWhat, part: u32) -> Option
             question: Question::StillActive,
             dev: flag_device(names, flag.as_slice()),
         }),
-        StepWhat::ForceSuspend { dev } if part == 1 => Some(Asked {
-            question: Question::StillActive,
-            dev: *dev,
-        }),
+        StepWhat::ForceSuspend { dev } => suspend_asks(*dev, part),
+        StepWhat::ForceResume { dev } => resume_asks(force_flag(names, *dev), part),
         _ => None,
     }
 }

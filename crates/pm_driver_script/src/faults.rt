@@ -17,8 +17,6 @@ use pm_script::ScriptWord;
 pub enum ScriptWhy {
     /// Its label stands earlier.
     Twice,
-    /// It is one that isn't read yet: `force_resume`.
-    NotYet,
     /// A caller that it stops isn't there.
     NoCaller,
     /// A label that it goes to isn't there.
@@ -96,7 +94,6 @@ fn what_fault(names: &ScriptNames, what: &StepWhat) -> Option<ScriptWhy>
     ensures { result ≡ what_fault names.now what.now }
 {
     match what {
-        StepWhat::ForceResume { .. } => Some(ScriptWhy::NotYet),
         StepWhat::Stop { callers } => {
             if lacks_caller(names.callers.as_slice(), callers.as_slice()) {
                 Some(ScriptWhy::NoCaller)

@@ -17,6 +17,6 @@ pub use calls::{Asked, Guard};
 pub use faults::{ScriptRefusal, ScriptWhy, script_fault};
 pub use goals::Goal;
 pub use marks::Past;
-pub use names::{NameKind, ScriptNames, names_in, place_in};
+pub use names::{NameKind, ScriptNames, forced_in, names_in, place_in};
 pub use places::Standing;
 pub use program::{MAX_STANDINGS, PlaceExit, Program, ProgramPlace, Script, program_of};

@@ -1,10 +1,11 @@
-//! The names that scripts give to flags, marks and locks.
+//! The names that scripts give to flags, marks and locks, and the devices that they resume by force.
 
-ghost use Rattle.std.specs.Prelude.{◌≡◌, IfOk, OnOk, option_map};
+ghost use Rattle.std.specs.Prelude.{◌≡◌, ◌<◌, IfOk, IfSome, OnOk, length, option_map, position};
 ghost use Rattle.std.specs.Option.{option_copied};
 ghost use Rattle.pm_model.specs.NamedList.{place_named};
-ghost use Rattle.pm_driver_script.specs.Names.{name_of, names_from, with_name};
+ghost use Rattle.pm_driver_script.specs.Names.{forced_by, forced_from, is_same_device, name_of, names_from, with_forced, with_name};
 
+use pm_base::DevId;
 use pm_driver_text::{ScriptStep, StepWhat};
 use pm_model::Items;
 use pm_script::ScriptWord;
@@ -26,6 +27,9 @@ pub enum NameKind {
 pub struct ScriptNames<'a> {
     /// The number of devices; flags are counted behind them.
     pub devices: u32,
+    /// The devices that steps resume by force. The first flags are theirs: each is set while its device is down that has to come
+    /// up again.
+    pub forced: Items<DevId>,
     pub flags: Items<ScriptWord<'a>>,
     pub marks: Items<ScriptWord<'a>>,
     pub locks: Items<ScriptWord<'a>>,
@@ -98,6 +102,52 @@ pub fn names_in<'a>(
 {
     for step in steps {
         push_name(names, name_of(kind, &step.what))?;
+    }
+    Ok(())
+}
+
+/// The device that a step resumes by force.
+fn forced_by(what: &StepWhat) -> Option<DevId>
+    ensures { result ≡ forced_by what.now }
+{
+    match what {
+        StepWhat::ForceResume { dev } => Some(*dev),
+        _ => None,
+    }
+}
+
+/// The place of a device.
+pub(crate) fn device_in(devices: &[DevId], dev: DevId) -> Option<usize>
+    ensures place { result ≡ position (is_same_device dev) devices.now }
+    ensures below { IfSome result (λ place. place < length devices.now) }
+{
+    for (place, other) in devices.iter().enumerate() {
+        if dev.0 == other.0 {
+            return Some(place);
+        }
+    }
+    None
+}
+
+/// Appends a device that isn't there yet.
+fn push_forced(forced: &mut Vec<DevId>, dev: Option<DevId>) -> Result<(), AllocError>
+    ensures { OnOk result (forced.new.items ≡ with_forced forced.old.items dev) }
+{
+    let Some(dev) = dev else {
+        return Ok(());
+    };
+    if device_in(forced.as_slice(), dev).is_none() {
+        forced.push(dev)?;
+    }
+    Ok(())
+}
+
+/// Appends the devices that steps resume by force and that aren't there yet.
+pub fn forced_in(forced: &mut Vec<DevId>, steps: &[ScriptStep]) -> Result<(), AllocError>
+    ensures { OnOk result (forced.new.items ≡ forced_from forced.old.items steps.now) }
+{
+    for step in steps {
+        push_forced(forced, forced_by(&step.what))?;
     }
     Ok(())
 }

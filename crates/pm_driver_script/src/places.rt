@@ -5,6 +5,7 @@ ghost use Rattle.pm_driver_script.specs.Places.{goals_at, is_end, is_same_goal, 
 
 use crate::goals::{Goal, goal_from};
 use crate::marks::Past;
+use crate::names::ScriptNames;
 use crate::ways::{GoalExit, exits_at, otherwise_at};
 use pm_driver_text::ScriptStep;
 use std::alloc::{AllocError, Global};
@@ -152,6 +153,7 @@ fn push_goals(goals: &mut Vec<Goal>, exits: &[GoalExit]) -> Result<(), AllocErro
 /// Where a part of a step may go on: at its other goals, and by its exits.
 pub(crate) fn goals_at<'a>(
     alloc: Global,
+    names: &ScriptNames,
     step: &ScriptStep<'a>,
     number: u32,
     behind: &[ScriptStep<'a>],
@@ -159,9 +161,9 @@ pub(crate) fn goals_at<'a>(
 ) -> Result<Vec<Goal>, AllocError>
     requires few { number + 1 + length behind.now < 2 ^ 32 }
     requires exits { length step.now.exits < 2 ^ 16 }
-    ensures { IfOk result (λ v. v.items ≡ goals_at step.now number behind.now part) }
+    ensures { IfOk result (λ v. v.items ≡ goals_at names.now step.now number behind.now part) }
 {
-    let exits = exits_at(alloc, step, number, behind, part)?;
+    let exits = exits_at(alloc, names, step, number, behind, part)?;
     let mut goals = otherwise_at(alloc, step, number, behind, part)?;
     push_goals(&mut goals, exits.as_slice())?;
     Ok(goals)

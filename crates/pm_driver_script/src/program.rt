@@ -79,7 +79,7 @@ fn follow_from(
     let [step, behind @ ..] = from else {
         return Ok(());
     };
-    let goals = goals_at(alloc, step, number, behind, part)?;
+    let goals = goals_at(alloc, script.names, step, number, behind, part)?;
     let past = passed(script.names, &step.what, part, standing.past);
     push_all(
         found,
@@ -255,7 +255,7 @@ fn row_from(
         return Ok(None);
     };
     let past = passed(script.names, &step.what, part, standing.past);
-    let exits = exits_at(alloc, step, number, behind, part)?;
+    let exits = exits_at(alloc, script.names, step, number, behind, part)?;
     let goals = otherwise_at(alloc, step, number, behind, part)?;
     let exits = place_exits(
         alloc,

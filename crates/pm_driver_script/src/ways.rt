@@ -1,9 +1,12 @@
 //! Where a script goes on from a part of a step.
 
 ghost use Rattle.std.specs.Prelude.{◌≡◌, ◌+◌, ◌<◌, ◌≤◌, ◌++◌, ◌^◌, [], ◌∷◌, IfOk, OnOk, Some, length, map};
-ghost use Rattle.pm_driver_script.specs.Ways.{exits_at, found_exit, get_exits, get_goal, get_test, holds_zero, label_goal, labelled, next_goal, otherwise_at, part_goal, put_goal, takes_all, zero_goal};
+ghost use Rattle.pm_driver_script.specs.Ways.{asked_exit, exits_at, found_exit, get_exits, get_goal, get_test, holds_zero, is_forced, label_goal, labelled, next_goal, otherwise_at, part_goal, put_goal, resume_exits, resume_goal, suspend_exits, suspend_goal, takes_all, zero_goal};
 
+use crate::calls::force_place;
 use crate::goals::{Goal, goal_from};
+use crate::names::ScriptNames;
+use pm_base::DevId;
 use pm_driver_text::{CodeTest, ScriptStep, StepExit, StepWhat};
 use std::alloc::{AllocError, Global};
 
@@ -148,18 +151,53 @@ fn put_goal<'a>(step: &ScriptStep<'a>, number: u32, behind: &[ScriptStep<'a>], p
     }
 }
 
-/// One exit alone.
-fn one_exit(alloc: Global, test: CodeTest, goal: Goal) -> Result<Vec<GoalExit>, AllocError>
-    ensures { IfOk result (λ v. v.items ≡ found_exit (Some test) goal) }
+/// Where a question goes on that is answered 1.
+fn asked_exit(alloc: Global, goal: Goal) -> Result<Vec<GoalExit>, AllocError>
+    ensures { IfOk result (λ v. v.items ≡ asked_exit goal) }
 {
     let mut made = Vec::new(alloc);
-    push_exit(&mut made, Some(test), goal)?;
+    push_exit(&mut made, Some(CodeTest::Is { code: 1 }), goal)?;
     Ok(made)
+}
+
+/// Where the parts of `force_suspend` go on that ask.
+fn suspend_exits(
+    alloc: Global,
+    forced: bool,
+    number: u32,
+    part: u32,
+) -> Result<Vec<GoalExit>, AllocError>
+    ensures { IfOk result (λ v. v.items ≡ suspend_exits forced number part) }
+{
+    match part {
+        1 => asked_exit(alloc, part_goal(number, if forced { 3 } else { 2 })),
+        3 => asked_exit(alloc, part_goal(number, 4)),
+        _ => Ok(Vec::new(alloc)),
+    }
+}
+
+/// Where the part of `force_resume` goes on that asks.
+fn resume_exits(alloc: Global, number: u32, part: u32) -> Result<Vec<GoalExit>, AllocError>
+    ensures { IfOk result (λ v. v.items ≡ resume_exits number part) }
+{
+    if part == 0 {
+        asked_exit(alloc, part_goal(number, 1))
+    } else {
+        Ok(Vec::new(alloc))
+    }
+}
+
+/// Whether a step resumes the device by force.
+fn is_forced(names: &ScriptNames, dev: DevId) -> bool
+    ensures { result ≡ is_forced names.now dev }
+{
+    force_place(names, dev).is_some()
 }
 
 /// Where a part of a step goes on by the code that it is answered.
 pub(crate) fn exits_at<'a>(
     alloc: Global,
+    names: &ScriptNames,
     step: &ScriptStep<'a>,
     number: u32,
     behind: &[ScriptStep<'a>],
@@ -167,7 +205,7 @@ pub(crate) fn exits_at<'a>(
 ) -> Result<Vec<GoalExit>, AllocError>
     requires few { number + 1 + length behind.now < 2 ^ 32 }
     requires exits { length step.now.exits < 2 ^ 16 }
-    ensures { IfOk result (λ v. v.items ≡ exits_at step.now number behind.now part) }
+    ensures { IfOk result (λ v. v.items ≡ exits_at names.now step.now number behind.now part) }
 {
     match &step.what {
         StepWhat::Do { .. } => Ok(Vec::new(alloc)),
@@ -185,13 +223,10 @@ pub(crate) fn exits_at<'a>(
                 Ok(Vec::new(alloc))
             }
         }
-        StepWhat::ForceSuspend { .. } => {
-            if part == 1 {
-                one_exit(alloc, CodeTest::Is { code: 1 }, part_goal(number, 2))
-            } else {
-                Ok(Vec::new(alloc))
-            }
+        StepWhat::ForceSuspend { dev } => {
+            suspend_exits(alloc, is_forced(names, *dev), number, part)
         }
+        StepWhat::ForceResume { .. } => resume_exits(alloc, number, part),
         _ => labelled(alloc, step, number, behind),
     }
 }
@@ -235,6 +270,39 @@ fn get_goal<'a>(step: &ScriptStep<'a>, number: u32, behind: &[ScriptStep<'a>], p
     }
 }
 
+/// Where a part of `force_suspend` goes on where no exit is taken.
+fn suspend_goal<'a>(
+    step: &ScriptStep<'a>,
+    number: u32,
+    behind: &[ScriptStep<'a>],
+    part: u32,
+) -> Goal
+    requires { number + 1 + length behind.now < 2 ^ 32 }
+    ensures { result ≡ suspend_goal step.now number behind.now part }
+{
+    if part == 0 {
+        part_goal(number, 1)
+    } else if part > 2 {
+        part_goal(number, 2)
+    } else {
+        zero_goal(step, number, behind)
+    }
+}
+
+/// Where a part of `force_resume` goes on where no exit is taken.
+fn resume_goal<'a>(step: &ScriptStep<'a>, number: u32, behind: &[ScriptStep<'a>], part: u32) -> Goal
+    requires { number + 1 + length behind.now < 2 ^ 32 }
+    ensures { result ≡ resume_goal step.now number behind.now part }
+{
+    if part == 1 {
+        part_goal(number, 2)
+    } else if part < 3 {
+        part_goal(number, 3)
+    } else {
+        zero_goal(step, number, behind)
+    }
+}
+
 /// Where a part of a step goes on where no exit is taken.
 pub(crate) fn otherwise_at<'a>(
     alloc: Global,
@@ -257,12 +325,9 @@ pub(crate) fn otherwise_at<'a>(
         }
         StepWhat::ResumeAndGet { .. } => one_goal(alloc, get_goal(step, number, behind, part)),
         StepWhat::ForceSuspend { .. } => {
-            if part == 0 {
-                one_goal(alloc, part_goal(number, 1))
-            } else {
-                one_goal(alloc, zero_goal(step, number, behind))
-            }
+            one_goal(alloc, suspend_goal(step, number, behind, part))
         }
+        StepWhat::ForceResume { .. } => one_goal(alloc, resume_goal(step, number, behind, part)),
         _ => one_goal(alloc, next_goal(number, behind)),
     }
 }

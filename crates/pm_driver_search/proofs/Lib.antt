@@ -10,3 +10,5 @@ pub mod Actors
 pub mod PoseLemmas
 pub mod TakeLemmas
 pub mod NextLemmas
+pub mod PathLemmas
+pub mod WitnessLemmas

@@ -49,18 +49,18 @@ pub called_whole : (f : ℕ → ℕ) (xs : List ℕ) (i : ℕ) (out : List ℕ) 
 called_whole f xs i out le is = is ∙ ap (places_from f 0) (take_all i xs le)
 
 -- where a program goes on from a place of a caller
-pub ways_found : (rules : DriverRules) (c k : ℕ) → ways_at (driver_of rules) c k ≡ option_map ways_of (option_and_then (λ caller. slice_get caller.program.now.places k) (slice_get rules.callers.now c))
-ways_found rules c k = ap (option_and_then (λ (program : List Ways). slice_get program k)) (slice_get-map (λ caller. map ways_of caller.program.now.places) rules.callers.now c) ∙ go (slice_get rules.callers.now c)
+pub ways_found : (rules : DriverRules) (c k : ℕ) → ways_at (driver_of rules) c k ≡ option_map (ways_of rules.plan.now) (option_and_then (λ caller. slice_get caller.program.now.places k) (slice_get rules.callers.now c))
+ways_found rules c k = ap (option_and_then (λ (program : List Ways). slice_get program k)) (slice_get-map (λ caller. map (ways_of rules.plan.now) caller.program.now.places) rules.callers.now c) ∙ go (slice_get rules.callers.now c)
   where
-    go : (o : Option CallerRules) → option_and_then (λ (program : List Ways). slice_get program k) (option_map (λ caller. map ways_of caller.program.now.places) o) ≡ option_map ways_of (option_and_then (λ caller. slice_get caller.program.now.places k) o)
+    go : (o : Option CallerRules) → option_and_then (λ (program : List Ways). slice_get program k) (option_map (λ caller. map (ways_of rules.plan.now) caller.program.now.places) o) ≡ option_map (ways_of rules.plan.now) (option_and_then (λ caller. slice_get caller.program.now.places k) o)
     go None = refl
-    go (Some caller) = slice_get-map ways_of caller.program.now.places k
+    go (Some caller) = slice_get-map (ways_of rules.plan.now) caller.program.now.places k
 
 -- so a call returns
-pub returns_is : (rules : DriverRules) (c k : ℕ) (place : ProgramPlace) (v : Views) (code : ℤ) (to : List ℕ) → Some place ≡ option_and_then (λ caller. slice_get caller.program.now.places k) (slice_get rules.callers.now c) → to ≡ goes_on_at (ways_of place) v code
+pub returns_is : (rules : DriverRules) (c k : ℕ) (place : ProgramPlace) (v : Views) (code : ℤ) (to : List ℕ) → Some place ≡ option_and_then (λ caller. slice_get caller.program.now.places k) (slice_get rules.callers.now c) → to ≡ goes_on_at (ways_of rules.plan.now place) v code
     → map At to ≡ option_map_or (λ ways. map At (goes_on_at ways v code)) (ways_at (driver_of rules) c k) []
 returns_is rules c k place v code to found is =
-    ap (map At) is ∙ sym (ap (λ o. option_map_or (λ ways. map At (goes_on_at ways v code)) o []) (ways_found rules c k ∙ ap (option_map ways_of) (sym found)))
+    ap (map At) is ∙ sym (ap (λ o. option_map_or (λ ways. map At (goes_on_at ways v code)) o []) (ways_found rules c k ∙ ap (option_map (ways_of rules.plan.now)) (sym found)))
 
 pub begun_is : (n m : ℕ) (xs ys out : List Device) → out ≡ map (begun_so n) xs → n ≡ m → xs ≡ ys → out ≡ map (begun_so m) ys
 begun_is n m xs ys out is same all = is ∙ ap (λ k. map (begun_so k) xs) same ∙ ap (map (begun_so m)) all

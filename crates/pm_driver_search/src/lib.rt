@@ -13,6 +13,8 @@ mod run;
 mod searching;
 mod steady;
 mod step;
+mod witness;
 
 pub use run::DriverRun;
 pub use searching::all_driver_schedules;
+pub use witness::witness_to;

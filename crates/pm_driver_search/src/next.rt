@@ -56,8 +56,8 @@ fn last_of(node: &DriverNode) -> Last
     }
 }
 
-// Whether an actor is one of the plan's.
-fn is_actor(plan: &Plan, actor: ActorId) -> bool
+/// Whether an actor is one of the plan's.
+pub fn is_actor(plan: &Plan, actor: ActorId) -> bool
     ensures { result ≡ true → IsActor plan.now actor }
 {
     match actor {

@@ -77,7 +77,7 @@ fn returns_to(
     let Some(place) = place_of(rules, caller, place) else {
         return Ok(Vec::new(alloc));
     };
-    let places = goes_on(alloc, place, devices, code)?;
+    let places = goes_on(alloc, rules.plan, place, devices, code)?;
     let all = before_all(alloc, places.as_slice())?;
     Ok(all)
 }

@@ -41,6 +41,9 @@ pub enum Question {
     Enabled,
     /// It is disabled, and its status is active: no word asks this of a device, but a flag is one that is never enabled.
     StillActive,
+    /// It has more than one count, or children that it doesn't ignore are active or suspending: what `pm_runtime_need_not_resume`
+    /// denies. No word asks this.
+    NeedsResume,
 }
 
 /// For which codes an exit is taken.

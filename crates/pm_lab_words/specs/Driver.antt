@@ -13,6 +13,10 @@ is_of_trace o = not o.late && not o.eager && is_none o.most && is_none o.fail &&
 abbrev pub has_no_trace : Options → Bool
 has_no_trace o = not o.ktap && is_none o.expect
 
+-- or of a driver's file alone
+abbrev pub is_of_plan : Options → Bool
+is_of_plan o = not o.eager && not o.notes && not o.plan && is_none o.fail
+
 -- the paces of --late and --eager: both where neither is given
 abbrev pub pace_of : Bool → Bool → Option Paces
 pace_of false false = Some Both

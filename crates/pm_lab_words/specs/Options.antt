@@ -32,6 +32,7 @@ name_of word =
     else if bytes_eq word (codes "--states") || bytes_eq word (codes "--spots") then Some name.States
     else if bytes_eq word (codes "--differ") then Some name.Differ
     else if bytes_eq word (codes "--seen") then Some name.Seen
+    else if bytes_eq word (codes "--plan") then Some name.Plan
     else None
 
 -- the options that have a value
@@ -61,7 +62,11 @@ takes command.Orders name.Differ = true
 takes command.Orders name.Expect = true
 takes command.Orders name.Seen = true
 takes command.Order name.Expect = true
+takes command.Order name.Notes = true
+takes command.Order name.Plan = true
 takes command.Order name.Late = true
+takes command.Order name.Eager = true
+takes command.Order name.Fail = true
 takes command.Order name.Most = true
 takes command.Order name.States = true
 takes _ _ = false
@@ -97,9 +102,10 @@ pub record Options : Type 0 where
   pub fail : Option (List ℕ)
   pub states : Option (List ℕ)
   pub seen : Option (List ℕ)
+  pub plan : Bool
 
 abbrev pub none_given : Options
-none_given = record { notes = false; ktap = false; json = false; late = false; eager = false; differ = false; expect = None; most = None; fail = None; states = None; seen = None }
+none_given = record { notes = false; ktap = false; json = false; late = false; eager = false; differ = false; expect = None; most = None; fail = None; states = None; seen = None; plan = false }
 
 -- an option was given
 abbrev pub has : Options → Name → Bool
@@ -114,6 +120,7 @@ has o name.Fail = not (is_none o.fail)
 has o name.States = not (is_none o.states)
 has o name.Differ = o.differ
 has o name.Seen = not (is_none o.seen)
+has o name.Plan = o.plan
 
 -- with one more, and its value where it has one
 abbrev pub with_one : Options → Name → List ℕ → Options
@@ -128,6 +135,7 @@ with_one o name.Fail value = record o { fail = Some value }
 with_one o name.States value = record o { states = Some value }
 with_one o name.Differ value = record o { differ = true }
 with_one o name.Seen value = record o { seen = Some value }
+with_one o name.Plan value = record o { plan = true }
 
 -- a command takes an option that wasn't given before
 abbrev pub may_be_given : Command → Options → Name → Bool

@@ -19,6 +19,7 @@ options_of o = record {
   fail = option_map (λ word. word.now) o.fail;
   states = option_map (λ word. word.now) o.states;
   seen = option_map (λ word. word.now) o.seen;
+  plan = o.plan;
 }
 
 abbrev pub valued_of : ReadValued → Valued

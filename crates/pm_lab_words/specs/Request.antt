@@ -1,5 +1,5 @@
 -- Which words of the command line are a command of pm_lab, and which (this project's own).
-use Rattle.std.specs.Prelude.{ℕ, ℤ, ◌-◌, ◌^◌, Bool, true, false, ◌||◌, List, [], ◌∷◌, Option, Some, None, codes, option_and_then, option_map, if◌then◌else◌}
+use Rattle.std.specs.Prelude.{ℕ, ℤ, ◌-◌, ◌^◌, Bool, true, false, ◌||◌, List, [], ◌∷◌, Option, Some, None, codes, is_none, option_and_then, option_map, if◌then◌else◌}
 use Rattle.std.specs.Str.{bytes_eq}
 use Rattle.pm_base.specs.declared.Status.{Status}
 use Rattle.pm_lab_words.specs.declared.driver.DriverBounds.{DriverBounds}
@@ -10,7 +10,7 @@ use Rattle.pm_lab_words.specs.declared.request.Request.{Request}
 use Rattle.pm_lab_words.specs.declared.request.Request.TheVariants as request
 use Rattle.pm_lab_words.specs.declared.request.Sought.{Sought as ReadSought}
 use Rattle.pm_lab_words.specs.declared.request.Sought.TheVariants as sought
-use Rattle.pm_lab_words.specs.Driver.{driver_bounds_of, has_no_trace, is_of_trace}
+use Rattle.pm_lab_words.specs.Driver.{driver_bounds_of, has_no_trace, is_of_plan, is_of_trace}
 use Rattle.pm_lab_words.specs.Given.{given_by}
 use Rattle.pm_lab_words.specs.Numbers.{code_in, number_between, number_or, status_in}
 use Rattle.pm_lab_words.specs.Options.{Options, command_of}
@@ -33,6 +33,7 @@ pub data Asked : Type 0 where
   OrdersExpected : (plan expect : List ℕ) (bounds : Bounds) (differ : Bool) → Asked
   Order : (plan : List ℕ) (bounds : Bounds) (sought : Sought) → Asked
   OrderFailing : (plan expect : List ℕ) (bounds : Bounds) (index : ℕ) → Asked
+  OrderFinding : (file : List ℕ) (bounds : DriverBounds) (notes plan : Bool) (number : ℕ) → Asked
 
 -- how far the schedules are looked through: at most so many preemptions, 0 to 99, and states, 1 to 10,000,000
 abbrev pub bounds_with : Bool → ℕ → ℕ → Bounds
@@ -93,9 +94,28 @@ abbrev pub order_with : List ℕ → List (List ℕ) → Bounds → Option (List
 order_with plan words bounds None = option_map (λ sought. Order plan bounds sought) (sought_of words)
 order_with plan words bounds (Some expect) = option_map (λ index. OrderFailing plan expect bounds index) (failing_of words)
 
+-- or of a driver's file: finding N
+abbrev pub finding_behind : List ℕ → List ℕ → Option ℕ
+finding_behind finding number = if bytes_eq finding (codes "finding") then number_between 1 (2 ^ 32 - 1) number else None
+
+abbrev pub finding_of : List (List ℕ) → Option ℕ
+finding_of (finding ∷ number ∷ []) = finding_behind finding number
+finding_of _ = None
+
+abbrev pub order_finding : List ℕ → ℕ → Options → Option Asked
+order_finding file number o = if is_none o.expect then option_map (λ bounds. OrderFinding file bounds o.notes o.plan number) (driver_bounds_of o) else None
+
+-- what is of a driver's file alone is refused of a plan
+abbrev pub order_plan : List ℕ → List (List ℕ) → Options → Option Asked
+order_plan plan words o = if is_of_plan o then option_and_then (λ bounds. order_with plan words bounds o.expect) (bounds_of o) else None
+
+abbrev pub order_by : List ℕ → List (List ℕ) → Options → Option ℕ → Option Asked
+order_by file words o (Some number) = order_finding file number o
+order_by plan words o None = order_plan plan words o
+
 abbrev pub order_of : List (List ℕ) → Options → Option Asked
 order_of [] o = None
-order_of (plan ∷ words) o = option_and_then (λ bounds. order_with plan words bounds o.expect) (bounds_of o)
+order_of (plan ∷ words) o = order_by plan words o (finding_of words)
 
 -- the words of each command
 abbrev pub asked_of : Command → List (List ℕ) → Options → Option Asked
@@ -156,4 +176,5 @@ asked (request.Orders plan bounds differ seen) = Orders plan.now bounds differ (
 asked (request.OrdersExpected plan expect bounds differ) = OrdersExpected plan.now expect.now bounds differ
 asked (request.Order plan bounds sought) = Order plan.now bounds (sought_in sought)
 asked (request.OrderFailing plan expect bounds index) = OrderFailing plan.now expect.now bounds index
+asked (request.OrderFinding file bounds notes plan number) = OrderFinding file.now bounds notes plan number
 asked (request.Kernel plan) = Kernel plan.now

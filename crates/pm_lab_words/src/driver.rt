@@ -1,7 +1,7 @@
 //! What the options of `find` ask for: how far the schedules of a driver are looked through.
 
 ghost use Rattle.std.specs.Prelude.{◌≡◌, option_map};
-ghost use Rattle.pm_lab_words.specs.Driver.{driver_bounds_of, has_no_trace, is_of_trace, number_if, pace_of};
+ghost use Rattle.pm_lab_words.specs.Driver.{driver_bounds_of, has_no_trace, is_of_plan, is_of_trace, number_if, pace_of};
 ghost use Rattle.pm_lab_words.specs.Read.{options_of};
 
 use crate::numbers::{number_between, number_or};
@@ -44,6 +44,13 @@ pub fn has_no_trace(options: &Options<'_>) -> bool
     ensures { result ≡ has_no_trace (options_of options.now) }
 {
     !options.ktap && options.expect.is_none()
+}
+
+/// Whether no option was given that is of a driver's file alone.
+pub fn is_of_plan(options: &Options<'_>) -> bool
+    ensures { result ≡ is_of_plan (options_of options.now) }
+{
+    !options.eager && !options.notes && !options.plan && options.fail.is_none()
 }
 
 /// The paces that are asked for. Both words at once are refused: without them both paces are looked through.

@@ -28,6 +28,7 @@ pub enum Name {
     States,
     Differ,
     Seen,
+    Plan,
 }
 
 /// The command of a word, but `help`.
@@ -61,6 +62,7 @@ pub fn name_of(word: &str) -> Option<Name>
         "--states" | "--spots" => Some(Name::States),
         "--differ" => Some(Name::Differ),
         "--seen" => Some(Name::Seen),
+        "--plan" => Some(Name::Plan),
         _ => None,
     }
 }
@@ -96,7 +98,17 @@ pub fn takes(command: Command, name: Name) -> bool
             name,
             Name::Late | Name::Most | Name::States | Name::Differ | Name::Expect | Name::Seen
         ),
-        Command::Order => matches!(name, Name::Late | Name::Most | Name::States | Name::Expect),
+        Command::Order => matches!(
+            name,
+            Name::Late
+                | Name::Eager
+                | Name::Most
+                | Name::Fail
+                | Name::States
+                | Name::Expect
+                | Name::Notes
+                | Name::Plan
+        ),
         Command::Say | Command::Kernel => false,
     }
 }

@@ -21,6 +21,7 @@ pub struct Options<'a> {
     pub fail: Option<&'a str>,
     pub states: Option<&'a str>,
     pub seen: Option<&'a str>,
+    pub plan: bool,
 }
 
 /// An option and its value.
@@ -47,6 +48,7 @@ impl<'a> Options<'a> {
             fail: None,
             states: None,
             seen: None,
+            plan: false,
         }
     }
 
@@ -66,6 +68,7 @@ impl<'a> Options<'a> {
             Name::States => self.states.is_some(),
             Name::Differ => self.differ,
             Name::Seen => self.seen.is_some(),
+            Name::Plan => self.plan,
         }
     }
 
@@ -93,6 +96,7 @@ impl<'a> Options<'a> {
             Name::States => more.states = Some(value),
             Name::Differ => more.differ = true,
             Name::Seen => more.seen = Some(value),
+            Name::Plan => more.plan = true,
         }
         more
     }

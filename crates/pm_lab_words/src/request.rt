@@ -2,9 +2,9 @@
 
 ghost use Rattle.std.specs.Prelude.{◌≡◌, map, option_map, string_bytes};
 ghost use Rattle.pm_lab_words.specs.Read.{given_of, options_of};
-ghost use Rattle.pm_lab_words.specs.Request.{asked, asked_by, asked_of, asked_or_help, asked_with, bounds_of, end_behind, end_of, failing_of, fails_behind, find_driver_of, find_of, find_with, help_on, is_help, order_of, order_with, schedules_of, orders_with, return_of, sought_in, sought_of, version_of};
+ghost use Rattle.pm_lab_words.specs.Request.{asked, asked_by, asked_of, asked_or_help, asked_with, bounds_of, end_behind, end_of, failing_of, fails_behind, find_driver_of, find_of, find_with, finding_behind, finding_of, help_on, is_help, order_finding, order_of, order_plan, order_with, schedules_of, orders_with, return_of, sought_in, sought_of, version_of};
 
-use crate::driver::{DriverBounds, driver_bounds_of, has_no_trace, is_of_trace};
+use crate::driver::{DriverBounds, driver_bounds_of, has_no_trace, is_of_plan, is_of_trace};
 use crate::given::given_by;
 use crate::names::{Command, command_of};
 use crate::numbers::{code_in, number_between, number_or, status_in};
@@ -107,6 +107,15 @@ pub enum Request<'a> {
         expect: &'a str,
         bounds: Bounds,
         index: u32,
+    },
+    /// `order FILE finding N`: writes the trace of a run that shows the finding of this number of those that `find FILE` tells, counted
+    /// from 1, or its plan, with `--plan`.
+    OrderFinding {
+        file: &'a str,
+        bounds: DriverBounds,
+        notes: bool,
+        plan: bool,
+        number: u32,
     },
     /// `kernel PLAN`: writes the plan as a module for a kernel.
     Kernel {
@@ -318,15 +327,66 @@ fn order_with<'a>(
     }
 }
 
-/// The command `order` of a plan.
+/// The number of a finding, where the first word is `finding`.
+fn finding_behind(finding: &str, number: &str) -> Option<u32>
+    ensures { result ≡ finding_behind finding.now number.now }
+{
+    if finding == "finding" {
+        number_between(1, u32::MAX, number.as_bytes())
+    } else {
+        None
+    }
+}
+
+/// The number of the finding that the words behind that of the file name.
+fn finding_of(words: &[&str]) -> Option<u32>
+    ensures { result ≡ finding_of (map (λ w. w.now) words.now) }
+{
+    match words {
+        [finding, number] => finding_behind(finding, number),
+        _ => None,
+    }
+}
+
+/// The command `order` of a driver's file and a finding. A file of expectations is refused.
+fn order_finding<'a>(file: &'a str, number: u32, options: &Options<'a>) -> Option<Request<'a>>
+    ensures { option_map asked result ≡ order_finding file.now number (options_of options.now) }
+{
+    if options.expect.is_some() {
+        return None;
+    }
+    let bounds = driver_bounds_of(options)?;
+    Some(Request::OrderFinding {
+        file,
+        bounds,
+        notes: options.notes,
+        plan: options.plan,
+        number,
+    })
+}
+
+/// The command `order` of a plan. What is of a driver's file alone is refused.
+fn order_plan<'a>(plan: &'a str, words: &[&'a str], options: &Options<'a>) -> Option<Request<'a>>
+    ensures { option_map asked result ≡ order_plan plan.now (map (λ w. w.now) words.now) (options_of options.now) }
+{
+    if !is_of_plan(options) {
+        return None;
+    }
+    let bounds = bounds_of(options)?;
+    order_with(plan, words, bounds, options.expect)
+}
+
+/// The command `order` of a plan, or of a driver's file.
 fn order_of<'a>(words: &[&'a str], options: &Options<'a>) -> Option<Request<'a>>
     ensures { option_map asked result ≡ order_of (map (λ w. w.now) words.now) (options_of options.now) }
 {
     let [plan, words @ ..] = words else {
         return None;
     };
-    let bounds = bounds_of(options)?;
-    order_with(plan, words, bounds, options.expect)
+    match finding_of(words) {
+        Some(number) => order_finding(plan, number, options),
+        None => order_plan(plan, words, options),
+    }
 }
 
 /// The command of these positional words and options.

@@ -30,7 +30,6 @@ key_word key.Circle = codes "circle"
 
 abbrev pub script_word : ScriptWhy → List ℕ
 script_word script.Twice = codes "twice"
-script_word script.NotYet = codes "not_yet"
 script_word script.NoCaller = codes "no_caller"
 script_word script.NoLabel = codes "no_label"
 script_word script.Behind = codes "behind"
@@ -39,6 +38,7 @@ abbrev pub program_word : ProgramWhy → List ℕ
 program_word (program.Step fault) = codes "step"
 program_word program.Devm = codes "devm"
 program_word program.ManyDevm = codes "many_devm"
+program_word program.ManyForced = codes "many_forced"
 program_word program.ManyFlags = codes "many_flags"
 program_word program.ManyMarks = codes "many_marks"
 program_word program.ManyLocks = codes "many_locks"

@@ -87,6 +87,9 @@ fn program_note<'a>(
         ProgramWhy::Script { why } => return script_note(alloc, tree, caller, step, why),
         ProgramWhy::Devm => return devm_note(alloc, tree, caller, step),
         ProgramWhy::ManyDevm => format!(in alloc; "more than 64 steps that are undone by devm")?,
+        ProgramWhy::ManyForced => format!(in alloc;
+            "more than 64 devices that are resumed by force"
+        )?,
         ProgramWhy::ManyFlags => format!(in alloc; "more flags than devices may be left of 1024")?,
         ProgramWhy::ManyMarks => format!(in alloc; "more than 64 marks")?,
         ProgramWhy::ManyLocks => format!(in alloc; "more than 64 locks")?,
@@ -219,7 +222,6 @@ fn script_word(why: ScriptWhy) -> &'static [u8]
 {
     match why {
         ScriptWhy::Twice => b"twice",
-        ScriptWhy::NotYet => b"not_yet",
         ScriptWhy::NoCaller => b"no_caller",
         ScriptWhy::NoLabel => b"no_label",
         ScriptWhy::Behind => b"behind",
@@ -233,6 +235,7 @@ fn program_word(why: ProgramWhy) -> &'static [u8]
         ProgramWhy::Step { .. } => b"step",
         ProgramWhy::Devm => b"devm",
         ProgramWhy::ManyDevm => b"many_devm",
+        ProgramWhy::ManyForced => b"many_forced",
         ProgramWhy::ManyFlags => b"many_flags",
         ProgramWhy::ManyMarks => b"many_marks",
         ProgramWhy::ManyLocks => b"many_locks",

@@ -101,12 +101,6 @@ pub fn script_note<'a>(
     let text = step_text(tree, caller, step).unwrap_or("");
     match why {
         ScriptWhy::Twice => twice_note(alloc, tree, caller, step, text),
-        ScriptWhy::NotYet => {
-            let note = note_at(alloc, tree, caller, step, "it isn't read yet")?;
-            note.with_hint(format!(in alloc;
-                "write its calls out: set_active where the device was in use, and enable"
-            )?)
-        }
         ScriptWhy::NoCaller => stranger_note(alloc, tree, caller, step, text),
         ScriptWhy::NoLabel => lost_note(alloc, tree, caller, step, text),
         ScriptWhy::Behind => behind_note(alloc, tree, caller, step, text),
@@ -282,11 +276,14 @@ fn flag_in(text: &str) -> Option<&str> {
     }
 }
 
-/// The first step of a caller whose flag has the name of a device, or of the flag of a `devm` step.
+/// The first step of a caller whose flag has the name of a device, or of a flag of `devm` or of `force_resume`.
 fn flag_step(tree: &Table, caller: usize) -> Option<usize> {
     for (step, value) in steps_of(tree, caller).iter().enumerate() {
         if let Some(flag) = flag_in(value.as_str().unwrap_or("")) {
-            if place_of(list(tree, Section::Device), flag).is_some() || flag.starts_with("devm-") {
+            if place_of(list(tree, Section::Device), flag).is_some()
+                || flag.starts_with("devm-")
+                || flag.starts_with("force-")
+            {
                 return Some(step);
             }
         }
@@ -296,7 +293,7 @@ fn flag_step(tree: &Table, caller: usize) -> Option<usize> {
 
 /// The note on a flag whose name is taken. Fails where memory runs out.
 pub fn flag_note<'a>(alloc: Global, tree: &'a Table) -> Result<Note<'a>, NoMemory> {
-    let what = "a flag has the name of a device, or of a devm step's flag";
+    let what = "a flag has the name of a device, or of a flag of devm or force_resume";
     let count = list(tree, Section::Caller).len();
     for caller in 0..count {
         if let Some(step) = flag_step(tree, caller) {

@@ -1,1 +1,4 @@
+pub mod Lines
+pub mod Looking
+pub mod Values
 pub mod Within

@@ -15,11 +15,12 @@ use Rattle.pm_cmd_lab.specs.find.Check.{CheckEnds, CheckUnread, OfExpectations}
 use Rattle.pm_cmd_lab.specs.find.Driver.{DriverEnds}
 use Rattle.pm_cmd_lab.specs.find.Find.{FindUnread, OfFind}
 use Rattle.pm_cmd_lab.specs.order.Failing.{FailingEnds}
+use Rattle.pm_cmd_lab.specs.order.Finding.{FindingEnds}
 use Rattle.pm_cmd_lab.specs.order.Order.{OrderEnds}
 use Rattle.pm_cmd_lab.specs.orders.Expect.{ExpectEnds, ExpectUnread}
 use Rattle.pm_cmd_lab.specs.orders.Orders.{OrdersEnds}
 use Rattle.pm_cmd_lab.specs.picture.Picture.{OfPicture, PictureUnread}
-use Rattle.pm_lab_words.specs.Request.{Asked, Help, HelpOn, Version, Say, Find, Check, FindDriver, Picture, Orders, OrdersExpected, Order, OrderFailing, Kernel}
+use Rattle.pm_lab_words.specs.Request.{Asked, Help, HelpOn, Version, Say, Find, Check, FindDriver, Picture, Orders, OrdersExpected, Order, OrderFailing, OrderFinding, Kernel}
 use Rattle.pm_cmd_lab.specs.orders.Seen.{OfSeen, SeenUnread}
 use Rattle.pm_lab_words.specs.declared.names.Command.{Command}
 use Rattle.pm_lab_words.specs.declared.names.Command.TheVariants as command
@@ -69,6 +70,7 @@ AskedEnds all known (Orders plan bounds differ (Some log)) = OfPlan all (known p
 AskedEnds all known (OrdersExpected plan expect bounds differ) = OfPlan all (known plan) plan (OfExpectations all (known expect) expect (ExpectEnds bounds differ expect))
 AskedEnds all known (OrderFailing plan expect bounds index) = OfPlan all (known plan) plan (OfExpectations all (known expect) expect (FailingEnds bounds index))
 AskedEnds all known (Order plan bounds sought) = OfPlan all (known plan) plan (OrderEnds bounds sought)
+AskedEnds all known (OrderFinding file bounds notes plan number) = FindingEnds all (known file) file (record { bounds = bounds; notes = notes; plan = plan; number = number })
 AskedEnds all known (Kernel plan) = OfPlan all (known plan) plan KernelEnds
 
 -- which file's read failed, of those that it reads
@@ -83,5 +85,6 @@ AskedUnread all known (Orders plan bounds differ (Some log)) Alone Failed = Seen
 AskedUnread all known (OrdersExpected plan expect bounds differ) Alone Failed = ExpectUnread all (known plan) plan expect (Alone plan) Failed
 AskedUnread all known (OrderFailing plan expect bounds index) Alone Failed = ExpectUnread all (known plan) plan expect (Alone plan) Failed
 AskedUnread all known (Order plan bounds sought) Alone Failed = OfThis plan Failed
+AskedUnread all known (OrderFinding file bounds notes plan number) Alone Failed = OfThis file Failed
 AskedUnread all known (Kernel plan) Alone Failed = OfThis plan Failed
 AskedUnread all known _ Alone Failed = OfThis [] ⊥

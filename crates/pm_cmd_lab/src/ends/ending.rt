@@ -16,7 +16,7 @@ use std::alloc::AllocError;
 
 /// How the program is called.
 pub const USAGE: &[u8] =
-    b"usage: pm_lab say PLAN | find PLAN TRACE [--expect FILE] [--ktap] [--notes] | find FILE [--eager|--late] [--most K] [--fail F] [--states N] [--notes] | picture PLAN TRACE [--json] | orders PLAN [--late] [--most K] [--states N] [--differ] [--expect FILE|--seen LOG] | order PLAN [--late] [--most K] [--states N] CALLER N CODE|end DEVICE STATUS USAGE ERROR|--expect FILE fails INDEX | kernel PLAN | help [COMMAND] | --version\n";
+    b"usage: pm_lab say PLAN | find PLAN TRACE [--expect FILE] [--ktap] [--notes] | find FILE [--eager|--late] [--most K] [--fail F] [--states N] [--notes] | picture PLAN TRACE [--json] | orders PLAN [--late] [--most K] [--states N] [--differ] [--expect FILE|--seen LOG] | order PLAN [--late] [--most K] [--states N] CALLER N CODE|end DEVICE STATUS USAGE ERROR|--expect FILE fails INDEX | order FILE [--plan] finding N, with the options of find FILE | kernel PLAN | help [COMMAND] | --version\n";
 
 /// Something was found.
 pub const FOUND: u8 = 1;

@@ -10,7 +10,7 @@ ghost use Rattle.pm_lab_words.specs.Request.{asked, asked_by};
 
 use crate::ends::refuse_words;
 use crate::find::{check_top, find_driver_top, find_top};
-use crate::order::{failing_top, order_top};
+use crate::order::{FindingAsked, failing_top, finding_top, order_top};
 use crate::orders::{expect_top, orders_top, seen_top};
 use crate::others::help::{help_top, page_top, version_top};
 use crate::others::kernel::kernel_top;
@@ -86,6 +86,21 @@ fn answer<F: Files, O: Sink, E: Sink>(
             bounds,
             sought,
         } => order_top(alloc, plan, bounds, sought, files, out, err),
+        Request::OrderFinding {
+            file,
+            bounds,
+            notes,
+            plan,
+            number,
+        } => {
+            let asked = FindingAsked {
+                bounds,
+                notes,
+                plan,
+                number,
+            };
+            finding_top(alloc, file, asked, files, out, err)
+        }
         Request::Kernel { plan } => kernel_top(alloc, plan, files, out, err),
     }
 }

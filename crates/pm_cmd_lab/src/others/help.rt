@@ -11,11 +11,11 @@ use pm_io::Sink;
 use pm_lab_words::Command;
 
 /// The answer of `--version`: the program's name and its number.
-pub const VERSION: &[u8] = b"pm_lab 1.34\n";
+pub const VERSION: &[u8] = b"pm_lab 1.35\n";
 
 /// The answer of `help`.
 pub const HELP: &[u8] =
-    b"usage: pm_lab say PLAN | find PLAN TRACE [--expect FILE] [--ktap] [--notes] | find FILE [--eager|--late] [--most K] [--fail F] [--states N] [--notes] | picture PLAN TRACE [--json] | orders PLAN [--late] [--most K] [--states N] [--differ] [--expect FILE|--seen LOG] | order PLAN [--late] [--most K] [--states N] CALLER N CODE|end DEVICE STATUS USAGE ERROR|--expect FILE fails INDEX | kernel PLAN | help [COMMAND] | --version
+    b"usage: pm_lab say PLAN | find PLAN TRACE [--expect FILE] [--ktap] [--notes] | find FILE [--eager|--late] [--most K] [--fail F] [--states N] [--notes] | picture PLAN TRACE [--json] | orders PLAN [--late] [--most K] [--states N] [--differ] [--expect FILE|--seen LOG] | order PLAN [--late] [--most K] [--states N] CALLER N CODE|end DEVICE STATUS USAGE ERROR|--expect FILE fails INDEX | order FILE [--plan] finding N, with the options of find FILE | kernel PLAN | help [COMMAND] | --version
 
 say PLAN            what is wrong with a plan, and where
 find PLAN TRACE     what stands out in a run, and whether what is expected holds
@@ -26,6 +26,7 @@ orders PLAN         what each call may return, and how each device may end, and
                     whether what is expected holds in every order
 order PLAN ..       the trace of a run in which a call returns a code, or that
                     leaves a device so, or that breaks what is expected
+order FILE ..       the trace of a run that shows what is told of a driver
 kernel PLAN         the plan as a C file: a module that runs it on a kernel
 ";
 
@@ -124,23 +125,24 @@ pm_lab find FILE [--eager|--late] [--most K] [--fail F] [--states N] [--notes]
 
 Goes through the schedules of a driver file (docs/DRIVER-FORMAT.md), each with at
 most F failing callbacks, 0 to 3, one where --fail isn't given, and tells what is
-wrong in them at its step or its device, how it shows first, and which calls have
-returned before:
+wrong in them at its step or its device, by a number that `order FILE finding N`
+takes, how it shows first, and which calls have returned before:
 
-    hi846.toml:24:3: error: disabled: stream: get_sync hi846 answers -13 (EACCES)
+    hi846.toml:24:3: warning: disabled: stream: get_sync hi846 answers -13 (EACCES)
         |
      24 |   \"get_sync hi846 or err\",
         |   ^^^^^^^^^^^^^^^^^^^^^^^
-        = eager, 1 preemption, no failing callback
-        = calls: probe do power_on or out, probe do init or out
-    1 finding; gone through with at most 1 failing callback: all eager schedules, all late schedules (88370 states)
+        = finding 1: eager, 1 preemption, no failing callback
+        = calls: probe do power_on or out, probe do init or out, ..
+    1 finding; gone through: all eager schedules with at most 1 failing callback, all late schedules with at most 1 failing callback (95788 states)
 
-First come the eager schedules, then the late ones, those with 0, 1, 2 ..
-preemptions one after another, up to K where --most is given, until N states are
-looked at, 1 to 10,000,000, 200,000 where --states isn't given; the last line
-says what was gone through. --eager or --late: that pace alone. Paces and
-preemptions are those of `help orders`. A plan without lists of codes is a driver
-too.
+First come the eager schedules with no failing callback, then those with at most
+1, 2 .. F, then the late ones, each with 0, 1, 2 .. preemptions one after another,
+up to K where --most is given. N states are looked at, 1 to 10,000,000, 200,000
+where --states isn't given: each pass but the last has a quarter of what is left.
+The last line says what was gone through. --eager or --late: that pace alone.
+Paces and preemptions are those of `help orders`. A plan without lists of codes is
+a driver too.
 
     error    disabled      a get or resume answers -13 for a disabled device; a
                            warning where its step has another exit
@@ -254,6 +256,7 @@ came first. 7: no memory.
 pub const ORDER_PAGE: &[u8] = b"pm_lab order PLAN [--late] [--most K] [--states N] CALLER N CODE
 pm_lab order PLAN [--late] [--most K] [--states N] end DEVICE STATUS USAGE ERROR
 pm_lab order PLAN [--late] [--most K] [--states N] --expect FILE fails INDEX
+pm_lab order FILE [--eager|--late] [--most K] [--fail F] [--states N] [--notes] [--plan] finding N
 
 Writes the trace of a run in which the N-th command of CALLER, counted from 1,
 returns CODE; or that leaves DEVICE so, with that error; or that breaks an
@@ -269,11 +272,24 @@ goes by one thread to its end. For a return or an end the schedule is of the isl
 of the caller or the device alone. It is the text of a lawful run, in the plan's
 format.
 
+Of a driver's file it writes the run that shows the N-th finding of those that
+`find FILE` tells with the same options; with --plan the plan of that run, whose
+scripts are what the callers called on the way there and whose codes are what the
+callbacks answered:
+
+    pm_lab order hi846.toml finding 1 >bug.trace
+    pm_lab order hi846.toml finding 1 --plan >bug.toml
+    pm_top audit bug.toml bug.trace
+
+Behind the step that shows the finding no caller calls anything more: what has
+begun goes by one thread to its end.
+
 Status 0: written. 1: no schedule has it, of those that were gone through; a
-message says how far that is. 2: wrong words. 3: the plan or the expectations are
-refused, or there is no such caller, command, device or expectation. 4: one
-couldn't be read. 5: writing failed. 6: a limit of states or of lines came first,
-or the run has as many lines as the plan allows and isn't finished. 7: no memory.
+message says how far that is. 2: wrong words. 3: the plan, the driver or the
+expectations are refused, or there is no such caller, command, device, expectation
+or finding. 4: one couldn't be read. 5: writing failed. 6: a limit of states or of
+lines came first, or the run has as many lines as the plan allows and isn't
+finished. 7: no memory.
 ";
 
 /// The answer of `help kernel`.

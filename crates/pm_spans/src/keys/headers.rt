@@ -1,6 +1,11 @@
 //! Headers of tables.
 
-ghost use Rattle.std.specs.Prelude.{◌<◌, ◌≤◌, IfOk, IfSome, length};
+ghost use Rattle.std.specs.Prelude.{◌≡◌, ◌<◌, ◌≤◌, IfOk, IfSome, drop, false, if◌then◌else◌, length, option_map, Some, None, ◌==◌};
+ghost use Rattle.toml_parser.specs.Lexical.{first as first_byte};
+ghost use Rattle.toml_parser.specs.Reading.{key_view};
+ghost use Rattle.pm_spans.specs.keys.Lines.{closed_end, heading_at};
+ghost use Rattle.pm_spans.specs.keys.Values.{second_name};
+ghost use Rattle.pm_spans.specs.keys.Within.{ComesHeading};
 
 use crate::keys::cuts::Cut;
 use crate::keys::pairs::{KeyRead, key_at};
@@ -23,8 +28,10 @@ pub struct Header<'a> {
 }
 
 /// The header at the front; `None` where there is none. Fails where memory runs out.
+#[tactic(auto, unfolding(crate::specs::keys::Lines::heading_at, crate::specs::keys::Lines::opened))]
 pub fn header_at<'a>(alloc: Global, s: &'a str) -> Result<Option<Header<'a>>, NoMemory>
-    ensures { IfOk result (λ read. IfSome read (λ h. (h.cut.from ≤ length s.now) × (h.whole.from ≤ length s.now) × (length h.rest.now < length s.now))) }
+    ensures read { ComesHeading result (heading_at s.now) }
+    ensures inside { IfOk result (λ read. IfSome read (λ h. (h.cut.from ≤ length s.now) × (h.whole.from ≤ length s.now) × (h.whole.to ≡ length h.rest.now) × (length h.rest.now < length s.now))) }
 {
     let Some(body) = bracket_behind(s) else {
         return Ok(None);
@@ -54,7 +61,8 @@ pub fn header_at<'a>(alloc: Global, s: &'a str) -> Result<Option<Header<'a>>, No
 
 /// What follows an opening bracket.
 fn bracket_behind(s: &str) -> Option<&str>
-    ensures { IfSome result (λ rest. length rest.now < length s.now) }
+    ensures rest { option_map (λ rest. rest.now) result ≡ (if first_byte s.now == 91 then Some (drop 1 s.now) else None) }
+    ensures less { IfSome result (λ rest. length rest.now < length s.now) }
 {
     if first(s) == b'[' {
         Some(skip(s, 1))
@@ -64,8 +72,10 @@ fn bracket_behind(s: &str) -> Option<&str>
 }
 
 /// What follows the closing brackets.
+#[tactic(auto, unfolding(crate::specs::keys::Lines::closed_end))]
 fn closed(s: &str, is_array: bool) -> Option<&str>
-    ensures { IfSome result (λ rest. length rest.now < length s.now) }
+    ensures rest { option_map (λ rest. rest.now) result ≡ closed_end is_array s.now }
+    ensures less { IfSome result (λ rest. length rest.now < length s.now) }
 {
     if first(s) != b']' {
         None
@@ -79,7 +89,10 @@ fn closed(s: &str, is_array: bool) -> Option<&str>
 }
 
 /// The second part of a key.
-pub fn second_part(key: &Key) -> Option<&str> {
+#[tactic(auto, unfolding(crate::specs::keys::Values::second_name))]
+pub fn second_part(key: &Key) -> Option<&str>
+    ensures { option_map (λ part. part.now) result ≡ second_name (key_view key.now) }
+{
     match key.path.get(1) {
         Some(part) => Some(part.as_str()),
         None if key.path.len() == 1 => Some(key.last.as_str()),

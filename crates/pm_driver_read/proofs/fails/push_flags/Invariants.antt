@@ -1,6 +1,7 @@
 use Rattle.std.proofs.Common.{◌≡◌, ◌++◌, drop, map}
-use Rattle.pm_driver_read.specs.Fails.{flag_row}
+use Rattle.toml.specs.View.{view}
+use Rattle.pm_driver_read.specs.Fails.{flags_from}
 use Rattle.pm_driver_read.proofs.fails.push_flags.Given as goal
 
-abbrev pub invariant-loop-flag : goal.invariant-loop-flag
-invariant-loop-flag l = l.rows.items ++ map flag_row (drop l.flag-index l.flags) ≡ l.fn.rows.items ++ map flag_row l.flags
+abbrev pub invariant-loop-place : goal.invariant-loop-place
+invariant-loop-place l = l.rows.items ++ flags_from (map view l.values) l.forced l.place (drop l.place l.flags) ≡ l.fn.rows.items ++ flags_from (map view l.values) l.forced 0 l.flags

@@ -7,8 +7,7 @@ use Rattle.pm_driver_report.proofs.texts.push_last.Goals as goal
 pub returns : goal.returns
 returns c =
     let old = c.args.text.now.items in
-    let states = c.in_ok-push_counted-3.ensures ∙ ap (λ n. c.push-3.new.text.items ++ counted n (codes "state")) c.states_in.ensures in
+    let states = c.in_ok-push_counted-2.ensures ∙ ap (λ n. c.push-2.new.text.items ++ counted n (codes "state")) c.states_in.ensures in
     let findings = more old _ _ _ _ c.in_ok-push_counted.ensures c.in_ok-push.ensures in
-    let failures = more old _ _ _ _ (more old _ _ _ _ findings c.in_ok-push_counted-2.ensures) c.in_ok-push-2.ensures in
-    let passes = more old _ _ _ _ (more old _ _ _ _ failures c.in_ok-push_passes.ensures) c.in_ok-push-3.ensures in
-    done old _ _ _ _ c.push-4.result (more old _ _ _ _ passes states) c.push-4.ensures
+    let passes = more old _ _ _ _ (more old _ _ _ _ findings c.in_ok-push_passes.ensures) c.in_ok-push-2.ensures in
+    done old _ _ _ _ c.push-3.result (more old _ _ _ _ passes states) c.push-3.ensures

@@ -8,4 +8,4 @@ use Rattle.pm_driver_search.proofs.places.returns_to.Goals as goal
 
 pub returns : goal.returns
 returns c = λ v same.
-    c.in_ok-all.ensures ∙ ap (map At) c.as_slice.ensures.value ∙ returns_is c.args.rules.now c.args.caller c.args.place c.in-Some.place.now v c.args.code c.in_ok-places.places.items c.in-Some.ensures (c.in_ok-places.ensures v same ∙ ap (goes_on_at (ways_of c.in-Some.place.now) v) (to_z-of_z c.ranges.code))
+    c.in_ok-all.ensures ∙ ap (map At) c.as_slice.ensures.value ∙ returns_is c.args.rules.now c.args.caller c.args.place c.in-Some.place.now v c.args.code c.in_ok-places.places.items c.in-Some.ensures (c.in_ok-places.ensures v same ∙ ap (goes_on_at (ways_of c.args.rules.now.plan.now c.in-Some.place.now) v) (to_z-of_z c.ranges.code))

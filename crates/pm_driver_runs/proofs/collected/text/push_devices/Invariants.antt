@@ -1,0 +1,6 @@
+use Rattle.std.proofs.Common.{◌≡◌, ◌++◌, drop}
+use Rattle.pm_driver_runs.specs.PlanText.{each_text, device_section}
+use Rattle.pm_driver_runs.proofs.collected.text.push_devices.Given as goal
+
+abbrev pub invariant-loop-row : goal.invariant-loop-row
+invariant-loop-row l = l.text.items ++ each_text (device_section l.plan) (drop l.row-index l.rows) ≡ l.initial.text.items ++ each_text (device_section l.plan) l.rows
